@@ -1,0 +1,55 @@
+// Kinds, whose parts are shared.
+ghost use Rattle.std.specs.Prelude.{◌≡◌, ◌↔◌, IfOk, IsTrue};
+ghost use Rattle.omega_kinds.specs.Kind.{Star, Arrow, kind_eq};
+ghost use Rattle.omega_kinds.specs.View.{kind_tree};
+
+use crate::memory::Mem;
+use std::alloc::Global;
+use std::rc::Rc;
+
+/// A kind of System Fω: that of types, `*`, or that of operators, `K > K`.
+/// Contracts see it as its plain tree.
+///
+/// Pierce, "Types and Programming Languages", section 29.1, Type operators and kinding.
+#[derive(Drop)]
+pub enum Kind {
+    Star,
+    Arrow(Rc<Kind>, Rc<Kind>),
+}
+
+impl Kind {
+    /// The same kind, with its parts shared. `Err` is want of memory.
+    pub fn share(&self) -> Result<Kind, Mem>
+        ensures { IfOk result (λ k. kind_tree k ≡ kind_tree self.now) }
+    {
+        match self {
+            Kind::Star => Ok(Kind::Star),
+            Kind::Arrow(from, to) => {
+                let from = from.clone()?;
+                let to = to.clone()?;
+                Ok(Kind::Arrow(from, to))
+            }
+        }
+    }
+}
+
+/// The kind of operators from one kind to another. `Err` is want of memory.
+pub fn arrow(alloc: Global, from: Kind, to: Kind) -> Result<Kind, Mem>
+    ensures { IfOk result (λ k. kind_tree k ≡ Arrow (kind_tree from) (kind_tree to)) }
+{
+    let from = Rc::new(alloc, from)?;
+    let to = Rc::new(alloc, to)?;
+    Ok(Kind::Arrow(from, to))
+}
+
+/// Whether two kinds are the same tree. Takes no memory.
+pub fn same_kind(left: &Kind, right: &Kind) -> bool
+    ensures same { IsTrue result ↔ (kind_tree left.now ≡ kind_tree right.now) }
+    ensures test { result ≡ kind_eq (kind_tree left.now) (kind_tree right.now) }
+{
+    match (left, right) {
+        (Kind::Star, Kind::Star) => true,
+        (Kind::Arrow(a, b), Kind::Arrow(c, d)) => same_kind(a, c) && same_kind(b, d),
+        _ => false,
+    }
+}
