@@ -1,0 +1,4 @@
+pub mod SumReading
+pub mod BindingReading
+pub mod ProgramReading
+pub mod ByteReading

@@ -1,0 +1,9 @@
+// Programs of number bindings: `val X = A + .. + A`, each A a name or a number.
+
+pub mod parsing;
+pub mod program;
+pub mod refusal;
+
+pub use parsing::parse;
+pub use program::{Bind, Operand, Operands, Program};
+pub use refusal::Refused;
