@@ -6,28 +6,28 @@ use Rattle.fing_text.specs.declared.span.Span.{Span}
 use Rattle.fing_lexer.specs.declared.token.Token.{Token}
 use Rattle.fing_lexer.specs.declared.token.What.{What}
 use Rattle.fing_elab.specs.declared.first.program.Operand.{Operand}
-use Rattle.fing_elab.specs.Reading.{◌>>=◌, operand_of, operand_at, plus_at, more_at, with_front, is_plus, Stops}
+use Rattle.fing_elab.specs.Reading.{◌>>=◌, operand_of, operand_at, plus_at, others_at, with_front, is_plus, Stops}
 use Rattle.fing_elab.specs.declared.first.refusal.Refused.{Refused}
 use Rattle.fing_elab.specs.declared.first.refusal.Refused.TheVariants.{Later, Unbound, Mem}
 
 abbrev pub Read : Type 0
 Read = Option (List Operand × List Token)
 
-abbrev pub then_more : Option (Operand × List Token) → Read
-then_more read = read >>= λ x. with_front (x.0 ∷ []) (more_at x.1)
+abbrev pub then_others : Option (Operand × List Token) → Read
+then_others read = read >>= λ x. with_front (x.0 ∷ []) (others_at x.1)
 
 abbrev pub behind : Option Operand → List Token → Option (Operand × List Token)
 behind o us = o >>= λ x. Some (x, us)
 
-then_front : (o : Option Operand) (us : List Token) → (o >>= λ x. with_front (x ∷ []) (more_at us)) ≡ then_more (behind o us)
+then_front : (o : Option Operand) (us : List Token) → (o >>= λ x. with_front (x ∷ []) (others_at us)) ≡ then_others (behind o us)
 then_front None us = refl
 then_front (Some x) us = refl
 
 -- `+ A`, and then as often as it stands there
-pub more_step : (p : Token) (ts : List Token) → more_at (p ∷ ts) ≡ (if is_plus p.what then then_more (operand_at ts) else Some ([], p ∷ ts))
-unfolding more_at
-more_step p [] = refl
-more_step p (t ∷ us) = ap (λ (r : Read). if is_plus p.what then r else Some ([], p ∷ t ∷ us)) (then_front (operand_of t.what t.span) us)
+pub others_step : (p : Token) (ts : List Token) → others_at (p ∷ ts) ≡ (if is_plus p.what then then_others (operand_at ts) else Some ([], p ∷ ts))
+unfolding others_at
+others_step p [] = refl
+others_step p (t ∷ us) = ap (λ (r : Read). if is_plus p.what then r else Some ([], p ∷ t ∷ us)) (then_front (operand_of t.what t.span) us)
 
 front_front : (os ps : List Operand) (r : Read) → with_front (os ++ ps) r ≡ with_front os (with_front ps r)
 front_front os ps None = refl
@@ -47,28 +47,28 @@ at_other : (b : Bool) (p : Token) (ts left : List Token) (r : Read) → (if b th
 at_other true p ts left r e = absurd (false≢true (sym (ap (λ (x : Bool × List Token). x.0) e)))
 at_other false p ts left r e = ap (λ (x : Bool × List Token). Some ([], x.1)) e
 
-pub more_on : (ts mid left : List Token) (os : List Operand) (o : Operand) → plus_at ts ≡ (true, mid) → operand_at mid ≡ Some (o, left) → with_front (os ++ o ∷ []) (more_at left) ≡ with_front os (more_at ts)
-more_on [] mid left os o e f = absurd (false≢true (ap (λ (x : Bool × List Token). x.0) e))
-more_on (p ∷ ts) mid left os o e f =
-    let next : Read = then_more (operand_at ts) in
+pub others_on : (ts mid left : List Token) (os : List Operand) (o : Operand) → plus_at ts ≡ (true, mid) → operand_at mid ≡ Some (o, left) → with_front (os ++ o ∷ []) (others_at left) ≡ with_front os (others_at ts)
+others_on [] mid left os o e f = absurd (false≢true (ap (λ (x : Bool × List Token). x.0) e))
+others_on (p ∷ ts) mid left os o e f =
+    let next : Read = then_others (operand_at ts) in
     let h = at_plus (is_plus p.what) p ts mid next (Some ([], p ∷ ts)) e in
-    let here : more_at (p ∷ ts) ≡ with_front (o ∷ []) (more_at left) = more_step p ts ∙ h.1 ∙ ap then_more (ap operand_at h.0 ∙ f) in
-    front_front os (o ∷ []) (more_at left) ∙ ap (with_front os) (sym here)
+    let here : others_at (p ∷ ts) ≡ with_front (o ∷ []) (others_at left) = others_step p ts ∙ h.1 ∙ ap then_others (ap operand_at h.0 ∙ f) in
+    front_front os (o ∷ []) (others_at left) ∙ ap (with_front os) (sym here)
 
-pub more_stops : (ts mid : List Token) → plus_at ts ≡ (true, mid) → operand_at mid ≡ None → more_at ts ≡ None
-more_stops [] mid e f = absurd (false≢true (ap (λ (x : Bool × List Token). x.0) e))
-more_stops (p ∷ ts) mid e f =
-    let next : Read = then_more (operand_at ts) in
+pub others_stop : (ts mid : List Token) → plus_at ts ≡ (true, mid) → operand_at mid ≡ None → others_at ts ≡ None
+others_stop [] mid e f = absurd (false≢true (ap (λ (x : Bool × List Token). x.0) e))
+others_stop (p ∷ ts) mid e f =
+    let next : Read = then_others (operand_at ts) in
     let h = at_plus (is_plus p.what) p ts mid next (Some ([], p ∷ ts)) e in
-    more_step p ts ∙ h.1 ∙ ap then_more (ap operand_at h.0 ∙ f)
+    others_step p ts ∙ h.1 ∙ ap then_others (ap operand_at h.0 ∙ f)
 
-pub more_ends : (ts left : List Token) → plus_at ts ≡ (false, left) → more_at ts ≡ Some ([], left)
-unfolding more_at
-more_ends [] left e = ap (λ (x : Bool × List Token). Some ([], x.1)) e
-more_ends (p ∷ ts) left e = more_step p ts ∙ at_other (is_plus p.what) p ts left (then_more (operand_at ts)) e
+pub others_end : (ts left : List Token) → plus_at ts ≡ (false, left) → others_at ts ≡ Some ([], left)
+unfolding others_at
+others_end [] left e = ap (λ (x : Bool × List Token). Some ([], x.1)) e
+others_end (p ∷ ts) left e = others_step p ts ∙ at_other (is_plus p.what) p ts left (then_others (operand_at ts)) e
 
 -- an operand that stops the reading stops the sum
-pub sum_stops : (e : Refused) (ts mid : List Token) (os : List Operand) (whole : Read) → plus_at ts ≡ (true, mid) → with_front os (more_at ts) ≡ whole → Stops e (operand_at mid) → Stops e whole
-sum_stops Later ts mid os whole p w g = sym w ∙ ap (with_front os) (more_stops ts mid p g)
+pub sum_stops : (e : Refused) (ts mid : List Token) (os : List Operand) (whole : Read) → plus_at ts ≡ (true, mid) → with_front os (others_at ts) ≡ whole → Stops e (operand_at mid) → Stops e whole
+sum_stops Later ts mid os whole p w g = sym w ∙ ap (with_front os) (others_stop ts mid p g)
 sum_stops (Unbound at name) ts mid os whole p w g = g
 sum_stops Mem ts mid os whole p w g = tt

@@ -26,7 +26,7 @@ pub data AreBindings : List Token → List Bind → Type 0 where
   none : AreBindings [] []
   next : {val x equal : Token} {sum rest whole : List Token} {b : Bind} {bs : List Bind}
       → val.what ≡ what.Word KwVal → x.what ≡ what.Ident b.name → equal.what ≡ what.Mark Equal
-      → IsSum sum b.sum → AreBindings rest bs
+      → IsSum sum (b.sum.first ∷ b.sum.others) → AreBindings rest bs
       → whole ≡ val ∷ x ∷ equal ∷ (sum ++ rest) → AreBindings whole (b ∷ bs)
 
 -- the bytes are the text of a program that is built: of at most 1,000 tokens

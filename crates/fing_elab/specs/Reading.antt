@@ -9,6 +9,7 @@ use Rattle.fing_lexer.specs.declared.token.Word.TheVariants.{KwVal}
 use Rattle.fing_lexer.specs.declared.token.Mark.TheVariants.{Plus, Equal}
 use Rattle.fing_elab.specs.declared.first.program.Operand.{Operand}
 use Rattle.fing_elab.specs.declared.first.program.Operand.TheVariants as operand
+use Rattle.fing_elab.specs.declared.first.program.Sum.{Sum}
 use Rattle.fing_elab.specs.declared.first.program.Bind.{Bind}
 use Rattle.fing_lexer.specs.declared.lexer.LexRefusal.{LexRefusal}
 use Rattle.fing_lexer.specs.declared.lexer.LexRefusal.TheVariants as lex
@@ -55,14 +56,14 @@ plus_at [] = (false, [])
 plus_at (p ∷ ts) = if is_plus p.what then (true, ts) else (false, p ∷ ts)
 
 -- `+ A` as often as it stands there
-unfoldable pub more_at : List Token → Option (List Operand × List Token)
-more_at [] = Some ([], [])
-more_at (p ∷ []) = if is_plus p.what then None else Some ([], p ∷ [])
-more_at (p ∷ t ∷ ts) = if is_plus p.what then (operand_of t.what t.span >>= λ o. with_front (o ∷ []) (more_at ts)) else Some ([], p ∷ t ∷ ts)
+unfoldable pub others_at : List Token → Option (List Operand × List Token)
+others_at [] = Some ([], [])
+others_at (p ∷ []) = if is_plus p.what then None else Some ([], p ∷ [])
+others_at (p ∷ t ∷ ts) = if is_plus p.what then (operand_of t.what t.span >>= λ o. with_front (o ∷ []) (others_at ts)) else Some ([], p ∷ t ∷ ts)
 
 -- `A + .. + A`
-unfoldable pub sum_at : List Token → Option (List Operand × List Token)
-sum_at ts = operand_at ts >>= λ o. with_front (o.0 ∷ []) (more_at o.1)
+unfoldable pub sum_at : List Token → Option (Sum × List Token)
+sum_at ts = operand_at ts >>= λ o. others_at o.1 >>= λ r. Some (record { first = o.0; others = r.0 }, r.1)
 
 -- `val X = A + .. + A`
 unfoldable pub bind_at : List Token → Option (Bind × List Token)

@@ -5,5 +5,5 @@ pub mod program;
 pub mod refusal;
 
 pub use parsing::parse;
-pub use program::{Bind, Operand, Operands, Program};
+pub use program::{Bind, Operand, Operands, Program, Sum};
 pub use refusal::Refused;

@@ -4,7 +4,7 @@ ghost use Rattle.fing_elab.specs.Bindings.{AreBindings, Spells};
 ghost use Rattle.fing_elab.specs.Reading.{Refuses, ParseRefuses};
 ghost use Rattle.fing_elab.specs.Reading.{is_val as val_is, is_equal as equal_is, is_plus as plus_is};
 
-use crate::first::program::{Bind, Operand, Operands, Program};
+use crate::first::program::{Bind, Operand, Operands, Program, Sum};
 use crate::first::refusal::Refused;
 use fing_lexer::{Mark, Token, What, Word, tokens};
 use std::alloc::Global;
@@ -54,7 +54,7 @@ impl<'a> Reader<'a> {
         self.rest.is_empty()
     }
 
-    ghost use Rattle.fing_elab.specs.Reading.{operand_at, sum_at, bind_at, plus_at, Gives};
+    ghost use Rattle.fing_elab.specs.Reading.{operand_at, others_at, sum_at, bind_at, plus_at, Gives};
 
     // Goes past a `+`, where one is next.
     fn eat_plus(&mut self) -> bool
@@ -93,17 +93,25 @@ impl<'a> Reader<'a> {
         }
     }
 
-    // The operands of the sum that is next.
+    // The operands that are added next.
+    fn others(&mut self, alloc: Global) -> Result<Operands, Refused>
+        ensures { Gives result self.new (others_at self.old) }
+    {
+        let mut others = Operands::new(alloc);
+        'others: while self.eat_plus() {
+            others.push(self.operand()?)?;
+        }
+        Ok(others)
+    }
+
+    // The sum that is next.
     #[tactic(auto, unfolding(crate::specs::Reading::sum_at))]
-    fn sum(&mut self, alloc: Global) -> Result<Operands, Refused>
+    fn sum(&mut self, alloc: Global) -> Result<Sum, Refused>
         ensures { Gives result self.new (sum_at self.old) }
     {
-        let mut sum = Operands::new(alloc);
-        sum.push(self.operand()?)?;
-        'more: while self.eat_plus() {
-            sum.push(self.operand()?)?;
-        }
-        Ok(sum)
+        let first = self.operand()?;
+        let others = self.others(alloc)?;
+        Ok(Sum { first, others })
     }
 
     // The binding that is next.

@@ -13,17 +13,24 @@ pub enum Operand {
     Number(i64),
 }
 
-/// The operands of a sum, from the left. Contracts see it as the list.
+/// A list of operands. Contracts see it as the list.
 #[derive(Drop)]
 pub struct Operands {
     list: Vec<Operand>,
+}
+
+/// A sum: its first operand, and the others, which are added from the left.
+#[derive(Drop)]
+pub struct Sum {
+    pub first: Operand,
+    pub others: Operands,
 }
 
 /// A binding: the name, and the sum that it stands for.
 #[derive(Drop)]
 pub struct Bind {
     pub name: Name,
-    pub sum: Operands,
+    pub sum: Sum,
 }
 
 /// A program: its bindings in their order. Contracts see it as the list.
