@@ -2,3 +2,5 @@ pub mod SumReading
 pub mod BindingReading
 pub mod ProgramReading
 pub mod ByteReading
+pub mod EnvLaws
+pub mod ElabSteps

@@ -1,2 +1,5 @@
 pub mod Bindings
+pub mod BindingRules
+pub mod Levels
+pub mod Elaborating
 pub mod Reading
