@@ -166,3 +166,9 @@ fields_of env es e s = record {
   found = λ q i h. let f = field_among (fields_at (length env) es) es (length env) q i refl h in subst (λ (j : ℕ). Finds env q j) (sym f.2) (level_finds env q f.0 (ap (level q) (sym e) ∙ level_among es q f.0 s f.1)).1;
   whole = λ q i h. let f = finds_level env q i h in let at : length env - (f.0 + 1) ≡ i = omega (arith, f.2) in subst (λ (j : ℕ). HasField (fields_at (length env) es) q j) at (among_field es (length env) q f.0 (among_level es q f.0 (ap (level q) e ∙ f.1)));
 }
+
+-- the same of names in the order in which they were bound
+pub kept_fields : (names env : List Name) (es : List (Name × ℕ)) (count : ℕ) → reverse names ≡ env → es ≡ levels_of (reverse names) → IsStrictlySortedBy name_cmp (keys_of es) → count ≡ length names → (fields : List Field) → fields ≡ fields_at count es → FieldsOf env fields
+kept_fields names env es count v k s n fields e =
+    let size : length (reverse names) ≡ count = length-reverse names ∙ sym n in
+    subst (λ (xs : List Name). FieldsOf xs fields) v (subst (λ (fs : List Field). FieldsOf (reverse names) fs) (ap (λ (m : ℕ). fields_at m es) size ∙ sym e) (fields_of (reverse names) es k s))

@@ -4,3 +4,5 @@ pub mod ProgramReading
 pub mod ByteReading
 pub mod EnvLaws
 pub mod ElabSteps
+pub mod StructureSteps
+pub mod Closed

@@ -1,15 +1,17 @@
 -- What number bindings mean: the rules for expressions, bindings and structures, on the forms that are built
 -- (Rossberg, Russo and Dreyer, "F-ing modules", section 4).
 -- An environment lists the names that are bound, the innermost first; each stands for a term variable of type [int].
-use Rattle.std.specs.Prelude.{◌≡◌, ◌≢◌, ℕ, zero, suc, ℤ, List, [], ◌∷◌, IsTrue}
+use Rattle.std.specs.Prelude.{◌≡◌, ◌≢◌, ℕ, zero, suc, ℤ, List, [], ◌∷◌, IsTrue, map}
 use Rattle.fing_text.specs.declared.span.Span.{Span}
 use Rattle.omega_kinds.specs.Name.{Name}
 use Rattle.omega_kinds.specs.LabelOrder.{name_before}
 use Rattle.omega_kinds.specs.declared.label.Label.{Label}
 use Rattle.omega_kinds.specs.declared.label.Label.TheVariants.{Val}
 use Rattle.omega_types.specs.Ty.{Ty, Row}
+use Rattle.omega_types.specs.Fields.{row}
 use Rattle.omega_terms.specs.declared.op.Op.TheVariants.{Add}
-use Rattle.omega_terms.specs.Term.{Term, TermRow}
+use Rattle.omega_terms.specs.Term.{Term}
+use Rattle.omega_terms.specs.Fields.{term_row}
 use Rattle.omega_terms.specs.PartTerms.{value_term}
 use Rattle.omega_terms.specs.Shorthands.{let_in}
 use Rattle.fing_elab.specs.declared.first.program.Operand.{Operand}
@@ -61,17 +63,22 @@ pub record FieldsOf (env : List Name) (fields : List Field) : Type 0 where
 abbrev pub int_part : Ty
 int_part = Ty.Fields (Row.More Val Ty.Int Row.End)
 
-abbrev pub part_types : List Field → Row
-part_types [] = Row.End
-part_types (f ∷ fs) = Row.More (Label.Name f.0) int_part (part_types fs)
+-- the fields of the structure's type and of its term
+abbrev pub type_field : Field → Label × Ty
+type_field f = (Label.Name f.0, int_part)
 
-abbrev pub part_terms : List Field → TermRow
-part_terms [] = TermRow.End
-part_terms (f ∷ fs) = TermRow.More (Label.Name f.0) (Term.Var f.1) (part_terms fs)
+abbrev pub term_field : Field → Label × Term
+term_field f = (Label.Name f.0, Term.Var f.1)
+
+abbrev pub structure_type : List Field → Ty
+structure_type fields = Ty.Fields (row (map type_field fields))
+
+abbrev pub structure_term : List Field → Term
+structure_term fields = Term.Fields (term_row (map term_field fields))
 
 -- the type and the term of bindings: a let for each, and in the end the structure of all names that are bound
 pub data Gives : List Name → List Bind → Ty → Term → Type 0 where
-  done : {env : List Name} {fields : List Field} → FieldsOf env fields → Gives env [] (Ty.Fields (part_types fields)) (Term.Fields (part_terms fields))
+  done : {env : List Name} {fields : List Field} → FieldsOf env fields → Gives env [] (structure_type fields) (structure_term fields)
   next : {env : List Name} {b : Bind} {bs : List Bind} {t : Ty} {e d : Term} → SumGives env b.sum e → Gives (b.name ∷ env) bs t d → Gives env (b ∷ bs) t (let_in int_part (value_term e) d)
 
 -- Refusals. The first operand whose name is not bound:

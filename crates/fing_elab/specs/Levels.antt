@@ -4,10 +4,7 @@ use Rattle.std.specs.Ordering.{nat_cmp}
 use Rattle.std.specs.Cmp.Lexicographic.{slice_cmp}
 use Rattle.std.specs.BTreeMap.{insert_entry}
 use Rattle.omega_kinds.specs.Name.{Name}
-use Rattle.omega_kinds.specs.declared.label.Label.{Label}
-use Rattle.omega_types.specs.Ty.{Ty}
-use Rattle.omega_terms.specs.Term.{Term}
-use Rattle.fing_elab.specs.BindingRules.{Field, int_part}
+use Rattle.fing_elab.specs.BindingRules.{Field}
 
 abbrev pub levels_of : List Name → List (Name × ℕ)
 levels_of [] = []
@@ -19,10 +16,3 @@ field_at count e = (e.0, count - (e.1 + 1))
 
 abbrev pub fields_at : (count : ℕ) → List (Name × ℕ) → List Field
 fields_at count es = map (field_at count) es
-
--- the fields of the structure, as types and as terms
-abbrev pub type_pair : Field → Label × Ty
-type_pair f = (Label.Name f.0, int_part)
-
-abbrev pub term_pair : Field → Label × Term
-term_pair f = (Label.Name f.0, Term.Var f.1)

@@ -1,12 +1,12 @@
 // Programs of number bindings: `val X = A + .. + A`, each A a name or a number.
 
-pub mod elab;
+pub mod elaboration;
 pub mod env;
 pub mod parsing;
 pub mod program;
 pub mod refusal;
 
-pub use elab::Elaborated;
+pub use elaboration::{Elaborated, elab};
 pub use parsing::parse;
 pub use program::{Bind, Operand, Operands, Program, Sum};
 pub use refusal::Refused;

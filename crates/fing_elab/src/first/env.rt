@@ -1,6 +1,7 @@
 // The names that are bound so far.
-ghost use Rattle.std.specs.Prelude.{◌≡◌, ℕ, [], ◌∷◌, OnOk, OnErr, MatchOption};
-ghost use Rattle.fing_elab.specs.BindingRules.{Finds};
+ghost use Rattle.std.specs.Prelude.{◌≡◌, ℕ, [], ◌∷◌, IfOk, OnOk, OnErr, MatchOption};
+ghost use Rattle.fing_elab.specs.BindingRules.{Finds, FieldsOf};
+ghost use Rattle.fing_elab.specs.Levels.{fields_at};
 
 use omega_kinds::{Mem, Name};
 use std::alloc::Global;
@@ -64,4 +65,29 @@ impl Env {
             None => None,
         }
     }
+
+    /// The fields of a structure that has bound the names: each name once, in label order, with the index of its last
+    /// binding. `Err` is want of memory.
+    pub fn into_fields(self, alloc: Global) -> Result<Vec<(Name, u64)>, Mem>
+        ensures { IfOk result (λ fields. FieldsOf self fields.items) }
+    {
+        let Env { names, levels } = self;
+        indexed(alloc, names.len() as u64, levels)
+    }
+}
+
+// The names in order, each with the index of its level, where so many are bound.
+fn indexed(
+    alloc: Global,
+    count: u64,
+    mut levels: BTreeMap<Name, u64>,
+) -> Result<Vec<(Name, u64)>, Mem>
+    ensures { IfOk result (λ fields. fields.items ≡ fields_at count levels.entries) }
+{
+    let mut fields = Vec::new(alloc);
+    'fields: while let Some((name, level)) = levels.pop_first() {
+        let index = count.saturating_sub(1).saturating_sub(level);
+        fields.push((name, index))?;
+    }
+    Ok(fields)
 }

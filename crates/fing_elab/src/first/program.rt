@@ -1,5 +1,5 @@
 // The trees of programs of number bindings.
-ghost use Rattle.std.specs.Prelude.{◌≡◌, [], ◌∷◌, ◌++◌, OnOk, OnErr};
+ghost use Rattle.std.specs.Prelude.{◌≡◌, ◌<◌, ◌^◌, [], ◌∷◌, ◌++◌, length, OnOk, OnErr};
 
 use fing_text::Span;
 use omega_kinds::{Mem, Name};
@@ -105,7 +105,8 @@ impl Program {
 
     /// The bindings in their order.
     pub fn items(&self) -> &[Bind]
-        ensures { result.now ≡ self.now }
+        ensures value { result.now ≡ self.now }
+        ensures small { length result.now < 2 ^ 63 }
     {
         self.binds.as_slice()
     }

@@ -2,6 +2,7 @@
 use fing_text::Span;
 use fing_lexer::LexRefusal;
 use omega_kinds::{Mem, Name};
+use std::alloc::AllocFailed;
 
 /// Why a source is refused.
 #[derive(Debug, Drop)]
@@ -21,6 +22,17 @@ impl From<Mem> for Refused {
     ghost from_gives = { λ _ e. e ≡ WantOfMemory };
 
     fn from(_refused: Mem) -> Refused {
+        Refused::Mem
+    }
+}
+
+impl<T: Drop> From<AllocFailed<T>> for Refused {
+    ghost use Rattle.std.specs.Prelude.{◌≡◌};
+    ghost use Rattle.fing_elab.specs.declared.first.refusal.Refused.TheVariants.{Mem as WantOfMemory};
+
+    ghost from_gives = { λ _ e. e ≡ WantOfMemory };
+
+    fn from(_refused: AllocFailed<T>) -> Refused {
         Refused::Mem
     }
 }

@@ -6,7 +6,7 @@ use Rattle.fing_elab.specs.declared.first.refusal.Refused.{Refused}
 use Rattle.fing_elab.specs.BindingRules.{SumGives}
 use Rattle.fing_elab.specs.Elaborating.{SumRefuses}
 use Rattle.fing_elab.proofs.ElabSteps.{Adding, adding_first, adding_next, adding_done, first_refuses, next_refuses, drop_item, drop_none}
-use Rattle.fing_elab.proofs.first.elab.sum_term.Goals as goal
+use Rattle.fing_elab.proofs.first.elaboration.sum_term.Goals as goal
 
 pub returns-in_err-term : goal.returns-in_err-term
 returns-in_err-term c =
