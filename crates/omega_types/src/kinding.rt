@@ -1,0 +1,154 @@
+// The kinds of types.
+ghost use Rattle.std.specs.Prelude.{◌≡◌, ◌∷◌, ◌&&◌, IfOk, OnOk, MatchOption, slice_get};
+ghost use Rattle.std.specs.Option.{option_map};
+ghost use Rattle.omega_kinds.specs.Kind.{Kind as KindTree};
+ghost use Rattle.omega_kinds.specs.View.{kind_tree};
+ghost use Rattle.omega_types.specs.Fields.{row};
+ghost use Rattle.omega_types.specs.KindIn.{kind_in, are_distinct, all_star as all_star_of, is_star as is_star_of, star_if as star_if_of, applied as applied_of};
+ghost use Rattle.omega_types.specs.Kinding.{HasKind};
+ghost use Rattle.omega_types.specs.Scope.{scope_of};
+
+use crate::tree::{Ty, TyFields, TyNode};
+use omega_kinds::{Kind, Mem, arrow, same_kind};
+use std::alloc::Global;
+
+/// The kind of a type in a context, which lists the kinds of the type variables, the innermost last;
+/// `None` exactly where the type has none. `Err` is want of memory.
+///
+/// Pierce, "Types and Programming Languages", figure 30-1, Higher-order polymorphic lambda-calculus, kinding.
+pub fn kind_of(alloc: Global, ctx: &[Kind], ty: &Ty) -> Result<Option<Kind>, Mem>
+    ensures { IfOk result (λ o. MatchOption o
+        ((k : KindTree) → HasKind (scope_of ctx.now) ty.now k → ⊥)
+        (λ k. HasKind (scope_of ctx.now) ty.now (kind_tree k))) }
+{
+    let mut scope = scope(alloc, ctx)?;
+    find_kind(alloc, &mut scope, ty)
+}
+
+// The kinds of a context in a list that can grow.
+fn scope(alloc: Global, ctx: &[Kind]) -> Result<Vec<Kind>, Mem>
+    ensures { IfOk result (λ scope. scope_of scope.items ≡ scope_of ctx.now) }
+{
+    let mut scope = Vec::new(alloc);
+    for kind in ctx {
+        scope.push(kind.share()?)?;
+    }
+    Ok(scope)
+}
+
+// Whether the kind is `*`.
+fn is_star(kind: &Option<Kind>) -> bool
+    ensures { result ≡ is_star_of (option_map kind_tree kind.now) }
+{
+    matches!(kind, Some(Kind::Star))
+}
+
+// Both, and neither is left out.
+fn both(a: bool, b: bool) -> bool
+    ensures { result ≡ (a && b) }
+{
+    a && b
+}
+
+// The kind `*` of a type whose parts are as they must be.
+fn star_if(yes: bool) -> Option<Kind>
+    ensures { option_map kind_tree result ≡ star_if_of yes }
+{
+    if yes { Some(Kind::Star) } else { None }
+}
+
+// The kind of an application, from the kinds of its parts.
+fn applied(operator: Option<Kind>, arg: Option<Kind>) -> Result<Option<Kind>, Mem>
+    ensures { IfOk result (λ o. option_map kind_tree o ≡ applied_of (option_map kind_tree operator) (option_map kind_tree arg)) }
+{
+    match (operator, arg) {
+        (Some(Kind::Arrow(from, to)), Some(arg)) => {
+            if same_kind(&from, &arg) {
+                Ok(Some(to.share()?))
+            } else {
+                Ok(None)
+            }
+        }
+        _ => Ok(None),
+    }
+}
+
+// The kind of the variable at an index.
+fn kind_at(scope: &[Kind], index: u64) -> Result<Option<Kind>, Mem>
+    ensures { IfOk result (λ o. option_map kind_tree o ≡ slice_get (scope_of scope.now) index) }
+{
+    if index < scope.len() as u64 {
+        Ok(Some(scope[scope.len() - 1 - index as usize].share()?))
+    } else {
+        Ok(None)
+    }
+}
+
+// The kind of a type; the context stands as it was.
+#[cycle(find)]
+fn find_kind(alloc: Global, scope: &mut Vec<Kind>, ty: &Ty) -> Result<Option<Kind>, Mem>
+    ensures kept { OnOk result (scope_of scope.new.items ≡ scope_of scope.old.items) }
+    ensures kind { IfOk result (λ o. option_map kind_tree o ≡ kind_in (scope_of scope.old.items) ty.now) }
+{
+    match ty.node() {
+        TyNode::Var(index) => kind_at(scope, *index),
+        TyNode::Int | TyNode::Bool | TyNode::Text => Ok(Some(Kind::Star)),
+        TyNode::Arrow(a, b) => {
+            let a = find_kind(alloc, scope, a)?;
+            let b = find_kind(alloc, scope, b)?;
+            Ok(star_if(is_star(&a) && is_star(&b)))
+        }
+        TyNode::Fields(fields) => {
+            let stars = all_star(alloc, scope, fields)?;
+            Ok(star_if(stars))
+        }
+        TyNode::All(k, b) => {
+            let b = find_under(alloc, scope, b, k)?;
+            Ok(star_if(is_star(&b)))
+        }
+        TyNode::Ex(k, b) => {
+            let b = find_under(alloc, scope, b, k)?;
+            Ok(star_if(is_star(&b)))
+        }
+        TyNode::Lam(k, b) => match find_under(alloc, scope, b, k)? {
+            Some(found) => Ok(Some(arrow(alloc, k.share()?, found)?)),
+            None => Ok(None),
+        },
+        TyNode::Apply(f, a) => {
+            let f = find_kind(alloc, scope, f)?;
+            let a = find_kind(alloc, scope, a)?;
+            applied(f, a)
+        }
+    }
+}
+
+// The kind of the body of a binder.
+#[cycle(find)]
+fn find_under(
+    alloc: Global,
+    scope: &mut Vec<Kind>,
+    body: &Ty,
+    kind: &Kind,
+) -> Result<Option<Kind>, Mem>
+    ensures kept { OnOk result (scope_of scope.new.items ≡ scope_of scope.old.items) }
+    ensures kind { IfOk result (λ o. option_map kind_tree o ≡ kind_in (kind_tree kind.now ∷ scope_of scope.old.items) body.now) }
+{
+    scope.push(kind.share()?)?;
+    let found = find_kind(alloc, scope, body)?;
+    scope.pop();
+    Ok(found)
+}
+
+// Whether each field has kind `*`. Fields rise, so their labels are distinct.
+#[cycle(find)]
+fn all_star(alloc: Global, scope: &mut Vec<Kind>, fields: &TyFields) -> Result<bool, Mem>
+    ensures kept { OnOk result (scope_of scope.new.items ≡ scope_of scope.old.items) }
+    ensures all { IfOk result (λ b. b ≡ (are_distinct (row fields.now) && all_star_of (scope_of scope.old.items) (row fields.now))) }
+{
+    let mut all = true;
+    for field in fields.items() {
+        let found = find_kind(alloc, scope, &field.1)?;
+        all = both(all, is_star(&found));
+    }
+    Ok(all)
+}
