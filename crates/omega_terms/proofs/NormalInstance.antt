@@ -21,7 +21,8 @@ use Rattle.omega_types.proofs.Preservation.{Substitutes, maps-suc, kind-rename, 
 use Rattle.omega_types.proofs.Hereditary.{normal-gives}
 use Rattle.omega_types.proofs.LawProofs.{normal_of_normal, normal_of_rename}
 use Rattle.omega_types.proofs.BinderPuts.{form-is, Fits}
-use Rattle.omega_terms.specs.Term.{Term, TermRow, Op}
+use Rattle.omega_terms.specs.declared.op.Op.{Op}
+use Rattle.omega_terms.specs.Term.{Term, TermRow}
 use Rattle.omega_terms.specs.Typing.{At, HasPart, shift_all, result_type}
 use Rattle.omega_terms.specs.Instance.{TyInstance, Instance, Instances}
 use Rattle.omega_terms.proofs.NormalTyping.{Typed, TypedFields, cast, recast, AllNormal, all-shift, typed-normal, normal-all, normal-ex}

@@ -13,7 +13,8 @@ use Rattle.omega_types.specs.Normality.Normals.{n_end, n_more}
 use Rattle.omega_types.specs.Normalises.{Maps, NormalForm}
 use Rattle.omega_types.proofs.Algebra.{rename-instantiate, rename-weaken, rename-id}
 use Rattle.omega_types.proofs.Preservation.{maps-suc, lift-maps, fresh-rename, normal-rename, conv-rename, normal-kind}
-use Rattle.omega_terms.specs.Term.{Term, TermRow, Op}
+use Rattle.omega_terms.specs.declared.op.Op.{Op}
+use Rattle.omega_terms.specs.Term.{Term, TermRow}
 use Rattle.omega_terms.specs.TermSubst.{ren_term, ren_fields, same_index}
 pub use Rattle.omega_terms.specs.NormalTyping.{Typed, TypedFields, AllNormal}
 use Rattle.omega_terms.specs.Typing.{At, HasPart, HasType, FieldsHave, shift_all, result_type, RenVars}

@@ -15,7 +15,8 @@ use Rattle.omega_types.specs.Normalises.{Maps}
 use Rattle.omega_types.proofs.Algebra.{rename-instantiate, substitute-instantiate, rename-weaken, substitute-weaken, rename-id, single-rename}
 use Rattle.omega_types.proofs.Preservation.{Substitutes, maps-suc, lift-maps, kind-rename, fresh-rename, conv-rename, under-substitutes, single-substitutes, kind-substitute, fresh-substitute, conv-substitute, conv-kinds}
 use Rattle.omega_types.proofs.Inverse.{arrow-kinds, all-kinds, ex-kinds, fields-kinds}
-use Rattle.omega_terms.specs.Term.{Term, TermRow, Op}
+use Rattle.omega_terms.specs.declared.op.Op.{Op}
+use Rattle.omega_terms.specs.Term.{Term, TermRow}
 use Rattle.omega_terms.specs.TermSubst.{ren_term, ren_fields, sub_term, sub_fields, up_term, under_type, same_index}
 use Rattle.omega_terms.specs.Typing.{At, HasPart, HasType, FieldsHave, shift_all, result_type, GoodVars, RenVars, SubVars}
 use Rattle.omega_terms.proofs.NormalTyping.{at-shift, shift-at, lift-vars, under-vars, rename-part, rename-result}

@@ -6,7 +6,8 @@ use Rattle.omega_types.specs.Ty.{Ty}
 use Rattle.omega_types.specs.Substitution.{substitute, under}
 use Rattle.omega_types.specs.Normality.{Normal}
 use Rattle.omega_types.specs.Normalises.{NormalForm}
-use Rattle.omega_terms.specs.Term.{Term, TermRow, Op}
+use Rattle.omega_terms.specs.declared.op.Op.{Op}
+use Rattle.omega_terms.specs.Term.{Term, TermRow}
 
 -- n is the normal form of the normal type t with s put in; s leads from one context to another
 pub data TyInstance (from to : List Kind) (s : ℕ → Ty) (t : Ty) (k : Kind) (n : Ty) : Type 0 where

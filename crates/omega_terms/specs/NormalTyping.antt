@@ -7,7 +7,8 @@ use Rattle.omega_types.specs.Substitution.{rename, instantiate}
 use Rattle.omega_types.specs.Kinding.{Fresh}
 use Rattle.omega_types.specs.Normality.{Normal}
 use Rattle.omega_types.specs.Normalises.{NormalForm}
-use Rattle.omega_terms.specs.Term.{Term, TermRow, Op}
+use Rattle.omega_terms.specs.declared.op.Op.{Op}
+use Rattle.omega_terms.specs.Term.{Term, TermRow}
 use Rattle.omega_terms.specs.Typing.{At, HasPart, shift_all, result_type}
 
 mutual

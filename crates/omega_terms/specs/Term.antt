@@ -3,9 +3,7 @@ use Rattle.std.specs.Prelude.{ℕ, List, Bool as Truth, ℤ}
 use Rattle.omega_kinds.specs.Kind.{Kind}
 use Rattle.omega_kinds.specs.declared.label.Label.{Label}
 use Rattle.omega_types.specs.Ty.{Ty}
-
-pub data Op : Type 0 where
-  Add Sub Mul Div Rem Less Equal : Op
+use Rattle.omega_terms.specs.declared.op.Op.{Op}
 
 mutual
   pub data Term : Type 0 where

@@ -7,7 +7,8 @@ use Rattle.omega_types.specs.Ty.{Ty, Row}
 use Rattle.omega_types.specs.Substitution.{rename, substitute, instantiate}
 use Rattle.omega_types.specs.Kinding.{HasKind, Fresh}
 use Rattle.omega_types.specs.Conversion.{Conv}
-use Rattle.omega_terms.specs.Term.{Term, TermRow, Op}
+use Rattle.omega_terms.specs.declared.op.Op.{Op}
+use Rattle.omega_terms.specs.Term.{Term, TermRow}
 
 -- the item of the list at the index, the innermost variable being the first item
 pub data At {A : Type 0} : List A → ℕ → A → Type 0 where

@@ -3,8 +3,12 @@
 // Proved: renaming and substitution keep types; typing with normal types is typing; each coercion term is typed where its parts are.
 #![tactic(auto)]
 
+pub mod op;
+
 ghost use Rattle.omega_terms.specs.CoercionRows.{SamePartTyped, MetaPartTyped, FieldsPartTyped, FunctorPartTyped, MatchPartTyped, AbsPartTyped};
 ghost use Rattle.omega_terms.specs.TypingClaims.{RenamingKeepsTypes, SubstitutionKeepsTypes, TypesHaveKind, VariablesRetyped, NormalTypingIsTyping, NormalTypesGiven, InstancesKeepNormalTypes};
+
+pub use op::Op;
 
 // Laws of typing, and of typing with normal types.
 pub fn typing(x: usize) -> usize
