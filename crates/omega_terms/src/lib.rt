@@ -4,11 +4,13 @@
 #![tactic(auto)]
 
 pub mod op;
+pub mod tree;
 
 ghost use Rattle.omega_terms.specs.CoercionRows.{SamePartTyped, MetaPartTyped, FieldsPartTyped, FunctorPartTyped, MatchPartTyped, AbsPartTyped};
 ghost use Rattle.omega_terms.specs.TypingClaims.{RenamingKeepsTypes, SubstitutionKeepsTypes, TypesHaveKind, VariablesRetyped, NormalTypingIsTyping, NormalTypesGiven, InstancesKeepNormalTypes};
 
 pub use op::Op;
+pub use tree::{Term, TermFields, TermNode};
 
 // Laws of typing, and of typing with normal types.
 pub fn typing(x: usize) -> usize
