@@ -1,0 +1,15 @@
+// Kinds, labels, types, terms and whole texts of System Fω, written to a sink with no memory.
+// Stands on fing_text and omega_terms, whose definitions say how each is spelled.
+// Proved: each call writes exactly the text, and fails only where the sink counted a fault, a front of the text
+// being written.
+#![tactic(auto)]
+
+mod example;
+mod leaves;
+#[cfg(test)]
+mod tests;
+mod trees;
+
+pub use example::spelled_example;
+pub use leaves::write_label;
+pub use trees::{write_kind, write_omega, write_term, write_ty};

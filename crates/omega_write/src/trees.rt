@@ -1,0 +1,368 @@
+// Kinds, types, terms and whole texts, written as text.
+ghost use Rattle.fing_text.specs.Writes.{Wrote};
+ghost use Rattle.omega_kinds.specs.View.{kind_tree};
+ghost use Rattle.omega_types.specs.Fields.{row};
+ghost use Rattle.omega_terms.specs.Fields.{term_row};
+ghost use Rattle.omega_terms.specs.InScope.{TyInScope, TermInScope};
+ghost use Rattle.omega_terms.specs.KindText.{kind_text};
+ghost use Rattle.omega_terms.specs.OmegaText.{omega_text};
+ghost use Rattle.omega_terms.specs.TermText.{term_text, op_front};
+ghost use Rattle.omega_terms.specs.TypeText.{ty_text};
+ghost use Rattle.std.specs.Prelude.{◌≡◌};
+ghost use Rattle.omega_write.specs.Counted.{level_in, next_in, counted_ty, counted_row, counted_term, counted_term_row};
+ghost use Rattle.omega_write.specs.Pieces.{piece_text, pieces_text, two_text, three_text};
+
+use crate::leaves::{write_bytes, write_label, write_number, write_signed};
+use fing_text::{Sink, WriteFault, put};
+use omega_kinds::{Kind, Label};
+use omega_terms::{Op, Term, TermFields, TermNode};
+use omega_types::{Ty, TyFields, TyNode};
+
+// A part of what is written: some bytes, a number, the bytes of a text, or a tree with the numbers of variables in
+// scope. These are counted modulo 2^64, which is exact for each level below 2^64.
+#[derive(Clone, Copy)]
+enum Piece<'a> {
+    Bytes(&'a [u8]),
+    Number(u64),
+    Text(&'a [u8]),
+    Label(&'a Label),
+    Kind(&'a Kind),
+    Ty(u64, &'a Ty),
+    TyFields(u64, &'a TyFields),
+    Term(u64, u64, &'a Term),
+    TermFields(u64, u64, &'a TermFields),
+}
+
+// The level of a variable, where so many of its sort are in scope.
+fn level(count: u64, index: u64) -> u64
+    ensures { result ≡ level_in count index }
+{
+    count.wrapping_sub(index.wrapping_add(1))
+}
+
+// How many variables are in scope below a binder of one.
+fn next(count: u64) -> u64
+    ensures { result ≡ next_in count }
+{
+    count.wrapping_add(1)
+}
+
+/// Writes a kind: `*` or `(> K K)`.
+/// `Err` comes only where the sink counted a fault, and a front of the text was written.
+#[cycle(trees)]
+pub fn write_kind<K: Sink>(sink: &mut K, kind: &Kind) -> Result<(), WriteFault>
+    ensures { Wrote (K.told sink.old) (K.told sink.new) (kind_text (kind_tree kind.now)) result }
+{
+    match kind {
+        Kind::Star => put(sink, b"*"),
+        Kind::Arrow(from, to) => { write_two(sink, b"(> ", Piece::Kind(from), Piece::Kind(to)) }
+    }
+}
+
+#[cycle(trees)]
+fn write_type<K: Sink>(sink: &mut K, types: u64, ty: &Ty) -> Result<(), WriteFault>
+    ensures { Wrote (K.told sink.old) (K.told sink.new) (counted_ty types ty.now) result }
+{
+    match ty.node() {
+        TyNode::Var(index) => write_pieces(
+            sink,
+            &[Piece::Bytes(b"a"), Piece::Number(level(types, *index))],
+        ),
+        TyNode::Int => put(sink, b"int"),
+        TyNode::Bool => put(sink, b"bool"),
+        TyNode::Text => put(sink, b"text"),
+        TyNode::Arrow(a, b) => write_two(sink, b"(-> ", Piece::Ty(types, a), Piece::Ty(types, b)),
+        TyNode::Fields(fields) => write_pieces(
+            sink,
+            &[
+                Piece::Bytes(b"(rec"),
+                Piece::TyFields(types, fields),
+                Piece::Bytes(b")"),
+            ],
+        ),
+        TyNode::All(k, b) => write_two(sink, b"(all ", Piece::Kind(k), Piece::Ty(next(types), b)),
+        TyNode::Ex(k, b) => write_two(sink, b"(some ", Piece::Kind(k), Piece::Ty(next(types), b)),
+        TyNode::Lam(k, b) => write_two(sink, b"(lam ", Piece::Kind(k), Piece::Ty(next(types), b)),
+        TyNode::Apply(f, a) => write_two(sink, b"(@ ", Piece::Ty(types, f), Piece::Ty(types, a)),
+    }
+}
+
+// Writes the fields of a record type, each with a space before it.
+#[cycle(trees)]
+fn write_ty_fields<K: Sink>(sink: &mut K, types: u64, fields: &TyFields) -> Result<(), WriteFault>
+    ensures { Wrote (K.told sink.old) (K.told sink.new) (counted_row types (row fields.now)) result }
+{
+    for field in fields.items() {
+        write_two(
+            sink,
+            b" (",
+            Piece::Label(&field.0),
+            Piece::Ty(types, &field.1),
+        )?;
+    }
+    Ok(())
+}
+
+#[cycle(trees)]
+fn write_expression<K: Sink>(
+    sink: &mut K,
+    types: u64,
+    terms: u64,
+    term: &Term,
+) -> Result<(), WriteFault>
+    ensures { Wrote (K.told sink.old) (K.told sink.new) (counted_term types terms term.now) result }
+{
+    match term.node() {
+        TermNode::Var(index) => write_pieces(
+            sink,
+            &[Piece::Bytes(b"x"), Piece::Number(level(terms, *index))],
+        ),
+        TermNode::Int(z) => write_signed(sink, *z),
+        TermNode::Bool(true) => put(sink, b"true"),
+        TermNode::Bool(false) => put(sink, b"false"),
+        TermNode::Text(text) => write_pieces(
+            sink,
+            &[
+                Piece::Bytes(b"\""),
+                Piece::Text(text.bytes()),
+                Piece::Bytes(b"\""),
+            ],
+        ),
+        TermNode::Lam(t, e) => {
+            write_two(
+                sink,
+                b"(fn ",
+                Piece::Ty(types, t),
+                Piece::Term(types, next(terms), e),
+            )
+        }
+        TermNode::Call(f, a) => {
+            write_two(
+                sink,
+                b"(call ",
+                Piece::Term(types, terms, f),
+                Piece::Term(types, terms, a),
+            )
+        }
+        TermNode::TyLam(k, e) => {
+            write_two(
+                sink,
+                b"(tfn ",
+                Piece::Kind(k),
+                Piece::Term(next(types), terms, e),
+            )
+        }
+        TermNode::Inst(e, t) => {
+            write_two(
+                sink,
+                b"(inst ",
+                Piece::Term(types, terms, e),
+                Piece::Ty(types, t),
+            )
+        }
+        TermNode::Fields(fields) => write_pieces(
+            sink,
+            &[
+                Piece::Bytes(b"(rec"),
+                Piece::TermFields(types, terms, fields),
+                Piece::Bytes(b")"),
+            ],
+        ),
+        TermNode::Get(e, l) => {
+            write_two(
+                sink,
+                b"(get ",
+                Piece::Term(types, terms, e),
+                Piece::Label(l),
+            )
+        }
+        TermNode::Pack(t, e, u) => write_three(
+            sink,
+            b"(pack ",
+            Piece::Ty(types, t),
+            Piece::Term(types, terms, e),
+            Piece::Ty(types, u),
+        ),
+        TermNode::Unpack(p, e) => write_two(
+            sink,
+            b"(open ",
+            Piece::Term(types, terms, p),
+            Piece::Term(next(types), next(terms), e),
+        ),
+        TermNode::If(a, b, c) => write_three(
+            sink,
+            b"(if ",
+            Piece::Term(types, terms, a),
+            Piece::Term(types, terms, b),
+            Piece::Term(types, terms, c),
+        ),
+        TermNode::Arith(op, a, b) => write_two(
+            sink,
+            front(*op),
+            Piece::Term(types, terms, a),
+            Piece::Term(types, terms, b),
+        ),
+        TermNode::Fix(t, u, e) => write_three(
+            sink,
+            b"(fix ",
+            Piece::Ty(types, t),
+            Piece::Ty(types, u),
+            Piece::Term(types, next(next(terms)), e),
+        ),
+    }
+}
+
+// What an operator's form begins with.
+fn front(op: Op) -> &'static [u8]
+    ensures { result.now ≡ op_front op }
+{
+    match op {
+        Op::Add => b"(+ ",
+        Op::Sub => b"(- ",
+        Op::Mul => b"(* ",
+        Op::Div => b"(/ ",
+        Op::Rem => b"(% ",
+        Op::Less => b"(< ",
+        Op::Equal => b"(== ",
+    }
+}
+
+// Writes the fields of a record, each with a space before it.
+#[cycle(trees)]
+fn write_term_fields<K: Sink>(
+    sink: &mut K,
+    types: u64,
+    terms: u64,
+    fields: &TermFields,
+) -> Result<(), WriteFault>
+    ensures { Wrote (K.told sink.old) (K.told sink.new) (counted_term_row types terms (term_row fields.now)) result }
+{
+    for field in fields.items() {
+        write_two(
+            sink,
+            b" (",
+            Piece::Label(&field.0),
+            Piece::Term(types, terms, &field.1),
+        )?;
+    }
+    Ok(())
+}
+
+// Writes a form of two parts.
+#[cycle(trees)]
+fn write_two<'x, K: Sink>(
+    sink: &mut K,
+    front: &'x [u8],
+    first: Piece<'x>,
+    second: Piece<'x>,
+) -> Result<(), WriteFault>
+    ensures { Wrote (K.told sink.old) (K.told sink.new) (two_text front.now (piece_text first.entry) (piece_text second.entry)) result }
+{
+    write_pieces(
+        sink,
+        &[
+            Piece::Bytes(front),
+            first,
+            Piece::Bytes(b" "),
+            second,
+            Piece::Bytes(b")"),
+        ],
+    )
+}
+
+// Writes a form of three parts.
+#[cycle(trees)]
+fn write_three<'x, K: Sink>(
+    sink: &mut K,
+    front: &'x [u8],
+    first: Piece<'x>,
+    second: Piece<'x>,
+    third: Piece<'x>,
+) -> Result<(), WriteFault>
+    ensures { Wrote (K.told sink.old) (K.told sink.new) (three_text front.now (piece_text first.entry) (piece_text second.entry) (piece_text third.entry)) result }
+{
+    write_pieces(
+        sink,
+        &[
+            Piece::Bytes(front),
+            first,
+            Piece::Bytes(b" "),
+            second,
+            Piece::Bytes(b" "),
+            third,
+            Piece::Bytes(b")"),
+        ],
+    )
+}
+
+// Writes pieces one after the other.
+#[cycle(trees)]
+fn write_pieces<K: Sink>(sink: &mut K, pieces: &[Piece<'_>]) -> Result<(), WriteFault>
+    ensures { Wrote (K.told sink.old) (K.told sink.new) (pieces_text pieces.now) result }
+{
+    for piece in pieces {
+        write_piece(sink, piece)?;
+    }
+    Ok(())
+}
+
+// Writes a piece.
+#[cycle(trees)]
+fn write_piece<K: Sink>(sink: &mut K, piece: &Piece<'_>) -> Result<(), WriteFault>
+    ensures { Wrote (K.told sink.old) (K.told sink.new) (piece_text piece.now) result }
+{
+    match piece {
+        Piece::Bytes(bytes) => put(sink, bytes),
+        Piece::Number(n) => write_number(sink, *n),
+        Piece::Text(bytes) => write_bytes(sink, bytes),
+        Piece::Label(label) => write_label(sink, label),
+        Piece::Kind(kind) => write_kind(sink, kind),
+        Piece::Ty(types, ty) => write_type(sink, *types, ty),
+        Piece::TyFields(types, fields) => write_ty_fields(sink, *types, fields),
+        Piece::Term(types, terms, term) => write_expression(sink, *types, *terms, term),
+        Piece::TermFields(types, terms, fields) => write_term_fields(sink, *types, *terms, fields),
+    }
+}
+
+/// Writes a type with so many type variables in scope. Each variable is among them, and has a level below 2^64.
+/// `Err` comes only where the sink counted a fault, and a front of the text was written.
+pub fn write_ty<K: Sink>(sink: &mut K, types: u64, ty: &Ty) -> Result<(), WriteFault>
+    requires { TyInScope types ty.now }
+    ensures { Wrote (K.told sink.old) (K.told sink.new) (ty_text types ty.now) result }
+{
+    write_type(sink, types, ty)
+}
+
+/// Writes a term with so many type variables and so many term variables in scope. Each variable is among those of
+/// its sort, and has a level below 2^64.
+/// `Err` comes only where the sink counted a fault, and a front of the text was written.
+pub fn write_term<K: Sink>(
+    sink: &mut K,
+    types: u64,
+    terms: u64,
+    term: &Term,
+) -> Result<(), WriteFault>
+    requires { TermInScope types terms term.now }
+    ensures { Wrote (K.told sink.old) (K.told sink.new) (term_text types terms term.now) result }
+{
+    write_expression(sink, types, terms, term)
+}
+
+/// Writes the whole text of a closed type and a closed term, in three lines: `omega 1`, the type and the term.
+/// `Err` comes only where the sink counted a fault, and a front of the text was written.
+pub fn write_omega<'x, K: Sink>(sink: &mut K, ty: &'x Ty, term: &'x Term) -> Result<(), WriteFault>
+    requires ty { TyInScope 0 ty.now }
+    requires term { TermInScope 0 0 term.now }
+    ensures { Wrote (K.told sink.old) (K.told sink.new) (omega_text ty.now term.now) result }
+{
+    write_pieces(
+        sink,
+        &[
+            Piece::Bytes(b"omega 1\n"),
+            Piece::Ty(0, ty),
+            Piece::Bytes(b"\n"),
+            Piece::Term(0, 0, term),
+            Piece::Bytes(b"\n"),
+        ],
+    )
+}
