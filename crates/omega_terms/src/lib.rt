@@ -4,6 +4,8 @@
 #![tactic(auto)]
 
 pub mod op;
+#[cfg(test)]
+mod tests;
 pub mod tree;
 
 ghost use Rattle.omega_terms.specs.CoercionRows.{SamePartTyped, MetaPartTyped, FieldsPartTyped, FunctorPartTyped, MatchPartTyped, AbsPartTyped};
