@@ -1,9 +1,11 @@
-// Terms of System Fω, as plain trees so far: typing, values, steps and faults, and the terms that elaboration uses.
+// Terms of System Fω: shared trees with de Bruijn indexes, and what typing, values, steps, faults and texts of terms are.
 // Stands on omega_types.
-// Proved: renaming and substitution keep types; typing with normal types is typing; each coercion term is typed where its parts are.
+// Proved: the calls on shared trees; renaming and substitution keep types; typing with normal types is typing; each
+// coercion term is typed where its parts are.
 #![tactic(auto)]
 
 pub mod op;
+<<<<<<< HEAD
 pub mod tree;
 
 ghost use Rattle.omega_terms.specs.CoercionRows.{SamePartTyped, MetaPartTyped, FieldsPartTyped, FunctorPartTyped, MatchPartTyped, AbsPartTyped};
@@ -36,3 +38,13 @@ pub fn coercion_rows(x: usize) -> usize
 {
     x
 }
+=======
+#[cfg(test)]
+mod tests;
+pub mod theory;
+pub mod tree;
+
+pub use op::Op;
+pub use theory::{coercion_rows, typing};
+pub use tree::{Term, TermFields, TermNode};
+>>>>>>> 14f3ad5a847cd39909f360b5a079a257149d53da
