@@ -1,0 +1,4 @@
+pub mod Lexeme
+pub mod Nest
+pub mod Tokens
+pub mod Lexing

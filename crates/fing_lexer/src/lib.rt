@@ -1,0 +1,16 @@
+// The lexer: a source's bytes as tokens, with their spans, or the first place that has no token.
+// Stands on fing_text (spans) and omega_kinds (names, want of memory).
+// Proved: `tokens` gives exactly the one list of longest tokens of the bytes, or the refusal of the first place that
+// has none, numbers out of range and the limit on nesting included; and each list of bytes has exactly one outcome.
+#![tactic(auto)]
+
+pub mod bytes;
+pub mod facts;
+pub mod lexer;
+pub mod nest;
+pub mod scan;
+pub mod token;
+
+pub use facts::one_outcome;
+pub use lexer::{LexRefusal, tokens};
+pub use token::{Mark, Token, What, Word};
