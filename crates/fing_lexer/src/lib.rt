@@ -9,6 +9,8 @@ pub mod facts;
 pub mod lexer;
 pub mod nest;
 pub mod scan;
+#[cfg(test)]
+mod tests;
 pub mod token;
 
 pub use facts::one_outcome;
