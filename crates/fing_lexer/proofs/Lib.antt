@@ -4,3 +4,4 @@ pub mod Digits
 pub mod Found
 pub mod Texts
 pub mod Going
+pub mod Slices

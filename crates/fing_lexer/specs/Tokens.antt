@@ -1,5 +1,5 @@
 -- The tokens of a text, and the first place at which it has none.
-use Rattle.std.specs.Prelude.{◌≡◌, ℕ, ◌+◌, ◌<◌, ◌≤◌, Bool, true, false, not, List, [], ◌∷◌, ◌++◌, length, take, drop, None, Some, if◌then◌else◌, nat_eq, nat_le, ◌||◌, nat_abs}
+use Rattle.std.specs.Prelude.{◌≡◌, ℕ, ◌+◌, ◌-◌, ◌<◌, ◌≤◌, Bool, true, false, not, List, [], ◌∷◌, ◌++◌, length, take, drop, None, Some, if◌then◌else◌, nat_eq, nat_le, ◌||◌, nat_abs}
 use Rattle.std.specs.Str.{byte}
 use Rattle.std.specs.List.{prefix_len}
 use Rattle.fing_lexer.specs.declared.token.What.{What}
@@ -109,3 +109,10 @@ pub record OneOutcome (bytes : List ℕ) : Type 0 where
   pub outcome : Outcome
   pub holds : Lexes 0 whole_file bytes outcome
   pub only : (o : Outcome) → Lexes 0 whole_file bytes o → o ≡ outcome
+
+-- from the place `at` on the spans are in order, and each token is what the bytes of its span are
+abbrev pub Sliced : List ℕ → ℕ → List Token → Type 0
+Sliced bytes at [] = Unit {0}
+Sliced bytes at (t ∷ ts) =
+    (at ≤ t.span.from) × (t.span.from < t.span.to) × (t.span.to ≤ length bytes)
+    × (lexeme (take (t.span.to - t.span.from) (drop t.span.from bytes)) ≡ Some t.what) × Sliced bytes t.span.to ts

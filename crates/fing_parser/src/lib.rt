@@ -1,0 +1,9 @@
+// The parser: the grammar of the language as a relation between a list of tokens and a tree, and its laws.
+// Stands on fing_lexer (tokens) and fing_syntax (trees).
+// Proved: a list of tokens is a phrase of a class in at most one way; a list is a program, or has exactly one place
+// at which it stops being one, the length of its longest front that begins a program.
+#![tactic(auto)]
+
+pub mod facts;
+
+pub use facts::{one_answer, one_place, one_tree};
