@@ -3,3 +3,4 @@ pub mod BindingRules
 pub mod Levels
 pub mod Elaborating
 pub mod Reading
+pub mod RefusalLine

@@ -9,4 +9,4 @@ pub mod refusal;
 pub use elaboration::{Elaborated, elab};
 pub use parsing::parse;
 pub use program::{Bind, Operand, Operands, Program, Sum};
-pub use refusal::Refused;
+pub use refusal::{Refused, write_line};

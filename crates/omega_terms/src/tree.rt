@@ -15,11 +15,7 @@ use std::rc::Rc;
 /// Contracts see it as the plain tree with de Bruijn indexes, 0 being the innermost; type variables and term
 /// variables are counted apart.
 ///
-<<<<<<< HEAD
-/// Pierce, "Types and Programming Languages", sections 6.1, Terms and contexts, and 30.1, Fω; Rossberg, Russo and
-=======
 /// Pierce, "Types and Programming Languages", section 6.1, Terms and contexts, and figure 30-1; Rossberg, Russo and
->>>>>>> 14f3ad5a847cd39909f360b5a079a257149d53da
 /// Dreyer, "F-ing modules", section 3, System Fω.
 #[cycle(term)]
 #[derive(Drop)]

@@ -21,12 +21,12 @@ pub fn kind_of(alloc: Global, ctx: &[Kind], ty: &Ty) -> Result<Option<Kind>, Mem
         ((k : KindTree) → HasKind (scope_of ctx.now) ty.now k → ⊥)
         (λ k. HasKind (scope_of ctx.now) ty.now (kind_tree k))) }
 {
-    let mut scope = scope(alloc, ctx)?;
+    let mut scope = share_context(alloc, ctx)?;
     find_kind(alloc, &mut scope, ty)
 }
 
-// The kinds of a context in a list that can grow.
-fn scope(alloc: Global, ctx: &[Kind]) -> Result<Vec<Kind>, Mem>
+/// The kinds of a context in a list that can grow, with their parts shared. `Err` is want of memory.
+pub fn share_context(alloc: Global, ctx: &[Kind]) -> Result<Vec<Kind>, Mem>
     ensures { IfOk result (λ scope. scope_of scope.items ≡ scope_of ctx.now) }
 {
     let mut scope = Vec::new(alloc);
@@ -34,6 +34,18 @@ fn scope(alloc: Global, ctx: &[Kind]) -> Result<Vec<Kind>, Mem>
         scope.push(kind.share()?)?;
     }
     Ok(scope)
+}
+
+/// The kind of the variable at an index in a context, which lists the innermost last; `None` exactly where no variable
+/// has that index. `Err` is want of memory.
+pub fn variable_kind(ctx: &[Kind], index: u64) -> Result<Option<Kind>, Mem>
+    ensures { IfOk result (λ o. option_map kind_tree o ≡ slice_get (scope_of ctx.now) index) }
+{
+    if index < ctx.len() as u64 {
+        Ok(Some(ctx[ctx.len() - 1 - index as usize].share()?))
+    } else {
+        Ok(None)
+    }
 }
 
 // Whether the kind is `*`.
@@ -73,17 +85,6 @@ fn applied(operator: Option<Kind>, arg: Option<Kind>) -> Result<Option<Kind>, Me
     }
 }
 
-// The kind of the variable at an index.
-fn kind_at(scope: &[Kind], index: u64) -> Result<Option<Kind>, Mem>
-    ensures { IfOk result (λ o. option_map kind_tree o ≡ slice_get (scope_of scope.now) index) }
-{
-    if index < scope.len() as u64 {
-        Ok(Some(scope[scope.len() - 1 - index as usize].share()?))
-    } else {
-        Ok(None)
-    }
-}
-
 // The kind of a type; the context stands as it was.
 #[cycle(find)]
 fn find_kind(alloc: Global, scope: &mut Vec<Kind>, ty: &Ty) -> Result<Option<Kind>, Mem>
@@ -91,7 +92,7 @@ fn find_kind(alloc: Global, scope: &mut Vec<Kind>, ty: &Ty) -> Result<Option<Kin
     ensures kind { IfOk result (λ o. option_map kind_tree o ≡ kind_in (scope_of scope.old.items) ty.now) }
 {
     match ty.node() {
-        TyNode::Var(index) => kind_at(scope, *index),
+        TyNode::Var(index) => variable_kind(scope, *index),
         TyNode::Int | TyNode::Bool | TyNode::Text => Ok(Some(Kind::Star)),
         TyNode::Arrow(a, b) => {
             let a = find_kind(alloc, scope, a)?;

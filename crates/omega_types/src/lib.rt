@@ -11,7 +11,7 @@ pub mod shifting;
 pub mod theory;
 pub mod tree;
 
-pub use kinding::kind_of;
+pub use kinding::{kind_of, share_context, variable_kind};
 pub use levels::next_level;
 pub use putting::substitute;
 pub use shifting::shift;

@@ -1,10 +1,6 @@
 -- Pieces and fields, one after the other.
 use Rattle.std.proofs.Common.{◌≡◌, ℕ, zero, suc, ◌+◌, ◌<◌, ◌≤◌, List, [], ◌∷◌, ◌++◌, length, get_or, refl, ap, ◌∙◌, append_assoc, arith}
-<<<<<<< HEAD
-use Rattle.std.specs.Prelude.{codes, flat_map, Result, IsErr}
-=======
 use Rattle.std.specs.Prelude.{flat_map, Result, IsErr}
->>>>>>> 14f3ad5a847cd39909f360b5a079a257149d53da
 use Rattle.std.proofs.lemmas.List.{append-nil}
 use Rattle.std.proofs.lemmas.Result.{MatchResult-from_err}
 use Rattle.fing_text.specs.Told.{Told}
@@ -15,16 +11,9 @@ use Rattle.omega_types.specs.Ty.{Ty}
 use Rattle.omega_types.specs.Fields.{Pairs, row}
 use Rattle.omega_terms.specs.Term.{Term}
 use Rattle.omega_terms.specs.Fields.{TermPairs, term_row}
-<<<<<<< HEAD
-use Rattle.omega_terms.specs.KindText.{label_text}
-use Rattle.omega_write.specs.declared.trees.Piece.{Piece}
-use Rattle.omega_write.specs.Counted.{counted_ty, counted_row, counted_term, counted_term_row}
-use Rattle.omega_write.specs.Pieces.{piece_text, pieces_text, two_text}
-=======
 use Rattle.omega_write.specs.declared.trees.Piece.{Piece}
 use Rattle.omega_write.specs.Counted.{counted_ty, counted_row, counted_term, counted_term_row}
 use Rattle.omega_write.specs.Pieces.{piece_text, pieces_text, field_text}
->>>>>>> 14f3ad5a847cd39909f360b5a079a257149d53da
 use Rattle.omega_write.proofs.Sizes.{weight, weights, ty_size, row_size, term_size, term_row_size}
 
 -- a call that ends where an inner one failed
@@ -43,25 +32,6 @@ weight-at [] i d lt = absurd (omega arith)
 weight-at (p ∷ ps) zero d lt = omega arith
 weight-at (p ∷ ps) (suc i) d lt = omega (arith, weight-at ps i d (omega arith))
 
-<<<<<<< HEAD
--- the text of a field of a record type
-abbrev pub field_text : ℕ → Label × Ty → List ℕ
-field_text n x = two_text (codes " (") (label_text x.0) (counted_ty n x.1)
-
-pub fields-text : (n : ℕ) (xs : Pairs) → flat_map (field_text n) xs ≡ counted_row n (row xs)
-unfolding ◌then◌
-fields-text n [] = refl
-fields-text n (x ∷ xs) = ap (λ (w : List ℕ). field_text n x ++ w) (fields-text n xs) ∙ simp append_assoc
-
-pub field-size : (xs : Pairs) (i : ℕ) (d : Label × Ty) → i < length xs → ty_size (get_or xs i d).1 + 1 ≤ row_size (row xs)
-field-size [] i d lt = absurd (omega arith)
-field-size (x ∷ xs) zero d lt = omega arith
-field-size (x ∷ xs) (suc i) d lt = omega (arith, field-size xs i d (omega arith))
-
--- the text of a field of a record
-abbrev pub term_field_text : (n m : ℕ) → Label × Term → List ℕ
-term_field_text n m x = two_text (codes " (") (label_text x.0) (counted_term n m x.1)
-=======
 abbrev pub ty_field_text : ℕ → Label × Ty → List ℕ
 ty_field_text n x = field_text x.0 (counted_ty n x.1)
 
@@ -77,7 +47,6 @@ ty_field-size (x ∷ xs) (suc i) d lt = omega (arith, ty_field-size xs i d (omeg
 
 abbrev pub term_field_text : (n m : ℕ) → Label × Term → List ℕ
 term_field_text n m x = field_text x.0 (counted_term n m x.1)
->>>>>>> 14f3ad5a847cd39909f360b5a079a257149d53da
 
 pub term_fields-text : (n m : ℕ) (xs : TermPairs) → flat_map (term_field_text n m) xs ≡ counted_term_row n m (term_row xs)
 unfolding ◌then◌

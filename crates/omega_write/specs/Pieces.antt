@@ -2,10 +2,7 @@
 use Rattle.std.specs.Prelude.{ℕ, List, [], ◌∷◌, codes, decimal, flat_map}
 use Rattle.omega_kinds.specs.Text.{◌then◌}
 use Rattle.omega_kinds.specs.View.{kind_tree}
-<<<<<<< HEAD
-=======
 use Rattle.omega_kinds.specs.declared.label.Label.{Label}
->>>>>>> 14f3ad5a847cd39909f360b5a079a257149d53da
 use Rattle.omega_types.specs.Fields.{row}
 use Rattle.omega_terms.specs.Fields.{term_row}
 use Rattle.omega_terms.specs.KindText.{kind_text, label_text}
@@ -37,10 +34,7 @@ two_text front first second = front then first then codes " " then second then c
 abbrev pub three_text : (front first second third : List ℕ) → List ℕ
 three_text front first second third =
     front then first then codes " " then second then codes " " then third then codes ")"
-<<<<<<< HEAD
-=======
 
 -- a field of a record, whose part has this text
 abbrev pub field_text : Label → (part : List ℕ) → List ℕ
 field_text l part = two_text (codes " (") (label_text l) part
->>>>>>> 14f3ad5a847cd39909f360b5a079a257149d53da

@@ -10,11 +10,7 @@ ghost use Rattle.omega_terms.specs.TermText.{term_text, op_front};
 ghost use Rattle.omega_terms.specs.TypeText.{ty_text};
 ghost use Rattle.std.specs.Prelude.{◌≡◌};
 ghost use Rattle.omega_write.specs.Counted.{level_in, next_in, counted_ty, counted_row, counted_term, counted_term_row};
-<<<<<<< HEAD
-ghost use Rattle.omega_write.specs.Pieces.{piece_text, pieces_text, two_text, three_text};
-=======
 ghost use Rattle.omega_write.specs.Pieces.{piece_text, pieces_text, field_text, two_text, three_text};
->>>>>>> 14f3ad5a847cd39909f360b5a079a257149d53da
 
 use crate::leaves::{write_bytes, write_label, write_number, write_signed};
 use fing_text::{Sink, WriteFault, put};
@@ -59,18 +55,11 @@ pub fn write_kind<K: Sink>(sink: &mut K, kind: &Kind) -> Result<(), WriteFault>
 {
     match kind {
         Kind::Star => put(sink, b"*"),
-<<<<<<< HEAD
-        Kind::Arrow(from, to) => { write_two(sink, b"(> ", Piece::Kind(from), Piece::Kind(to)) }
-    }
-}
-
-=======
         Kind::Arrow(from, to) => write_two(sink, b"(> ", Piece::Kind(from), Piece::Kind(to)),
     }
 }
 
 // Writes a type, whose variables in scope are counted modulo 2^64.
->>>>>>> 14f3ad5a847cd39909f360b5a079a257149d53da
 #[cycle(trees)]
 fn write_type<K: Sink>(sink: &mut K, types: u64, ty: &Ty) -> Result<(), WriteFault>
     ensures { Wrote (K.told sink.old) (K.told sink.new) (counted_ty types ty.now) result }
@@ -105,24 +94,12 @@ fn write_ty_fields<K: Sink>(sink: &mut K, types: u64, fields: &TyFields) -> Resu
     ensures { Wrote (K.told sink.old) (K.told sink.new) (counted_row types (row fields.now)) result }
 {
     for field in fields.items() {
-<<<<<<< HEAD
-        write_two(
-            sink,
-            b" (",
-            Piece::Label(&field.0),
-            Piece::Ty(types, &field.1),
-        )?;
-=======
         write_field(sink, &field.0, Piece::Ty(types, &field.1))?;
->>>>>>> 14f3ad5a847cd39909f360b5a079a257149d53da
     }
     Ok(())
 }
 
-<<<<<<< HEAD
-=======
 // Writes a term, whose variables in scope are counted modulo 2^64.
->>>>>>> 14f3ad5a847cd39909f360b5a079a257149d53da
 #[cycle(trees)]
 fn write_expression<K: Sink>(
     sink: &mut K,
@@ -258,22 +235,11 @@ fn write_term_fields<K: Sink>(
     ensures { Wrote (K.told sink.old) (K.told sink.new) (counted_term_row types terms (term_row fields.now)) result }
 {
     for field in fields.items() {
-<<<<<<< HEAD
-        write_two(
-            sink,
-            b" (",
-            Piece::Label(&field.0),
-            Piece::Term(types, terms, &field.1),
-        )?;
-=======
         write_field(sink, &field.0, Piece::Term(types, terms, &field.1))?;
->>>>>>> 14f3ad5a847cd39909f360b5a079a257149d53da
     }
     Ok(())
 }
 
-<<<<<<< HEAD
-=======
 // Writes a field of a record, with a space before it.
 #[cycle(trees)]
 fn write_field<'x, K: Sink>(
@@ -286,7 +252,6 @@ fn write_field<'x, K: Sink>(
     write_two(sink, b" (", Piece::Label(label), part)
 }
 
->>>>>>> 14f3ad5a847cd39909f360b5a079a257149d53da
 // Writes a form of two parts.
 #[cycle(trees)]
 fn write_two<'x, K: Sink>(
@@ -394,25 +359,16 @@ pub fn write_omega<'x, K: Sink>(sink: &mut K, ty: &'x Ty, term: &'x Term) -> Res
     requires term { TermInScope 0 0 term.now }
     ensures { Wrote (K.told sink.old) (K.told sink.new) (omega_text ty.now term.now) result }
 {
-<<<<<<< HEAD
-=======
     let line_end = Piece::Bytes(b"\n");
     let text_end = Piece::Bytes(b"\n");
->>>>>>> 14f3ad5a847cd39909f360b5a079a257149d53da
     write_pieces(
         sink,
         &[
             Piece::Bytes(b"omega 1\n"),
             Piece::Ty(0, ty),
-<<<<<<< HEAD
-            Piece::Bytes(b"\n"),
-            Piece::Term(0, 0, term),
-            Piece::Bytes(b"\n"),
-=======
             line_end,
             Piece::Term(0, 0, term),
             text_end,
->>>>>>> 14f3ad5a847cd39909f360b5a079a257149d53da
         ],
     )
 }

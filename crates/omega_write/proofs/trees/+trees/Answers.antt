@@ -10,11 +10,7 @@ use Rattle.omega_write.specs.declared.trees.Piece.{Piece}
 use Rattle.omega_write.specs.Counted.{counted_row, counted_term_row}
 use Rattle.omega_write.specs.Pieces.{piece_text, pieces_text}
 use Rattle.omega_write.proofs.Sizes.{weight, ty_size, row_size, term_size, term_row_size}
-<<<<<<< HEAD
-use Rattle.omega_write.proofs.Loops.{wrote-err, pieces-text, weight-at, field_text, fields-text, field-size, term_field_text, term_fields-text, term_field-size}
-=======
 use Rattle.omega_write.proofs.Loops.{wrote-err, pieces-text, weight-at, ty_field_text, ty_fields-text, ty_field-size, term_field_text, term_fields-text, term_field-size}
->>>>>>> 14f3ad5a847cd39909f360b5a079a257149d53da
 use Rattle.omega_write.proofs.trees.+trees.Goals as goal
 
 pub write_pieces-returns : goal.write_pieces-returns
@@ -47,49 +43,28 @@ write_ty_fields-returns g t c =
     let xs = c.items-field-items.result.now in
     let a = g.K.Sink.told c.args.sink.now in
     let b = g.K.Sink.told c.loop-field.sink in
-<<<<<<< HEAD
-    let all = subst (λ (w : List ℕ). Grew a b w) (fields-text n xs) (grew-all (field_text n) xs c.loop-field.field-index a b c.loop-field-test.false c.loop-field.invariant) in
-    subst (λ (ys : Pairs). Grew a b (counted_row n (row ys))) c.items-field-items.ensures.value all
-
-pub write_ty_fields-write_two-requires : goal.write_ty_fields-write_two-requires
-write_ty_fields-write_two-requires g t c κs within =
-=======
     let all = subst (λ (w : List ℕ). Grew a b w) (ty_fields-text n xs) (grew-all (ty_field_text n) xs c.loop-field.field-index a b c.loop-field-test.false c.loop-field.invariant) in
     subst (λ (ys : Pairs). Grew a b (counted_row n (row ys))) c.items-field-items.ensures.value all
 
 pub write_ty_fields-write_field-requires : goal.write_ty_fields-write_field-requires
 write_ty_fields-write_field-requires g t c κs within =
->>>>>>> 14f3ad5a847cd39909f360b5a079a257149d53da
     let xs = c.items-field-items.result.now in
     let i = c.loop-field.field-index in
     let d = c.field-item.result in
     let here = c.loop-field-test.true in
-<<<<<<< HEAD
-    (omega (arith, field-size xs i d here, ap (λ (ys : Pairs). row_size (row ys)) c.items-field-items.ensures.value, ap (λ (x : Label × Ty). ty_size x.1) c.field-item.is, c.decreases), within)
-
-pub write_ty_fields-returns-in_err-write_two : goal.write_ty_fields-returns-in_err-write_two
-write_ty_fields-returns-in_err-write_two g t c =
-=======
     (omega (arith, ty_field-size xs i d here, ap (λ (ys : Pairs). row_size (row ys)) c.items-field-items.ensures.value, ap (λ (x : Label × Ty). ty_size x.1) c.field-item.is, c.decreases), within)
 
 pub write_ty_fields-returns-in_err-write_field : goal.write_ty_fields-returns-in_err-write_field
 write_ty_fields-returns-in_err-write_field g t c =
->>>>>>> 14f3ad5a847cd39909f360b5a079a257149d53da
     let n = c.args.types in
     let xs = c.items-field-items.result.now in
     let i = c.loop-field.field-index in
     let d = c.field-item.result in
     let a = g.K.Sink.told c.args.sink.now in
     let b = g.K.Sink.told c.loop-field.sink in
-<<<<<<< HEAD
-    let e = g.K.Sink.told c.write_two.new.sink in
-    let broke = subst (λ (x : Label × Ty). Broke b e (field_text n x)) c.field-item.is c.in_err-write_two.ensures in
-    let all = subst (λ (w : List ℕ). Broke a e w) (fields-text n xs) (broke-next (field_text n) xs i d a b e c.loop-field-test.true c.loop-field.invariant broke) in
-=======
     let e = g.K.Sink.told c.write_field.new.sink in
     let broke = subst (λ (x : Label × Ty). Broke b e (ty_field_text n x)) c.field-item.is c.in_err-write_field.ensures in
     let all = subst (λ (w : List ℕ). Broke a e w) (ty_fields-text n xs) (broke-next (ty_field_text n) xs i d a b e c.loop-field-test.true c.loop-field.invariant broke) in
->>>>>>> 14f3ad5a847cd39909f360b5a079a257149d53da
     wrote-err a e (counted_row n (row c.args.fields.now)) c.from_residual.result c.from_residual.ensures.0 (subst (λ (ys : Pairs). Broke a e (counted_row n (row ys))) c.items-field-items.ensures.value all)
 
 pub write_term_fields-returns : goal.write_term_fields-returns
@@ -102,26 +77,16 @@ write_term_fields-returns g t c =
     let all = subst (λ (w : List ℕ). Grew a b w) (term_fields-text n m xs) (grew-all (term_field_text n m) xs c.loop-field.field-index a b c.loop-field-test.false c.loop-field.invariant) in
     subst (λ (ys : TermPairs). Grew a b (counted_term_row n m (term_row ys))) c.items-field-items.ensures.value all
 
-<<<<<<< HEAD
-pub write_term_fields-write_two-requires : goal.write_term_fields-write_two-requires
-write_term_fields-write_two-requires g t c κs within =
-=======
 pub write_term_fields-write_field-requires : goal.write_term_fields-write_field-requires
 write_term_fields-write_field-requires g t c κs within =
->>>>>>> 14f3ad5a847cd39909f360b5a079a257149d53da
     let xs = c.items-field-items.result.now in
     let i = c.loop-field.field-index in
     let d = c.field-item.result in
     let here = c.loop-field-test.true in
     (omega (arith, term_field-size xs i d here, ap (λ (ys : TermPairs). term_row_size (term_row ys)) c.items-field-items.ensures.value, ap (λ (x : Label × Term). term_size x.1) c.field-item.is, c.decreases), within)
 
-<<<<<<< HEAD
-pub write_term_fields-returns-in_err-write_two : goal.write_term_fields-returns-in_err-write_two
-write_term_fields-returns-in_err-write_two g t c =
-=======
 pub write_term_fields-returns-in_err-write_field : goal.write_term_fields-returns-in_err-write_field
 write_term_fields-returns-in_err-write_field g t c =
->>>>>>> 14f3ad5a847cd39909f360b5a079a257149d53da
     let n = c.args.types in
     let m = c.args.terms in
     let xs = c.items-field-items.result.now in
@@ -129,12 +94,7 @@ write_term_fields-returns-in_err-write_field g t c =
     let d = c.field-item.result in
     let a = g.K.Sink.told c.args.sink.now in
     let b = g.K.Sink.told c.loop-field.sink in
-<<<<<<< HEAD
-    let e = g.K.Sink.told c.write_two.new.sink in
-    let broke = subst (λ (x : Label × Term). Broke b e (term_field_text n m x)) c.field-item.is c.in_err-write_two.ensures in
-=======
     let e = g.K.Sink.told c.write_field.new.sink in
     let broke = subst (λ (x : Label × Term). Broke b e (term_field_text n m x)) c.field-item.is c.in_err-write_field.ensures in
->>>>>>> 14f3ad5a847cd39909f360b5a079a257149d53da
     let all = subst (λ (w : List ℕ). Broke a e w) (term_fields-text n m xs) (broke-next (term_field_text n m) xs i d a b e c.loop-field-test.true c.loop-field.invariant broke) in
     wrote-err a e (counted_term_row n m (term_row c.args.fields.now)) c.from_residual.result c.from_residual.ensures.0 (subst (λ (ys : TermPairs). Broke a e (counted_term_row n m (term_row ys))) c.items-field-items.ensures.value all)

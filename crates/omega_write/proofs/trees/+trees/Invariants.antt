@@ -6,11 +6,7 @@ use Rattle.omega_types.specs.Fields.{row}
 use Rattle.omega_terms.specs.Fields.{term_row}
 use Rattle.omega_write.specs.Pieces.{piece_text}
 use Rattle.omega_write.proofs.Sizes.{kind_size, ty_size, row_size, term_size, term_row_size, weight, weights}
-<<<<<<< HEAD
-use Rattle.omega_write.proofs.Loops.{field_text, term_field_text}
-=======
 use Rattle.omega_write.proofs.Loops.{ty_field_text, term_field_text}
->>>>>>> 14f3ad5a847cd39909f360b5a079a257149d53da
 use Rattle.omega_write.proofs.trees.+trees.Given as goal
 
 abbrev pub decreases-write_kind : goal.decreases-write_kind
@@ -28,12 +24,9 @@ decreases-write_expression g l = 6 * term_size l.term.now
 abbrev pub decreases-write_term_fields : goal.decreases-write_term_fields
 decreases-write_term_fields g l = 6 * term_row_size (term_row l.fields.now)
 
-<<<<<<< HEAD
-=======
 abbrev pub decreases-write_field : goal.decreases-write_field
 decreases-write_field g l = weight l.part + 3
 
->>>>>>> 14f3ad5a847cd39909f360b5a079a257149d53da
 abbrev pub decreases-write_two : goal.decreases-write_two
 decreases-write_two g l = weight l.first + weight l.second + 2
 
@@ -48,11 +41,7 @@ decreases-write_piece g l = weight l.piece.now
 
 abbrev pub invariant-write_ty_fields-loop-field : goal.invariant-write_ty_fields-loop-field
 invariant-write_ty_fields-loop-field g l =
-<<<<<<< HEAD
-    Grew (g.K.Sink.told l.initial.sink) (g.K.Sink.told l.sink) (flat_map (field_text l.types) (take l.field-index l.field-items))
-=======
     Grew (g.K.Sink.told l.initial.sink) (g.K.Sink.told l.sink) (flat_map (ty_field_text l.types) (take l.field-index l.field-items))
->>>>>>> 14f3ad5a847cd39909f360b5a079a257149d53da
 
 abbrev pub invariant-write_term_fields-loop-field : goal.invariant-write_term_fields-loop-field
 invariant-write_term_fields-loop-field g l =
