@@ -1,10 +1,9 @@
 -- What is read from the front of some tokens is spelled there, and what is spelled there is read.
-use Rattle.std.proofs.Common.{◌≡◌, ◌<◌, length, arith, List, [], ◌∷◌, ◌++◌, Bool, true, false, Option, Some, None, refl, sym, ap, subst, ◌∙◌, append_assoc}
+use Rattle.std.proofs.Common.{◌≡◌, ◌<◌, length, arith, List, [], ◌∷◌, ◌++◌, Bool, true, false, Option, Some, None, refl, sym, ap, subst, ◌∙◌}
 use Rattle.std.specs.Prelude.{if◌then◌else◌, ◌&&◌}
 use Rattle.std.proofs.lemmas.Bool.{false≢true, and_parts}
 use Rattle.std.proofs.lemmas.List.{length-append}
 use Rattle.omega_kinds.specs.Name.{Name}
-use Rattle.fing_text.specs.declared.span.Span.{Span}
 use Rattle.fing_lexer.specs.declared.token.Token.{Token}
 use Rattle.fing_lexer.specs.declared.token.What.{What}
 use Rattle.fing_lexer.specs.declared.token.What.TheVariants as what
@@ -126,6 +125,7 @@ sum_read (t ∷ ts) left s e = by_first (operand_of t.what t.span) refl e
     by_others o i (Some r) g f =
         let P : Sum × List Token → Type 0 = λ x. SumSpelled (t ∷ ts) (x.0.first ∷ x.0.others) x.1 in
         subst P (some_is (record { first = o; others = r.0 }, r.1) (s, left) f) (others_sound t o ts r.0 r.1 i g)
+
     by_first : (got : Option Operand) → operand_of t.what t.span ≡ got → (behind got ts >>= then_summed) ≡ Some (s, left) → SumSpelled (t ∷ ts) (s.first ∷ s.others) left
     by_first None g f = absurd (none_is (s, left) f)
     by_first (Some o) g f = by_others o (is_operand t t.what o refl g) (others_at ts) refl f
@@ -150,10 +150,14 @@ others_complete : (front : List Token) (o : Operand) (os : List Operand) (left :
 others_complete _ _ _ left (IsSum.one {t = t} i) n = (t, [], refl, i, others_none left n)
 others_complete _ _ _ left (IsSum.more {t = t} {plus = plus} {ts = ts} {o = o} {os = []} i p s) n = absurd (some_operand s refl)
 others_complete _ _ _ left (IsSum.more {t = t} {plus = plus} {ts = ts} {o = o} {os = q ∷ qs} i p s) n =
-    let x = others_complete ts q qs left s n in
-    (t, plus ∷ ts, refl, i,
-        others_step plus (ts ++ left) ∙ ap (λ (w : What). if is_plus w then then_others (operand_at (ts ++ left)) else Some ([], plus ∷ (ts ++ left))) p
-        ∙ ap (λ (us : List Token). then_others (operand_at (us ++ left))) x.2 ∙ ap (λ (g : Option Operand). then_others (behind g (x.1 ++ left))) (operand_is x.3) ∙ ap (with_front (q ∷ [])) x.4)
+    let x = others_complete ts q qs left s n in (
+      t,
+      plus ∷ ts,
+      refl,
+      i,
+      others_step plus (ts ++ left) ∙ ap (λ (w : What). if is_plus w then then_others (operand_at (ts ++ left)) else Some ([], plus ∷ (ts ++ left))) p
+          ∙ ap (λ (us : List Token). then_others (operand_at (us ++ left))) x.2 ∙ ap (λ (g : Option Operand). then_others (behind g (x.1 ++ left))) (operand_is x.3) ∙ ap (with_front (q ∷ [])) x.4,
+    )
 
 pub sum_complete : (s : Sum) (front left : List Token) → IsSum front (s.first ∷ s.others) → NoPlus left → sum_at (front ++ left) ≡ Some (s, left)
 unfolding sum_at
@@ -197,9 +201,11 @@ bind_read (v ∷ x ∷ q ∷ ts) left b e = by_name (ident_of x.what) refl e
         let both = and_parts (is_val v.what) (is_equal q.what) h in
         let P : Bind × List Token → Type 0 = λ p. BindSpelled (v ∷ x ∷ q ∷ ts) p.0 p.1 in
         subst P (some_is (record { name = name; sum = s.0 }, s.1) (b, left) f) (made v x q ts s.1 name s.0 both.0 both.1 (ident_is x.what name g) (sum_read ts s.1 s.0 i))
+
     by_marks : (name : Name) → ident_of x.what ≡ Some name → (c : Bool) → (is_val v.what && is_equal q.what) ≡ c → bind_if c (sum_at ts) name ≡ Some (b, left) → BindSpelled (v ∷ x ∷ q ∷ ts) b left
     by_marks name g false h f = absurd (none_is (b, left) f)
     by_marks name g true h f = by_sum name g h (sum_at ts) refl f
+
     by_name : (got : Option Name) → ident_of x.what ≡ got → (got >>= bind_if (is_val v.what && is_equal q.what) (sum_at ts)) ≡ Some (b, left) → BindSpelled (v ∷ x ∷ q ∷ ts) b left
     by_name None g f = absurd (none_is (b, left) f)
     by_name (Some name) g f = by_marks name g (is_val v.what && is_equal q.what) refl f

@@ -1,16 +1,14 @@
 -- Refusals of tokens as refusals of the bytes whose tokens they are.
-use Rattle.std.proofs.Common.{◌≡◌, ◌<◌, ◌≤◌, ℕ, List, length, Result, sym, subst, ◌∙◌, ap, arith, ◌⊎◌, inl, inr, refl}
-use Rattle.std.proofs.lemmas.Result.{err_from_is_err_and}
+use Rattle.std.proofs.Common.{◌≡◌, ◌<◌, ℕ, List, length, Result, sym, subst, ◌∙◌, ap, arith, ◌⊎◌, inl, inr}
 use Rattle.std.specs.Prelude.{IfErr, Err, Ok, MatchResult}
 use Rattle.fing_lexer.specs.declared.token.Token.{Token}
 use Rattle.fing_lexer.specs.declared.lexer.LexRefusal.{LexRefusal}
 use Rattle.fing_lexer.specs.declared.lexer.LexRefusal.TheVariants as lex
 use Rattle.fing_lexer.specs.Tokens.{TokensOf, RefusalOf, Outcome, Good, Bad}
 use Rattle.fing_lexer.proofs.Laws.{has_one_outcome}
-use Rattle.fing_elab.specs.declared.first.program.Bind.{Bind}
 use Rattle.fing_elab.specs.declared.first.refusal.Refused.{Refused}
 use Rattle.fing_elab.specs.declared.first.refusal.Refused.TheVariants.{Later, Unbound, Mem}
-use Rattle.fing_elab.specs.Bindings.{AreBindings, IsOther, Spells}
+use Rattle.fing_elab.specs.Bindings.{AreBindings, IsOther}
 use Rattle.fing_elab.specs.Reading.{Refuses, ParseRefuses, lexical}
 
 tokens_in : List Token → Outcome → List Token

@@ -1,5 +1,5 @@
 -- What elaboration gives is closed, and its variables' levels are numbers of 64 bits.
-use Rattle.std.proofs.Common.{◌≡◌, ℕ, zero, suc, ◌+◌, ◌-◌, ◌<◌, ◌^◌, List, [], ◌∷◌, length, refl, sym, ap, subst, arith}
+use Rattle.std.proofs.Common.{◌≡◌, ℕ, ◌+◌, ◌<◌, ◌^◌, List, [], ◌∷◌, length, sym, subst, arith}
 use Rattle.std.specs.Prelude.{map}
 use Rattle.omega_kinds.specs.Name.{Name}
 use Rattle.omega_types.specs.Ty.{Ty}
@@ -9,7 +9,7 @@ use Rattle.omega_terms.specs.Fields.{term_row}
 use Rattle.omega_terms.specs.InScope.{IndexInScope, TyInScope, RowInScope, TermInScope, TermRowInScope}
 use Rattle.fing_elab.specs.declared.first.program.Operand.{Operand}
 use Rattle.fing_elab.specs.declared.first.program.Bind.{Bind}
-use Rattle.fing_elab.specs.BindingRules.{Finds, OperandGives, AddedGives, SumGives, Field, HasField, Gives, int_part, type_field, term_field}
+use Rattle.fing_elab.specs.BindingRules.{Finds, OperandGives, AddedGives, Field, HasField, Gives, type_field, term_field}
 use Rattle.fing_elab.specs.Elaborating.{lets}
 use Rattle.fing_elab.proofs.ElabSteps.{Binding}
 

@@ -6,3 +6,4 @@ pub mod EnvLaws
 pub mod ElabSteps
 pub mod StructureSteps
 pub mod Closed
+pub mod OneMeaning

@@ -10,7 +10,7 @@ use Rattle.fing_elab.specs.declared.first.refusal.Refused.TheVariants.{Later, Un
 use Rattle.fing_elab.proofs.BindingReading.{some_is, none_is, bind_sound, bind_complete}
 
 -- no bindings have no tokens
-no_tokens : {ts : List Token} → AreBindings ts [] → ts ≡ []
+pub no_tokens : {ts : List Token} → AreBindings ts [] → ts ≡ []
 no_tokens AreBindings.none = refl
 
 -- these bindings were read from the front of the tokens, and the others are left
@@ -21,7 +21,7 @@ pub record Behind (tokens : List Token) (program : List Bind) (left : List Token
 pub behind_none : (tokens : List Token) → Behind tokens [] tokens
 behind_none tokens = record { sound = λ bs r. r; complete = λ all r. (all, r, refl) }
 
-nothing_read : (b : Bind) (left : List Token) → bind_at [] ≡ Some (b, left) → ⊥
+pub nothing_read : (b : Bind) (left : List Token) → bind_at [] ≡ Some (b, left) → ⊥
 unfolding bind_at
 nothing_read b left e = none_is (b, left) e
 
@@ -53,4 +53,3 @@ pub program_stops : (e : Refused) (tokens ts : List Token) (program : List Bind)
 program_stops Later tokens ts program h n s = behind_stops tokens ts program h n s
 program_stops (Unbound at name) tokens ts program h n s = s
 program_stops Mem tokens ts program h n s = tt
-

@@ -1,11 +1,9 @@
 -- The fields of a structure, one after the other.
-use Rattle.std.proofs.Common.{◌≡◌, ℕ, zero, suc, ◌+◌, ◌<◌, ◌≤◌, List, [], ◌∷◌, ◌++◌, length, take, get_or, refl, sym, ap, subst, ◌∙◌, arith}
+use Rattle.std.proofs.Common.{◌≡◌, ℕ, zero, suc, ◌<◌, ◌≤◌, List, [], ◌∷◌, length, take, get_or, sym, ap, subst, ◌∙◌, arith}
 use Rattle.std.specs.Prelude.{map}
 use Rattle.std.proofs.lemmas.List.{take_all}
-use Rattle.std.specs.Ordering.{nat_cmp, is_lt, ordering_then}
 use Rattle.omega_kinds.specs.Name.{Name}
 use Rattle.omega_kinds.specs.declared.label.Label.{Label}
-use Rattle.omega_kinds.specs.LabelOrder.{LabelBefore}
 use Rattle.omega_types.specs.Ty.{Ty}
 use Rattle.omega_types.specs.Fields.{row, MayFollow}
 use Rattle.omega_terms.specs.Term.{Term}

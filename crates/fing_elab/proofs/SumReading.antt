@@ -2,9 +2,7 @@
 use Rattle.std.proofs.Common.{◌≡◌, List, [], ◌∷◌, ◌++◌, Bool, true, false, Option, Some, None, refl, sym, ap, ◌∙◌, append_assoc}
 use Rattle.std.specs.Prelude.{if◌then◌else◌}
 use Rattle.std.proofs.lemmas.Bool.{false≢true}
-use Rattle.fing_text.specs.declared.span.Span.{Span}
 use Rattle.fing_lexer.specs.declared.token.Token.{Token}
-use Rattle.fing_lexer.specs.declared.token.What.{What}
 use Rattle.fing_elab.specs.declared.first.program.Operand.{Operand}
 use Rattle.fing_elab.specs.Reading.{◌>>=◌, operand_of, operand_at, plus_at, others_at, with_front, is_plus, Stops}
 use Rattle.fing_elab.specs.declared.first.refusal.Refused.{Refused}

@@ -1,7 +1,7 @@
 -- What number bindings mean: the rules for expressions, bindings and structures, on the forms that are built
 -- (Rossberg, Russo and Dreyer, "F-ing modules", section 4).
 -- An environment lists the names that are bound, the innermost first; each stands for a term variable of type [int].
-use Rattle.std.specs.Prelude.{◌≡◌, ◌≢◌, ℕ, zero, suc, ℤ, List, [], ◌∷◌, IsTrue, map}
+use Rattle.std.specs.Prelude.{◌≢◌, ℕ, zero, suc, ℤ, List, [], ◌∷◌, IsTrue, map}
 use Rattle.fing_text.specs.declared.span.Span.{Span}
 use Rattle.omega_kinds.specs.Name.{Name}
 use Rattle.omega_kinds.specs.LabelOrder.{name_before}

@@ -2,7 +2,6 @@
 use Rattle.std.specs.Prelude.{◌≡◌, ℕ, ℤ, ◌≤◌, List, [], ◌∷◌, ◌++◌, length}
 use Rattle.omega_kinds.specs.Name.{Name}
 use Rattle.fing_lexer.specs.declared.token.Token.{Token}
-use Rattle.fing_lexer.specs.declared.token.What.{What}
 use Rattle.fing_lexer.specs.declared.token.What.TheVariants as what
 use Rattle.fing_lexer.specs.declared.token.Word.TheVariants.{KwVal}
 use Rattle.fing_lexer.specs.declared.token.Mark.TheVariants.{Plus, Equal}

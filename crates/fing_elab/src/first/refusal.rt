@@ -2,8 +2,8 @@
 ghost use Rattle.fing_text.specs.Writes.{Wrote};
 ghost use Rattle.fing_elab.specs.RefusalLine.{refusal_line, unbound_line, HasLine};
 
-use fing_text::{Sink, Span, WriteFault, put, put_all};
 use fing_lexer::LexRefusal;
+use fing_text::{Sink, Span, WriteFault, put, put_all};
 use itoa::Buffer;
 use omega_kinds::{Mem, Name};
 use std::alloc::AllocFailed;

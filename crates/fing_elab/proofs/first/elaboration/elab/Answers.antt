@@ -1,4 +1,4 @@
-use Rattle.std.proofs.Common.{◌≡◌, ◌∙◌, ℕ, ◌+◌, ◌<◌, ◌^◌, sym, ap, subst, List, [], ◌∷◌, ◌++◌, Result, IfErr, length, drop, arith}
+use Rattle.std.proofs.Common.{◌+◌, ◌<◌, ◌^◌, sym, ap, subst, List, [], ◌∷◌, ◌++◌, Result, IfErr, length, drop, arith}
 use Rattle.std.proofs.lemmas.Result.{err_from_is_err_and}
 use Rattle.omega_kinds.specs.Name.{Name}
 use Rattle.omega_terms.specs.Term.{Term}

@@ -1,4 +1,4 @@
-use Rattle.std.proofs.Common.{◌≡◌, ◌∙◌, sym, ap, List, [], ◌∷◌, ◌++◌}
+use Rattle.std.proofs.Common.{◌∙◌, sym, ap, List}
 use Rattle.omega_terms.specs.Term.{Term}
 use Rattle.fing_elab.specs.Elaborating.{lets}
 use Rattle.fing_elab.proofs.ElabSteps.{lets-append}

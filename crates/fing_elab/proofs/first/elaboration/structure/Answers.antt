@@ -1,11 +1,5 @@
-use Rattle.std.proofs.Common.{◌≡◌, ◌∙◌, sym, ap, subst, List, ℕ, take}
-use Rattle.std.specs.Prelude.{map}
-use Rattle.omega_kinds.specs.Name.{Name}
-use Rattle.omega_kinds.specs.declared.label.Label.{Label}
-use Rattle.omega_types.specs.Ty.{Ty}
-use Rattle.omega_types.specs.Fields.{MayFollow}
 use Rattle.omega_terms.specs.Term.{Term}
-use Rattle.fing_elab.specs.BindingRules.{Field, FieldsOf, Gives, NamesRise, int_part, type_field, term_field}
+use Rattle.fing_elab.specs.BindingRules.{int_part}
 use Rattle.fing_elab.proofs.StructureSteps.{follows, structure_gives}
 use Rattle.fing_elab.proofs.first.elaboration.structure.Goals as goal
 

@@ -1,4 +1,4 @@
-use Rattle.std.proofs.Common.{◌≡◌, sym, ap, subst, ◌∙◌, List, [], ◌∷◌, Result, MatchResult, length, drop, ◌+◌}
+use Rattle.std.proofs.Common.{sym, subst, List, ◌∷◌, Result, MatchResult, drop, ◌+◌}
 use Rattle.std.proofs.lemmas.Result.{err_from_is_err_and}
 use Rattle.omega_terms.specs.Term.{Term}
 use Rattle.fing_elab.specs.declared.first.program.Operand.{Operand}

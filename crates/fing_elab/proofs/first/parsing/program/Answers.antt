@@ -1,4 +1,4 @@
-use Rattle.std.proofs.Common.{◌≡◌, ◌∙◌, sym, ap, subst, List, [], Bool, true, false, Result, MatchResult}
+use Rattle.std.proofs.Common.{◌∙◌, sym, subst, List, Result, MatchResult}
 use Rattle.std.proofs.lemmas.Bool.{false≢true}
 use Rattle.std.proofs.lemmas.Result.{err_from_is_err_and}
 use Rattle.fing_elab.specs.declared.first.program.Bind.{Bind}

@@ -1,6 +1,5 @@
-use Rattle.std.proofs.Common.{◌≡◌, List, length, arith}
+use Rattle.std.proofs.Common.{◌≡◌, length, arith}
 use Rattle.std.proofs.lemmas.Result.{IfOk-weaker}
-use Rattle.fing_elab.specs.BindingRules.{Field, FieldsOf}
 use Rattle.fing_elab.proofs.EnvLaws.{kept_fields}
 use Rattle.fing_elab.proofs.first.env.Env.into_fields.Goals as goal
 

@@ -1,7 +1,6 @@
-use Rattle.std.proofs.Common.{◌≡◌, sym, ap, subst, ◌∙◌, Result, Bool, true, false, List, Option, None, Some}
+use Rattle.std.proofs.Common.{sym, ap, subst, ◌∙◌, Result, Bool, List, Some}
 use Rattle.std.proofs.lemmas.List.{append-nil}
 use Rattle.std.proofs.lemmas.Result.{err_from_is_err_and}
-use Rattle.fing_lexer.specs.declared.token.Token.{Token}
 use Rattle.fing_elab.specs.declared.first.program.Operand.{Operand}
 use Rattle.fing_elab.specs.Reading.{with_front, others_at, Stops, Gives}
 use Rattle.fing_elab.proofs.SumReading.{others_on, others_end, sum_stops}
