@@ -1,11 +1,11 @@
 -- What hereditary substitution does at each form of type, with indexes counted as the code counts them.
-use Rattle.std.proofs.Common.{◌≡◌, ℕ, zero, suc, ◌+◌, ◌-◌, ◌<◌, ◌≤◌, max, List, [], ◌∷◌, refl, sym, ap, ap₂, ◌∙◌, arith}
+use Rattle.std.proofs.Common.{◌≡◌, ℕ, zero, suc, ◌+◌, ◌-◌, ◌<◌, ◌≤◌, [], ◌∷◌, refl, sym, ap, ap₂, ◌∙◌, arith}
 use Rattle.omega_kinds.specs.Kind.{Kind}
 use Rattle.omega_types.specs.Ty.{Ty, Row}
 use Rattle.omega_types.specs.Bound.{bound_of, bound_row}
 use Rattle.omega_types.specs.Fields.{Pairs, row}
-use Rattle.omega_types.specs.Index.{shift, Slot, taken, kept, raised, slot}
-use Rattle.omega_types.specs.Normaliser.{Args, Part, stuck, whole, tree, apply_part, fill_part, put_in, put_in_row, args, hsubst}
+use Rattle.omega_types.specs.Index.{shift, taken, kept, raised, slot}
+use Rattle.omega_types.specs.Normaliser.{Args, stuck, whole, tree, apply_part, fill_part, put_in, put_in_row, args, hsubst}
 use Rattle.omega_types.specs.Substitution.{rename}
 use Rattle.omega_types.proofs.Single.{shift-zero}
 use Rattle.omega_types.proofs.Steps.{deeper, map_parts, may_follow-at}

@@ -1,5 +1,5 @@
 -- The test for an index agrees with the relation, and is false from the bound on.
-use Rattle.std.proofs.Common.{◌≡◌, ◌↔◌, ◌⊎◌, inl, inr, ℕ, suc, ◌+◌, ◌-◌, ◌≤◌, ◌==◌, max, Bool as Truth, true, false, ◌||◌, IsTrue, refl, sym, ap, ◌∙◌, subst, arith}
+use Rattle.std.proofs.Common.{◌≡◌, ◌⊎◌, inl, inr, ℕ, suc, ◌+◌, ◌≤◌, ◌==◌, Bool as Truth, true, false, ◌||◌, refl, ap, subst, arith}
 use Rattle.std.proofs.lemmas.Bool.Decides.{nat_tests}
 use Rattle.omega_types.specs.Ty.{Ty, Row}
 use Rattle.omega_types.specs.Bound.{bound_of, bound_row}

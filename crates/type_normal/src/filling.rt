@@ -31,13 +31,7 @@ pub fn hsubst(
     ensures value { IfOk result (λ t. t ≡ hsubst (kind_tree kind.now) index arg.now body.now) }
     ensures normal { IfOk result (λ t. (ctx more : List KindTree) (l : KindTree) → Inserts (kind_tree kind.now) index ctx more → Normal ctx arg.now (kind_tree kind.now) → Normal more body.now l → NormalForm ctx (substitute_at index arg.now body.now) l t) }
 {
-    Ok(as_normal(fill_whole(
-        alloc,
-        plain(body),
-        index,
-        plain(arg),
-        kind,
-    )?))
+    Ok(as_normal(fill_whole(alloc, plain(body), index, plain(arg), kind)?))
 }
 
 /// The hereditary substitution of any type for a variable of a kind, as the definitions have it.
@@ -132,14 +126,7 @@ fn fill_var(
 // The type that a part becomes.
 #[cycle(fill)]
 #[tactic(auto, using(crate::proofs::FillSteps::fill_steps))]
-fn fill(
-    alloc: Global,
-    body: &Ty,
-    at: u64,
-    depth: u64,
-    arg: &Ty,
-    kind: &Kind,
-) -> Result<Ty, Mem>
+fn fill(alloc: Global, body: &Ty, at: u64, depth: u64, arg: &Ty, kind: &Kind) -> Result<Ty, Mem>
     ensures { IfOk result (λ t. t ≡ tree (put_in (kind_tree kind.now) (args (kind_tree kind.now)) at (shift depth 0 arg.now) body.now)) }
 {
     match fill_head(alloc, body, at, depth, arg, kind)? {

@@ -10,6 +10,8 @@ pub mod lowering;
 pub mod mentioning;
 pub mod normal_ty;
 pub mod normalising;
+#[cfg(test)]
+mod tests;
 
 pub use comparing::same;
 pub use filling::hsubst;

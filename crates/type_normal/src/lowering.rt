@@ -36,7 +36,10 @@ fn lower_ty(alloc: Global, ty: &Ty, by: u64, from: u64) -> Result<Ty, Mem>
     }
     match ty.node() {
         TyNode::Var(index) => {
-            Ty::make(alloc, TyNode::Var(from + (*index - from).saturating_sub(by)))
+            Ty::make(
+                alloc,
+                TyNode::Var(from + (*index - from).saturating_sub(by)),
+            )
         }
         TyNode::Int | TyNode::Bool | TyNode::Text => ty.share(),
         TyNode::Arrow(a, b) => {

@@ -108,12 +108,7 @@ fn normalise(alloc: Global, scope: &mut Vec<Kind>, ty: &Ty) -> Result<Ty, Mem>
 // The normal form of the body of a binder.
 #[cycle(normalise)]
 #[tactic(auto, using(crate::proofs::NormalSteps::normal_steps))]
-fn normalise_under(
-    alloc: Global,
-    scope: &mut Vec<Kind>,
-    body: &Ty,
-    kind: &Kind,
-) -> Result<Ty, Mem>
+fn normalise_under(alloc: Global, scope: &mut Vec<Kind>, body: &Ty, kind: &Kind) -> Result<Ty, Mem>
     ensures kept { OnOk result (scope_of scope.new.items ≡ scope_of scope.old.items) }
     ensures value { IfOk result (λ n. n ≡ normal (kind_tree kind.now ∷ scope_of scope.old.items) body.now) }
 {

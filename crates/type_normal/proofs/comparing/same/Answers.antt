@@ -1,4 +1,4 @@
-use Rattle.std.proofs.Common.{◌≡◌, ◌↔◌, IsTrue, sym, ◌∙◌}
+use Rattle.std.proofs.Common.{sym, ◌∙◌}
 use Rattle.type_normal.proofs.Claims.{same-converts}
 use Rattle.type_normal.proofs.comparing.same.Goals as goal
 

@@ -1,5 +1,4 @@
 use Rattle.std.proofs.Common.{◌≡◌, ◌≤◌, take, drop}
-use Rattle.omega_types.specs.Fields.{row}
 use Rattle.omega_types.specs.Normaliser.{normal}
 use Rattle.omega_types.specs.Scope.{scope_of}
 use Rattle.omega_types.specs.Size.{nodes_pairs}

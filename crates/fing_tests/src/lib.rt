@@ -1,0 +1,13 @@
+// Tests that cross crates: the whole program on known sources and sinks, and calls that can want memory with ample
+// memory. Stands on all crates. Proved: that no test reads out of bounds or overflows. What they assert is tested
+// alone.
+#![tactic(auto)]
+
+#[cfg(test)]
+mod ample;
+#[cfg(test)]
+mod emit;
+#[cfg(test)]
+mod faults;
+#[cfg(test)]
+mod runs;

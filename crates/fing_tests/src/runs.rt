@@ -1,0 +1,37 @@
+// Runs of the program in memory.
+use fing_text::{MemSink, MemSource};
+use fing_top::{Status, fing};
+use std::alloc::Global;
+use std::test::Fail;
+
+/// What the program answers, and what it writes.
+#[derive(Debug, Drop)]
+pub struct Answer {
+    pub status: Status,
+    pub written: Vec<u8>,
+}
+
+/// The program's answer to the words, a source and a sink.
+pub fn answer(
+    alloc: Global,
+    words: &[&str],
+    mut source: MemSource,
+    mut sink: MemSink,
+) -> Result<Answer, Fail> {
+    let mut line = Vec::new(alloc);
+    for word in words {
+        line.push(word.to_string(alloc)?)?;
+    }
+    let status = fing(alloc, &line, &mut source, &mut sink);
+    Ok(Answer {
+        status,
+        written: sink.bytes().to_vec(alloc)?,
+    })
+}
+
+/// The answer of `emit` to a source in one piece, with room for the reply.
+pub fn emitted(alloc: Global, source: &[u8]) -> Result<Answer, Fail> {
+    let source = MemSource::new(source.to_vec(alloc)?, 4096, Vec::new(alloc));
+    let sink = MemSink::new(alloc, 65536, 4096, Vec::new(alloc))?;
+    answer(alloc, &["emit"], source, sink)
+}
