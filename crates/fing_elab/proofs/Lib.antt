@@ -7,3 +7,4 @@ pub mod ElabSteps
 pub mod StructureSteps
 pub mod Closed
 pub mod OneMeaning
+pub mod Examples

@@ -4,3 +4,4 @@ pub mod Levels
 pub mod Elaborating
 pub mod Reading
 pub mod RefusalLine
+pub mod Example

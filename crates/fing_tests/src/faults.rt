@@ -1,5 +1,5 @@
 // Words, lengths, failing sources and failing sinks.
-use crate::runs::answer;
+use crate::runs::run;
 use fing_text::{MemSink, MemSource, Sink, Source, StdSink, StdSource};
 use fing_top::Status;
 use std::alloc::Global;
@@ -25,7 +25,7 @@ fn other_words(rt: HostRuntime) -> Result<(), Fail> {
         &["Emit"],
     ];
     for words in lines {
-        let found = answer(rt.alloc(), words, sum(rt.alloc())?, sink(rt.alloc())?)?;
+        let found = run(rt.alloc(), words, sum(rt.alloc())?, sink(rt.alloc())?)?;
         assert_eq!(rt; found.status, Status::Words);
         assert!(rt; found.written.is_empty());
     }
@@ -36,13 +36,13 @@ fn other_words(rt: HostRuntime) -> Result<(), Fail> {
 fn lengths(rt: HostRuntime) -> Result<(), Fail> {
     let long = vec![in rt.alloc(); b' '; 1048577]?;
     let source = MemSource::new(long, 4096, Vec::new(rt.alloc()));
-    let found = answer(rt.alloc(), &["emit"], source, sink(rt.alloc())?)?;
+    let found = run(rt.alloc(), &["emit"], source, sink(rt.alloc())?)?;
     assert_eq!(rt; found.status, Status::TooLong);
     assert!(rt; found.written.is_empty());
 
     let whole = vec![in rt.alloc(); b' '; 1048576]?;
     let source = MemSource::new(whole, 4096, Vec::new(rt.alloc()));
-    let found = answer(rt.alloc(), &["emit"], source, sink(rt.alloc())?)?;
+    let found = run(rt.alloc(), &["emit"], source, sink(rt.alloc())?)?;
     assert_eq!(rt; found.status, Status::Ok);
     assert!(rt; found.written.as_slice() == b"omega 1\n(rec)\n(rec)\n".as_slice());
     Ok(())
@@ -51,17 +51,17 @@ fn lengths(rt: HostRuntime) -> Result<(), Fail> {
 #[test]
 fn failing_calls(rt: HostRuntime) -> Result<(), Fail> {
     let source = MemSource::new(SUM.to_vec(rt.alloc())?, 4, [1].to_vec(rt.alloc())?);
-    let found = answer(rt.alloc(), &["emit"], source, sink(rt.alloc())?)?;
+    let found = run(rt.alloc(), &["emit"], source, sink(rt.alloc())?)?;
     assert_eq!(rt; found.status, Status::ReadFault);
     assert!(rt; found.written.is_empty());
 
     let fails = MemSink::new(rt.alloc(), 4096, 4096, [0].to_vec(rt.alloc())?)?;
-    let found = answer(rt.alloc(), &["emit"], sum(rt.alloc())?, fails)?;
+    let found = run(rt.alloc(), &["emit"], sum(rt.alloc())?, fails)?;
     assert_eq!(rt; found.status, Status::WriteFault);
     assert!(rt; found.written.is_empty());
 
     let small = MemSink::new(rt.alloc(), 9, 2, Vec::new(rt.alloc()))?;
-    let found = answer(rt.alloc(), &["emit"], sum(rt.alloc())?, small)?;
+    let found = run(rt.alloc(), &["emit"], sum(rt.alloc())?, small)?;
     assert_eq!(rt; found.status, Status::WriteFault);
     assert!(rt; found.written.as_slice() == b"omega 1\n(".as_slice());
     Ok(())

@@ -12,7 +12,7 @@ pub struct Answer {
 }
 
 /// The program's answer to the words, a source and a sink.
-pub fn answer(
+pub fn run(
     alloc: Global,
     words: &[&str],
     mut source: MemSource,
@@ -33,5 +33,5 @@ pub fn answer(
 pub fn emitted(alloc: Global, source: &[u8]) -> Result<Answer, Fail> {
     let source = MemSource::new(source.to_vec(alloc)?, 4096, Vec::new(alloc));
     let sink = MemSink::new(alloc, 65536, 4096, Vec::new(alloc))?;
-    answer(alloc, &["emit"], source, sink)
+    run(alloc, &["emit"], source, sink)
 }
