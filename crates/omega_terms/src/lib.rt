@@ -1,15 +1,26 @@
 // Terms of System Fω: shared trees with de Bruijn indexes, and what typing, values, steps, faults and texts of terms are.
-// Stands on omega_types.
-// Proved: the calls on shared trees; renaming and substitution keep types; typing with normal types is typing; each
-// coercion term is typed where its parts are.
+// Stands on omega_kinds and omega_types.
+// Proved: `shift_term`, `put_term` and `put_type` are the operations of the definitions, `is_value` decides values and
+// `nodes` counts; renaming and substitution keep types; typing with normal types is typing; each coercion term is typed
+// where its parts are.
 #![tactic(auto)]
 
+pub mod counting;
 pub mod op;
+pub mod putting_terms;
+pub mod putting_types;
+pub mod shifting;
 #[cfg(test)]
 mod tests;
 pub mod theory;
 pub mod tree;
+pub mod values;
 
+pub use counting::nodes;
 pub use op::Op;
+pub use putting_terms::put_term;
+pub use putting_types::put_type;
+pub use shifting::shift_term;
 pub use theory::{coercion_rows, typing};
 pub use tree::{Term, TermFields, TermNode};
+pub use values::is_value;

@@ -1,7 +1,39 @@
-// Calls that may want memory, with ample memory.
+// Calls that may want memory, with ample memory, on worked examples.
 use crate::tree::{Term, TermFields, TermNode};
-use omega_kinds::{Label, name_of};
+use crate::{is_value, nodes, put_term, put_type, shift_term};
+use omega_kinds::{Label, Mem, name_of};
+use omega_types::{Ty, TyNode};
+use std::alloc::Global;
 use std::test::Fail;
+
+fn var(alloc: Global, index: u64) -> Result<Term, Mem> {
+    Term::make(alloc, TermNode::Var(index))
+}
+
+// (fn aT (call xF xA))
+fn caller(alloc: Global, ty: u64, function: u64, arg: u64) -> Result<Term, Mem> {
+    let call = TermNode::Call(var(alloc, function)?, var(alloc, arg)?);
+    let from = Ty::make(alloc, TyNode::Var(ty))?;
+    Term::make(alloc, TermNode::Lam(from, Term::make(alloc, call)?))
+}
+
+// The indexes in such a term, with none for the type where it is no variable.
+fn indexes(term: &Term) -> Option<(Option<u64>, u64, u64)> {
+    let TermNode::Lam(from, body) = term.node() else {
+        return None;
+    };
+    let TermNode::Call(function, arg) = body.node() else {
+        return None;
+    };
+    let ty = match from.node() {
+        TyNode::Var(index) => Some(*index),
+        _ => None,
+    };
+    match (function.node(), arg.node()) {
+        (TermNode::Var(i), TermNode::Var(j)) => Some((ty, *i, *j)),
+        _ => None,
+    }
+}
 
 #[test]
 fn a_record_is_made_and_shared(rt: HostRuntime) -> Result<(), Fail> {
@@ -12,5 +44,20 @@ fn a_record_is_made_and_shared(rt: HostRuntime) -> Result<(), Fail> {
     fields.push((Label::Name(name), Term::make(alloc, TermNode::Bool(true))?))?;
     let term = Term::make(alloc, TermNode::Fields(fields))?.share()?;
     assert!(rt; matches!(term.node(), TermNode::Fields(made) if made.items().len() == 2));
+    assert!(rt; is_value(&term));
+    assert!(rt; nodes(&term) == 3);
+    Ok(())
+}
+
+#[test]
+fn indexes_are_raised_and_filled(rt: HostRuntime) -> Result<(), Fail> {
+    let alloc = rt.alloc();
+    let term = caller(alloc, 0, 1, 2)?;
+    let raised = shift_term(alloc, &term, 2, 3)?;
+    assert!(rt; matches!(indexes(&raised), Some((Some(2), 4, 5))));
+    let filled = put_term(alloc, &term, 0, &var(alloc, 7)?)?;
+    assert!(rt; matches!(indexes(&filled), Some((Some(0), 8, 1))));
+    let typed = put_type(alloc, &term, 0, &Ty::make(alloc, TyNode::Int)?)?;
+    assert!(rt; matches!(indexes(&typed), Some((None, 1, 2))));
     Ok(())
 }

@@ -2,11 +2,12 @@
 ghost use Rattle.std.specs.Prelude.{◌≡◌, ◌++◌, ◌∷◌, [], IfOk, OnOk, OnErr, slice_get};
 ghost use Rattle.std.specs.Option.{option_copied};
 ghost use Rattle.omega_types.specs.Fields.{Rises, MayFollow};
+ghost use Rattle.omega_terms.specs.Bound.{type_bound, term_bound, pairs_type_bound, pairs_term_bound};
 ghost use Rattle.omega_terms.specs.View.{term_of};
 
 use crate::op::Op;
 use omega_kinds::{Kind, Label, Mem, Name};
-use omega_types::Ty;
+use omega_types::{Ty, next_level};
 use std::alloc::Global;
 use std::marker::Model;
 use std::rc::Rc;
@@ -20,6 +21,9 @@ use std::rc::Rc;
 #[cycle(term)]
 #[derive(Drop)]
 pub struct Term {
+    // the least numbers above all free type indexes and above all free term indexes
+    type_bound: u64,
+    term_bound: u64,
     node: Rc<TermNode>,
 }
 
@@ -54,6 +58,7 @@ pub struct TermFields {
 }
 
 impl Model for Term {
+    ghost use Rattle.std.specs.Prelude.{◌≡◌};
     ghost use Rattle.omega_terms.specs.Term.{Term as TermTree};
     ghost use Rattle.omega_terms.specs.Code.{term_code};
 
@@ -65,9 +70,12 @@ impl Model for Term {
 
     ghost size = { term_size };
 
+    ghost use Rattle.omega_terms.specs.Bound.{type_bound as type_bound_of, term_bound as term_bound_of};
     ghost use Rattle.omega_terms.specs.View.{term_of};
 
     ghost view = { λ e. term_of e.node.value };
+
+    ghost invariant = { λ e. (e.type_bound ≡ type_bound_of (term_of e.node.value)) × (e.term_bound ≡ term_bound_of (term_of e.node.value)) };
 
     ghost use Rattle.omega_terms.specs.Falls.{depth_le-term_size};
 
@@ -98,11 +106,15 @@ impl Model for TermFields {
 }
 
 impl Term {
-    /// The term that a node makes. `Err` is want of memory.
+    /// The term that a node makes. `Err` is want of memory, also for a variable whose index is the last number.
     pub fn make(alloc: Global, node: TermNode) -> Result<Term, Mem>
         ensures { IfOk result (λ e. e ≡ term_of node) }
     {
+        let type_bound = node.type_bound();
+        let term_bound = node.term_bound()?;
         Ok(Term {
+            type_bound,
+            term_bound,
             node: Rc::new(alloc, node)?,
         })
     }
@@ -119,8 +131,68 @@ impl Term {
         ensures { IfOk result (λ e. e ≡ self.now) }
     {
         Ok(Term {
+            type_bound: self.type_bound,
+            term_bound: self.term_bound,
             node: self.node.clone()?,
         })
+    }
+
+    /// The least number above all free type indexes: 0 where there are none. Takes one step.
+    pub fn type_bound(&self) -> u64
+        ensures { result ≡ type_bound self.now }
+    {
+        self.type_bound
+    }
+
+    /// The least number above all free term indexes: 0 where there are none. Takes one step.
+    pub fn term_bound(&self) -> u64
+        ensures { result ≡ term_bound self.now }
+    {
+        self.term_bound
+    }
+}
+
+impl TermNode {
+    // The least number above all free type indexes of the term that the node makes.
+    fn type_bound(&self) -> u64
+        ensures { result ≡ type_bound (term_of self.now) }
+    {
+        match self {
+            TermNode::Var(_) | TermNode::Int(_) | TermNode::Bool(_) | TermNode::Text(_) => 0,
+            TermNode::Lam(t, e) | TermNode::Inst(e, t) => t.bound().max(e.type_bound()),
+            TermNode::Call(a, b) | TermNode::Arith(_, a, b) => a.type_bound().max(b.type_bound()),
+            TermNode::TyLam(_, e) => e.type_bound().saturating_sub(1),
+            TermNode::Fields(fields) => fields.type_bound(),
+            TermNode::Get(e, _) => e.type_bound(),
+            TermNode::Pack(t, e, u) | TermNode::Fix(t, u, e) => t
+                .bound()
+                .max(u.bound())
+                .max(e.type_bound()),
+            TermNode::Unpack(p, e) => p.type_bound().max(e.type_bound().saturating_sub(1)),
+            TermNode::If(a, b, c) => a.type_bound().max(b.type_bound()).max(c.type_bound()),
+        }
+    }
+
+    // The least number above all free term indexes of the term that the node makes.
+    fn term_bound(&self) -> Result<u64, Mem>
+        ensures { IfOk result (λ least. least ≡ term_bound (term_of self.now)) }
+    {
+        match self {
+            TermNode::Var(index) => next_level(*index),
+            TermNode::Int(_) | TermNode::Bool(_) | TermNode::Text(_) => Ok(0),
+            TermNode::Lam(_, e) => Ok(e.term_bound().saturating_sub(1)),
+            TermNode::Call(a, b) | TermNode::Arith(_, a, b) => Ok(
+                a.term_bound().max(b.term_bound()),
+            ),
+            TermNode::TyLam(_, e)
+            | TermNode::Inst(e, _)
+            | TermNode::Get(e, _)
+            | TermNode::Pack(_, e, _) => Ok(e.term_bound()),
+            TermNode::Fields(fields) => Ok(fields.term_bound()),
+            TermNode::Unpack(p, e) => Ok(p.term_bound().max(e.term_bound().saturating_sub(1))),
+            TermNode::If(a, b, c) => Ok(a.term_bound().max(b.term_bound()).max(c.term_bound())),
+            TermNode::Fix(_, _, e) => Ok(e.term_bound().saturating_sub(2)),
+        }
     }
 }
 
@@ -158,5 +230,27 @@ impl TermFields {
         ensures { option_copied result ≡ slice_get self.now i }
     {
         self.pairs.get(i)
+    }
+
+    // The least number above all free type indexes of the fields.
+    fn type_bound(&self) -> u64
+        ensures { result ≡ pairs_type_bound self.now }
+    {
+        let mut most = 0;
+        for field in &self.pairs {
+            most = field.1.type_bound().max(most);
+        }
+        most
+    }
+
+    // The least number above all free term indexes of the fields.
+    fn term_bound(&self) -> u64
+        ensures { result ≡ pairs_term_bound self.now }
+    {
+        let mut most = 0;
+        for field in &self.pairs {
+            most = field.1.term_bound().max(most);
+        }
+        most
     }
 }

@@ -1,0 +1,14 @@
+// Applicative functors: the hidden types of a pure body are lifted over the parameter.
+// Specifications and their laws only, so far; the calls that follow them are still to come.
+// Stands on signatures and premise_laws.
+// Proved: the rule has exactly one conclusion.
+#![tactic(auto)]
+
+ghost use Rattle.applicative_functors.specs.OneOutcome.{OnePureFunctor};
+
+/// A functor with a pure body gives exactly one module; the rule is never refused.
+///
+/// Rossberg, Russo and Dreyer, "F-ing modules", section 7.
+pub fn pure_functors()
+    ensures { OnePureFunctor }
+{}

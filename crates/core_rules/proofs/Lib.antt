@@ -1,0 +1,2 @@
+pub mod ExpVerdicts
+pub mod TypeVerdicts

@@ -1,0 +1,17 @@
+use Rattle.core_rules.proofs.type_rules.Goals as goal
+use Rattle.core_rules.proofs.TypeVerdicts.{one_arrow, one_all, one_operator, one_applied, one_record_type}
+
+pub returns-clause-arrow : goal.returns-clause-arrow
+returns-clause-arrow c = one_arrow
+
+pub returns-clause-all : goal.returns-clause-all
+returns-clause-all c = one_all
+
+pub returns-clause-operator : goal.returns-clause-operator
+returns-clause-operator c = one_operator
+
+pub returns-clause-applied : goal.returns-clause-applied
+returns-clause-applied c = one_applied
+
+pub returns-clause-record_type : goal.returns-clause-record_type
+returns-clause-record_type c = one_record_type

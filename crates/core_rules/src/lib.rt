@@ -1,0 +1,30 @@
+// The rules of types and expressions: what each makes of premises that are elaborated already, and how it is refused.
+// Specifications and their laws only, so far; the calls that follow them are still to come.
+// Stands on signatures and sig_laws.
+// Proved: each rule has exactly one conclusion or exactly one refusal.
+#![tactic(auto)]
+
+ghost use Rattle.core_rules.specs.OneOutcome.{OneArrow, OneAll, OneOperator, OneApplied, OneRecordType, OneFunction, OneTypeFunction, OneCall, OneInstance, OneGet, OneIf, OneOperation, OneFix, OneRecord};
+
+/// Each rule of types gives exactly one normal type and kind, or has exactly one refusal, its first condition that fails.
+pub fn type_rules()
+    ensures arrow { OneArrow }
+    ensures all { OneAll }
+    ensures operator { OneOperator }
+    ensures applied { OneApplied }
+    ensures record_type { OneRecordType }
+{}
+
+/// Each rule of expressions gives exactly one normal type and term, or has exactly one refusal, its first condition that
+/// fails.
+pub fn expression_rules()
+    ensures function { OneFunction }
+    ensures type_function { OneTypeFunction }
+    ensures call { OneCall }
+    ensures instance { OneInstance }
+    ensures get { OneGet }
+    ensures conditional { OneIf }
+    ensures operation { OneOperation }
+    ensures fixpoint { OneFix }
+    ensures record { OneRecord }
+{}

@@ -1,0 +1,12 @@
+pub mod CoercionTest
+pub mod FromOutside
+pub mod FunctorRest
+pub mod Functors
+pub mod Including
+pub mod PackageOrder
+pub mod Outcomes
+pub mod Packages
+pub mod Refusals
+pub mod Sealing
+pub mod Sharing
+pub mod SmallRows

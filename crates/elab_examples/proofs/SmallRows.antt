@@ -1,0 +1,28 @@
+-- The derivations of the small programs.
+use Rattle.std.proofs.Math.Path.{refl}
+use Rattle.omega_types.specs.Kinding.HasKind.{k_int}
+use Rattle.omega_types.specs.Normality.Normal.{n_int}
+use Rattle.omega_types.specs.Conversion.Conv.{c_refl}
+use Rattle.omega_types.specs.Binders.{NormalForms}
+use Rattle.omega_terms.specs.Shorthands.{Packs}
+use Rattle.omega_terms.specs.Instance.{Instance, Instances}
+use Rattle.signatures.specs.Signatures.Alike.{AlikeSig}
+use Rattle.signatures.specs.Packing.{Packed}
+use Rattle.core_rules.specs.ExpRules.{OperationGives}
+use Rattle.module_rules.specs.Sequence.{Seq, Collected}
+use Rattle.module_rules.specs.ModRules.{ValueGives as ValueModule}
+use Rattle.elab_rules.specs.Judgments.Meaning.{ExpMeans, OpsMean, BindMeans, BindsMean}
+use Rattle.elab_rules.specs.Judgments.Program.{ProgramMeans}
+use Rattle.elab_examples.specs.Rows.{EmptyProgram, SumProgram}
+
+pub empty_program : EmptyProgram
+empty_program = ProgramMeans.program (BindsMean.no_binds Collected.none) (Packed.pure Packs.none)
+
+pub sum_program : SumProgram
+sum_program =
+    ProgramMeans.program
+    (BindsMean.next_bind
+    (BindMeans.bind_val (ExpMeans.exp_ops ExpMeans.exp_int (OpsMean.next_op ExpMeans.exp_int OperationGives.operation OpsMean.no_ops)) ValueModule.value)
+    (BindsMean.no_binds (Collected.next refl Collected.none))
+    (Seq.both_pure (AlikeSig.val (n_int, c_refl k_int)) NormalForms.none (Instance.fields (Instances.more Instance.var Instances.end))))
+    (Packed.pure Packs.none)

@@ -1,0 +1,7 @@
+pub mod CoercionRow
+pub mod FunctorRow
+pub mod IncludeRow
+pub mod OutsideRow
+pub mod PackageRow
+pub mod Rows
+pub mod SharingRow

@@ -1,0 +1,126 @@
+-- What each judgment keeps in good environments, and what is known of matching and of the order of quantifiers, in the form
+-- that the proof of exactness uses.
+use Rattle.std.specs.Prelude.{List, [], ◌∷◌, ◌≡◌, ◌⊎◌}
+use Rattle.std.proofs.Math.Path.{refl, sym}
+use Rattle.omega_kinds.specs.Kind.{Kind}
+use Rattle.omega_kinds.specs.Name.{Name}
+use Rattle.omega_kinds.proofs.NameLaws.{name-irreflexive}
+use Rattle.omega_types.specs.Ty.{Ty}
+use Rattle.omega_types.specs.Normality.{Normal}
+use Rattle.omega_types.proofs.Preservation.{normal-kind}
+use Rattle.omega_types.proofs.BinderPuts.{types-forms}
+use Rattle.omega_terms.specs.Term.{Term}
+use Rattle.omega_terms.proofs.NormalTyping.{typed-normal}
+use Rattle.omega_terms.proofs.InstanceLaws.{instance-self}
+use Rattle.signatures.specs.Signatures.Sig.{Sig, Abs, SigRow, Module}
+use Rattle.signatures.specs.Explicit.WellFormed.{WellFormed, WellFormedRow, WellFormedAbs, abs, Rising}
+use Rattle.signatures.specs.Matching.Subtyping.{Match}
+use Rattle.signatures.specs.QuantifierOrder.{Norm}
+use Rattle.signatures.specs.Env.{Env, Entry, kinds, IsGoodEnv}
+use Rattle.sig_laws.proofs.Encoded.EncodingTyping.{GoodAbs}
+use Rattle.sig_laws.proofs.Formed.WellFormedShape.{well_formed-good, explicit-shape}
+use Rattle.sig_laws.proofs.Encoded.EnvTyping.{GoodEnv, env-normal}
+use Rattle.sig_laws.proofs.Formed.NormGood.{norm-good}
+use Rattle.signatures.specs.Matching.MatchRefusal.{MatchRefusal, RefusesMatch}
+use Rattle.match_laws.proofs.Theorems.{match_or_refusal, not_both, one_refusal}
+use Rattle.norm_laws.proofs.NormClaims as norms
+use Rattle.fing_syntax.specs.Phrase.{TyEx, Exp, SigEx, Decl, Mod, Bind, Binds}
+use Rattle.signatures.specs.Signatures.RecordOrder.{NamesRise}
+use Rattle.module_rules.specs.Sequence.{Collected}
+use Rattle.elab_rules.specs.Judgments.Meaning.{TyMeans, ExpMeans, SigMeans, DeclMeans, ModMeans, BindMeans, BindsMean}
+use Rattle.elab_laws.proofs.ModuleTyping.{GoodModule as TypedModule}
+use Rattle.elab_laws.proofs.Soundness.{ty-good, exp-good, sig-good, decl-good, mod-good, bind-good, binds-good}
+use Rattle.elab_laws.proofs.Derived.{GoodModule as FormedModule, sig_explicit, decl_explicit, module_good, bind_good, binds_good}
+use Rattle.sig_laws.specs.Good.{OkSig, OkRight, OkEnv, OkModule}
+
+-- environments
+
+typed-env : (g : Env) → OkEnv g → GoodEnv g
+typed-env [] h = tt
+typed-env (Entry.TypeVar k ∷ g) h = (tt, typed-env g h.1)
+typed-env (Entry.Named x s ∷ g) h = (well_formed-good h.0.0 h.0.1, typed-env g h.1)
+typed-env (Entry.Value x t ∷ g) h = (h.0, typed-env g h.1)
+typed-env (Entry.TypeParam x ∷ Entry.TypeVar k ∷ g) h = (tt, typed-env (Entry.TypeVar k ∷ g) h.1)
+typed-env (Entry.TypeParam x ∷ []) h = absurd h.0
+typed-env (Entry.TypeParam x ∷ Entry.Named y s ∷ g) h = absurd h.0
+typed-env (Entry.TypeParam x ∷ Entry.Value y t ∷ g) h = absurd h.0
+typed-env (Entry.TypeParam x ∷ Entry.TypeParam y ∷ g) h = absurd h.0
+
+formed-env : (g : Env) → OkEnv g → IsGoodEnv g
+formed-env [] h = tt
+formed-env (Entry.TypeVar k ∷ g) h = (tt, formed-env g h.1)
+formed-env (Entry.Named x s ∷ g) h = (h.0.0, formed-env g h.1)
+formed-env (Entry.Value x t ∷ g) h = (normal-kind h.0, formed-env g h.1)
+formed-env (Entry.TypeParam x ∷ Entry.TypeVar k ∷ g) h = (tt, formed-env (Entry.TypeVar k ∷ g) h.1)
+formed-env (Entry.TypeParam x ∷ []) h = absurd h.0
+formed-env (Entry.TypeParam x ∷ Entry.Named y s ∷ g) h = absurd h.0
+formed-env (Entry.TypeParam x ∷ Entry.Value y t ∷ g) h = absurd h.0
+formed-env (Entry.TypeParam x ∷ Entry.TypeParam y ∷ g) h = absurd h.0
+
+-- phrases
+
+pub type_ok : (g : Env) (a : TyEx) (t : Ty) (k : Kind) → OkEnv g → TyMeans g a t k → Normal (kinds g) t k
+type_ok g a t k h m = ty-good (typed-env g h) m
+
+pub exp_ok : (g : Env) (a : Exp) (t : Ty) (e : Term) → OkEnv g → ExpMeans g a t e → Normal (kinds g) t Kind.Star
+exp_ok g a t e h m = let v = typed-env g h in typed-normal (env-normal g v) (exp-good v m)
+
+pub sig_ok : (g : Env) (a : SigEx) (x : Abs) → OkEnv g → SigMeans g a x → OkRight (kinds g) x
+sig_ok g a x h m = (sig_explicit g (formed-env g h) m, (sig-good (typed-env g h) m).normal)
+
+pub decl_ok : (g : Env) (d : Decl) (x : Abs) → OkEnv g → DeclMeans g d x → OkRight (kinds g) x
+decl_ok g d x h m = (decl_explicit g (formed-env g h) m, (decl-good (typed-env g h) m).normal)
+
+module-ok : {ctx : List Kind} {vs : List Ty} {M : Module} → TypedModule ctx vs M → FormedModule ctx M → OkModule ctx M
+module-ok (TypedModule.pure g n h) (FormedModule.pure w k) = ((abs w, g.normal), types-forms n, instance-self h)
+module-ok (TypedModule.impure g h) (FormedModule.impure w) = ((abs w, g.normal), refl, instance-self h)
+
+pub mod_ok : (g : Env) (m : Mod) (M : Module) → OkEnv g → ModMeans g m M → OkModule (kinds g) M
+mod_ok g m M h p = module-ok (mod-good (typed-env g h) p) (module_good g (formed-env g h) p)
+
+pub bind_ok : (g : Env) (b : Bind) (x : Name) (M : Module) → OkEnv g → BindMeans g b x M → OkModule (kinds g) M
+bind_ok g b x M h p = module-ok (bind-good (typed-env g h) p) (bind_good g (formed-env g h) p)
+
+pub binds_ok : (g : Env) (before : List Name) (bs : Binds) (M : Module) → OkEnv g → NamesRise before → BindsMean g before bs M → OkModule (kinds g) M
+binds_ok g before bs M h r p = module-ok (binds-good (typed-env g h) r p) (binds_good g (formed-env g h) r p)
+
+-- matching
+
+pub match_total : (ctx : List Kind) (s : Sig) (x : Abs) → OkSig ctx s → OkRight ctx x → ((ts : List Ty) × (f : Term) × Match ctx s x ts f) ⊎ ((r : MatchRefusal) × RefusesMatch ctx s x r)
+match_total = match_or_refusal
+
+pub match_excludes : (ctx : List Kind) (s : Sig) (x : Abs) (ts : List Ty) (f : Term) (r : MatchRefusal) → OkSig ctx s → OkRight ctx x → Match ctx s x ts f → RefusesMatch ctx s x r → ⊥
+match_excludes = not_both
+
+pub refusal_one : (ctx : List Kind) (s : Sig) (x : Abs) (r q : MatchRefusal) → OkSig ctx s → OkRight ctx x → RefusesMatch ctx s x r → RefusesMatch ctx s x q → q ≡ r
+refusal_one ctx s x r q h w a b = sym (one_refusal ctx s x r q h w a b)
+
+-- the order of quantifiers
+
+pub norm_total : (ctx : List Kind) (x : Abs) → OkRight ctx x → (y : Abs) × Norm ctx x y
+norm_total ctx x h = norms.norm_found ctx x h.0
+
+pub norm_one : (ctx : List Kind) (x y z : Abs) → Norm ctx x y → Norm ctx x z → z ≡ y
+norm_one ctx x y z a b = sym (norms.norm_one ctx x y z a b)
+
+pub norm_ok : (ctx : List Kind) (x y : Abs) → OkRight ctx x → Norm ctx x y → OkRight ctx y
+norm_ok ctx x y h n =
+    let g : GoodAbs ctx x = record { normal = h.1; shape = explicit-shape h.0 } in
+    (norms.norm_keeps ctx x y n h.0, (norm-good n g).normal)
+
+-- The premise on names is needed: where a name stands twice, the empty rest gives a structure with one label twice.
+
+abbrev twice : List Name
+twice = [] ∷ [] ∷ []
+
+abbrev empty : Sig
+empty = Sig.Str SigRow.End
+
+rises : {ctx : List Kind} {fs : SigRow} → WellFormedAbs ctx (Abs.Ex [] (Sig.Str fs)) → Rising fs
+rises (abs (WellFormed.str r w)) = r
+
+pub names_needed : ((g : Env) (before : List Name) (bs : Binds) (M : Module) → OkEnv g → BindsMean g before bs M → OkModule (kinds g) M) → ⊥
+names_needed f =
+    let g = Entry.Named [] empty ∷ [] in
+    let w = f g twice Binds.NoBinds _ ((WellFormed.str tt WellFormedRow.end, tt), tt) (BindsMean.no_binds (Collected.next refl (Collected.next refl Collected.none))) in
+    name-irreflexive [] (rises w.0.0).0.0

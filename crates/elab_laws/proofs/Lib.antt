@@ -1,0 +1,10 @@
+pub mod Derived
+pub mod EnvLaws
+pub mod FieldLaws
+pub mod FormedClaims
+pub mod Kept
+pub mod ModuleTyping
+pub mod NameSets
+pub mod PhraseRules
+pub mod Soundness
+pub mod TypedClaims

@@ -1,0 +1,81 @@
+-- The statements on typing, from the induction on derivations.
+use Rattle.std.specs.Prelude.{List, [], ◌∷◌}
+use Rattle.std.proofs.Math.Path.{sym, subst}
+use Rattle.omega_kinds.specs.Kind.{Kind}
+use Rattle.omega_kinds.specs.declared.effect.Effect.TheVariants.{Pure}
+use Rattle.omega_types.specs.Ty.{Ty}
+use Rattle.omega_types.specs.Conversion.Conv.{c_sym}
+use Rattle.omega_types.specs.Binders.{OfKinds, puts}
+use Rattle.omega_types.proofs.Preservation.{normal-kind, kind-substitute}
+use Rattle.omega_types.proofs.Hereditary.{normal-gives}
+use Rattle.omega_types.proofs.BinderPuts.{types-kinds, types-substitute}
+use Rattle.omega_terms.specs.Term.{Term}
+use Rattle.omega_terms.specs.Typing.{HasType}
+use Rattle.omega_terms.proofs.NormalTyping.{typed-sound, typed-normal}
+use Rattle.omega_laws.specs.Synthesis.{Synth}
+use Rattle.omega_laws.proofs.Synthesised.{exact, synth_one}
+use Rattle.omega_types.proofs.LawProofs.{normal_of_normal}
+use Rattle.omega_terms.proofs.TypingLaws.{good-none}
+use Rattle.omega_laws.proofs.Runs.{reaches_type, reached_not_stuck}
+use Rattle.signatures.specs.Signatures.Sig.{Sig, Abs, made}
+use Rattle.signatures.specs.Signatures.SigSubst.{sig_at}
+use Rattle.signatures.specs.Signatures.Encoding.{enc, enc_abs}
+use Rattle.sig_laws.proofs.Encoded.EncodingTyping.{good-normal}
+use Rattle.signatures.specs.Env.{Env, Entry, IsGoodEnv}
+use Rattle.sig_laws.proofs.Encoded.EnvTyping.{GoodEnv}
+use Rattle.sig_laws.proofs.Formed.WellFormedShape.{well_formed-good}
+use Rattle.elab_laws.specs.Typed.{IsNormalEnv, WholeIsTyped, WholeIsNormal, WholeIsNeverStuck, WholeIsSynthesised, PureModuleIsTyped, SigOfProgramIsNormal, TypeIsKinded, ExpressionIsTyped, SignatureIsNormal, ModuleIsTyped}
+use Rattle.elab_rules.specs.Judgments.Program.{ProgramMeans}
+use Rattle.elab_laws.proofs.ModuleTyping.{GoodModule, module-good, packed-typed}
+use Rattle.elab_laws.proofs.Soundness.{ty-good, exp-good, sig-good, mod-good, binds-good, program-typed}
+use Rattle.sig_laws.proofs.Encoded.EncodingLaws.{enc-substitute}
+
+good_env : (g : Env) → IsGoodEnv g → IsNormalEnv g → GoodEnv g
+good_env [] w n = tt
+good_env (Entry.TypeVar k ∷ g) w n = (tt, good_env g w.1 n.1)
+good_env (Entry.Named x s ∷ g) w n = (well_formed-good w.0 n.0, good_env g w.1 n.1)
+good_env (Entry.Value x t ∷ g) w n = (n.0, good_env g w.1 n.1)
+good_env (Entry.TypeParam x ∷ []) w n = elim (w.0) [ ]
+good_env (Entry.TypeParam x ∷ Entry.TypeVar k ∷ g) w n = (tt, good_env (Entry.TypeVar k ∷ g) w.1 n.1)
+good_env (Entry.TypeParam x ∷ Entry.Named y s ∷ g) w n = elim (w.0) [ ]
+good_env (Entry.TypeParam x ∷ Entry.Value y t ∷ g) w n = elim (w.0) [ ]
+good_env (Entry.TypeParam x ∷ Entry.TypeParam y ∷ g) w n = elim (w.0) [ ]
+
+pub whole_is_typed : WholeIsTyped
+whole_is_typed = program-typed
+
+pub sig_of_program_is_normal : SigOfProgramIsNormal
+sig_of_program_is_normal bs f (Abs.Ex ks s) ts e whole (ProgramMeans.program b p) = (module-good (binds-good tt tt b)).normal
+
+pub type_is_kinded : TypeIsKinded
+type_is_kinded g T t k w n h = ty-good (good_env g w n) h
+
+pub expression_is_typed : ExpressionIsTyped
+expression_is_typed g E t e w n h = typed-sound (exp-good (good_env g w n) h)
+
+pub signature_is_normal : SignatureIsNormal
+signature_is_normal g S x w n h = (sig-good (good_env g w n) h).normal
+
+pub module_is_typed : ModuleIsTyped
+module_is_typed g m f (Abs.Ex ks s) ts e p w n h q = typed-sound (packed-typed (mod-good (good_env g w n) h) q)
+
+pub whole_is_normal : WholeIsNormal
+whole_is_normal bs f (Abs.Ex ks s) ts e whole (ProgramMeans.program b p) = packed-typed (binds-good tt tt b) p
+
+pure-parts : {ctx ks : List Kind} {vs ts : List Ty} {s : Sig} {e : Term} → GoodModule ctx vs (made Pure (Abs.Ex ks s) ts e) → OfKinds ctx ts ks × HasType ctx vs e (enc (sig_at ts s))
+pure-parts {ctx} {vs = vs} {ts = ts} {s = s} {e = e} (GoodModule.pure g n h) =
+    let k = kind-substitute (puts ts Ty.Var) (types-substitute n) (normal-kind (good-normal g)) in
+    (types-kinds n, subst (λ u. HasType ctx vs e u) (sym (enc-substitute (puts ts Ty.Var) s)) (HasType.conv (typed-sound h) (c_sym (normal-gives k).1)))
+
+pub pure_module_is_typed : PureModuleIsTyped
+pure_module_is_typed g m ks s ts e w n h = pure-parts (mod-good (good_env g w n) h)
+
+pub whole_is_never_stuck : WholeIsNeverStuck
+whole_is_never_stuck bs f x ts e whole d n p r = let h = program-typed bs f x ts e whole p in (reaches_type _ h r, reached_not_stuck _ h r)
+
+pub whole_is_synthesised : WholeIsSynthesised
+whole_is_synthesised bs f x ts e whole p =
+    let h = whole_is_normal bs f x ts e whole p in
+    let q = (exact (good-none [])).0 (typed-sound h) in
+    let s = subst (λ t. Synth [] [] whole t) (normal_of_normal [] (enc_abs x) _ (typed-normal tt h)) q.1 in
+    (s, λ t i. synth_one (good-none []) i s)

@@ -1,0 +1,3 @@
+pub mod Judgments
+pub mod Operators
+pub mod Refusals

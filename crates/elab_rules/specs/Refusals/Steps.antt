@@ -1,0 +1,394 @@
+-- The steps of each rule in the order in which they are tried, each condition with its refusal. A condition that comes
+-- before a later premise is a step of its own; the rule's own relations come when all premises are done.
+use Rattle.std.specs.Prelude.{List, [], ◌∷◌, ◌++◌, ◌≡◌, map, Bool, true, false, Some}
+use Rattle.omega_kinds.specs.Kind.{Kind}
+use Rattle.omega_kinds.specs.declared.label.Label.{Label}
+use Rattle.omega_kinds.specs.declared.effect.Effect.{Effect}
+use Rattle.omega_kinds.specs.declared.effect.Effect.TheVariants.{Pure, Impure}
+use Rattle.omega_kinds.specs.Name.{Name}
+use Rattle.omega_types.specs.Ty.{Ty, Row}
+use Rattle.omega_types.specs.Binders.{extend, unders, raise, front}
+use Rattle.omega_terms.specs.Term.{Term, TermRow}
+use Rattle.omega_terms.specs.Shorthands.{insts, ty_lam_over, Packs}
+use Rattle.omega_terms.specs.Coercions.{result_label}
+use Rattle.omega_terms.specs.PartTerms.{one_field}
+use Rattle.signatures.specs.Signatures.Sig.{Sig, Abs, SigRow, HasField, Module, made}
+use Rattle.signatures.specs.Explicit.SigPath.{Item}
+use Rattle.signatures.specs.Signatures.SigSubst.{abs_at, raise_sig_row, substitute_sig}
+use Rattle.signatures.specs.Signatures.Alike.{NormalSigForm, NormalAbsForm}
+use Rattle.signatures.specs.Signatures.Encoding.{enc, enc_abs}
+use Rattle.signatures.specs.Env.{Env, Value, kinds, find, type_vars, with_module, named_fields}
+use Rattle.signatures.specs.Lifting.{Lift, lifted_types}
+use Rattle.signatures.specs.QuantifierOrder.{Norm}
+use Rattle.signatures.specs.Packing.{Packed}
+use Rattle.signatures.specs.Signatures.FieldOrder.{merge, with_name, with_names}
+use Rattle.fing_syntax.specs.Phrase.{Span, SpanName, Mod, ModAt, ModName, ModStruct, ModProject, ModFunctor, ModApply, ModSeal, ModUnpack, Bind, BindAt, BindVal, BindTy, BindModule, BindSignature, BindInclude, Binds, NoBinds, MoreBinds, SigEx, SigAt, PathSig, SigDecls, SigFun, SigRefine, Decl, DeclAt, DeclVal, DeclTyIs, DeclTyOf, DeclModule, DeclSignature, DeclInclude, Decls, NoDecls, MoreDecls, TyEx, TyAt, PathTy, TyInt, TyBool, TyText, TyArrow, TyApply, TyFields, TyAll, TyLam, TyPack, TyExs, NoTys, MoreTys, FieldTyExs, NoFieldTys, MoreFieldTys, Exp, ExpAt, PathExp, ExpInt, ExpBool, ExpText, ExpLam, ExpTyLam, ExpFix, ExpIf, ExpOps, ExpApply, ExpFields, ExpGet, ExpPack, OpExps, NoOps, MoreOps, ArgExp, ArgTy, Args, NoArgs, MoreArgs, FieldExps, NoFieldExps, MoreFieldExps}
+use Rattle.fing_syntax.specs.Place.{name_of, name_span, mod_span, sig_span, ty_span, exp_span, path_span, decl_span, up_to}
+use Rattle.signatures.specs.Signatures.RecordOrder.{insert_part, insert_term, IsNew, AreNew, FirstOld}
+use Rattle.core_rules.specs.TypeRules.{ArrowGives, ArrowRefuses, AllGives, AllRefuses, OperatorGives, AppliedGives, AppliedRefuses}
+use Rattle.core_rules.specs.ExpRules.{FunctionGives, FunctionRefuses, TypeFunctionGives, CallGives, CallRefuses, InstanceGives, InstanceRefuses, GetGives, GetRefuses, IfGives, IfRefuses, OperationGives, OperationRefuses, FixGives, FixRefuses}
+use Rattle.sig_rules.specs.SigRules.{ValueGives, ValueRefuses, TypeGives, AbstractGives, ModuleGives, SignatureGives, IncludeGives, IncludeRefuses, GenerativeGives as GenerativeSigGives}
+use Rattle.module_rules.specs.ModRules.{SealGives, ValueGives as ValueModule, TypeGives as TypeModule, SignatureGives as SignatureModule}
+use Rattle.packages.specs.Package.{PackTypeGives, UnpackGives, UnpackRefuses}
+use Rattle.elab_rules.specs.Refusals.Refusal.{of_core, of_sig, of_unpack}
+use Rattle.module_rules.specs.PathUse.{Outside, SigOutside, value_of}
+use Rattle.module_rules.specs.Projection.{Projected}
+use Rattle.module_rules.specs.Sequence.{Seq, field_lets, Collected}
+use Rattle.sig_rules.specs.Refinement.{Leads, LeavesAt, own_part}
+use Rattle.elab_rules.specs.Operators.{omega_op, names_of, include_name, with_type}
+use Rattle.fing_refusals.specs.Refusal.{Refusal, WrongPath, Escapes, NotOperator, KindDiffer, Differ, DuplicateField, NotArrow, NotAll, NotRecord, Unbound, NotStructure, NotFunctor, NoPart, NotAbstract, Duplicate}
+use Rattle.elab_rules.specs.Refusals.Refusal.{refuse}
+use Rattle.elab_rules.specs.Refusals.Task.{Task, Result, a_type, type_args, type_fields, an_exp, operands, args, fields, a_sig, a_decl, decls, a_mod, a_bind, binds}
+use Rattle.elab_rules.specs.Refusals.Rule.{Rule, some, test, the, stop, by_rule, matched}
+
+-- the kind is that of types of values
+abbrev pub star : {A : Type 0} → Env → TyEx → Kind → (Unit {0} → Rule A) → Rule A
+star g a k go = test (k ≡ Kind.Star) (refuse g (ty_span a) (KindDiffer k Kind.Star)) go
+
+-- the name is bound
+abbrev pub found : {A : Type 0} → Env → SpanName → (Sig × Term → Rule A) → Rule A
+found g x go = some (λ o. find g (name_of x) ≡ Some o) (refuse g (name_span x) (Unbound (name_of x))) go
+
+-- the fields of a structure
+abbrev pub structure_of : {A : Type 0} → Refusal → Sig → (SigRow → Rule A) → Rule A
+structure_of r s go = some (λ fs. s ≡ Sig.Str fs) r go
+
+-- types
+
+abbrev pub type_path : Env → Span → Module → Rule (Ty × Kind)
+type_path g at (made f (Abs.Ex ks s) ts e) =
+    some (λ (p : Ty × Kind). s ≡ Sig.Typ p.0 p.1) (refuse g at WrongPath) λ p.
+    some (λ t. Outside (kinds g) ks p.0 p.1 t) (refuse g at Escapes) λ t.
+    Rule.gives (t, p.1)
+
+abbrev pub type_steps : Env → TyEx → Rule (Ty × Kind)
+type_steps g (TyAt at (PathTy m)) = Rule.need g (a_mod m) λ M. type_path g at M
+type_steps g (TyAt at TyInt) = Rule.gives (Ty.Int, Kind.Star)
+type_steps g (TyAt at TyBool) = Rule.gives (Ty.Bool, Kind.Star)
+type_steps g (TyAt at TyText) = Rule.gives (Ty.Text, Kind.Star)
+type_steps g (TyAt at (TyArrow a b)) =
+    Rule.need g (a_type a) λ t.
+    star g a t.1 λ h.
+    Rule.need g (a_type b) λ u.
+    by_rule of_core g (ty_span b) (λ (o : Ty × Kind). ArrowGives t.0 t.1 u.0 u.1 o.0 o.1) (ArrowRefuses t.0 t.1 u.0 u.1) λ o.
+    Rule.gives o
+type_steps g (TyAt at (TyApply a rest)) =
+    Rule.need g (a_type a) λ t.
+    Rule.need g (type_args (ty_span a) t.0 t.1 rest) λ u.
+    Rule.gives u
+type_steps g (TyAt at (TyFields rest)) =
+    Rule.need g (type_fields [] rest) λ row.
+    Rule.gives (Ty.Fields row, Kind.Star)
+type_steps g (TyAt at (TyAll x k b)) =
+    Rule.need (with_type g k (name_of x)) (a_type b) λ t.
+    by_rule of_core g (ty_span b) (λ (o : Ty × Kind). AllGives k t.0 t.1 o.0 o.1) (AllRefuses k t.0 t.1) λ o.
+    Rule.gives o
+type_steps g (TyAt at (TyLam x k b)) =
+    Rule.need (with_type g k (name_of x)) (a_type b) λ t.
+    the (λ (o : Ty × Kind). OperatorGives k t.0 t.1 o.0 o.1) λ o.
+    Rule.gives o
+type_steps g (TyAt at (TyPack a)) =
+    Rule.need g (a_sig a) λ x.
+    the (PackTypeGives (kinds g) x) λ t.
+    Rule.gives (t, Kind.Star)
+
+abbrev pub type_args_steps : Env → Span → Ty → Kind → TyExs → Rule (Ty × Kind)
+type_args_steps g at t k NoTys = Rule.gives (t, k)
+type_args_steps g at t k (MoreTys a rest) =
+    some (λ (p : Kind × Kind). k ≡ Kind.Arrow p.0 p.1) (refuse g at NotOperator) λ p.
+    Rule.need g (a_type a) λ u.
+    by_rule of_core g (ty_span a) (λ (o : Ty × Kind). AppliedGives (kinds g) t k u.0 u.1 o.0 o.1) (AppliedRefuses t k u.0 u.1) λ v.
+    Rule.need g (type_args (up_to at (ty_span a)) v.0 v.1 rest) λ w.
+    Rule.gives w
+
+abbrev pub type_fields_steps : Env → List Name → FieldTyExs → Rule Row
+type_fields_steps g before NoFieldTys = Rule.gives Row.End
+type_fields_steps g before (MoreFieldTys x a rest) =
+    test (IsNew (name_of x) before) (refuse g (name_span x) (DuplicateField (name_of x))) λ n.
+    Rule.need g (a_type a) λ t.
+    star g a t.1 λ h.
+    Rule.need g (type_fields (name_of x ∷ before) rest) λ row.
+    Rule.gives (insert_part (Label.Name (name_of x)) t.0 row)
+
+-- expressions
+
+abbrev pub value_path : Env → Span → Module → Rule (Ty × Term)
+value_path g at (made f (Abs.Ex ks s) ts e) =
+    some (λ t. s ≡ Sig.Val t) (refuse g at WrongPath) λ t.
+    some (λ n. Outside (kinds g) ks t Kind.Star n) (refuse g at Escapes) λ n.
+    Rule.gives (n, value_of f ks e (enc_abs (Abs.Ex ks s)))
+
+abbrev pub exp_steps : Env → Exp → Rule (Ty × Term)
+exp_steps g (ExpAt at (PathExp m)) = Rule.need g (a_mod m) λ M. value_path g at M
+exp_steps g (ExpAt at (ExpInt z)) = Rule.gives (Ty.Int, Term.Int z)
+exp_steps g (ExpAt at (ExpBool b)) = Rule.gives (Ty.Bool, Term.Bool b)
+exp_steps g (ExpAt at (ExpText w)) = Rule.gives (Ty.Text, Term.Text w)
+exp_steps g (ExpAt at (ExpLam x a b)) =
+    Rule.need g (a_type a) λ t.
+    star g a t.1 λ h.
+    Rule.need (Value (name_of x) t.0 ∷ g) (an_exp b) λ u.
+    by_rule of_core g (ty_span a) (λ (o : Ty × Term). FunctionGives t.0 t.1 u.0 u.1 o.0 o.1) (FunctionRefuses t.0 t.1) λ o.
+    Rule.gives o
+exp_steps g (ExpAt at (ExpTyLam x k b)) =
+    Rule.need (with_type g k (name_of x)) (an_exp b) λ t.
+    the (λ (o : Ty × Term). TypeFunctionGives k t.0 t.1 o.0 o.1) λ o.
+    Rule.gives o
+exp_steps g (ExpAt at (ExpFix f x a b c)) =
+    Rule.need g (a_type a) λ t.
+    star g a t.1 λ h.
+    Rule.need g (a_type b) λ u.
+    star g b u.1 λ i.
+    Rule.need (Value (name_of x) t.0 ∷ Value (name_of f) (Ty.Arrow t.0 u.0) ∷ g) (an_exp c) λ v.
+    by_rule of_core g (exp_span c) (λ (o : Ty × Term). FixGives t.0 t.1 u.0 u.1 v.0 v.1 o.0 o.1) (FixRefuses t.0 t.1 u.0 u.1 v.0) λ o.
+    Rule.gives o
+exp_steps g (ExpAt at (ExpIf a b c)) =
+    Rule.need g (an_exp a) λ t.
+    test (t.0 ≡ Ty.Bool) (refuse g (exp_span a) (Differ t.0 Ty.Bool)) λ h.
+    Rule.need g (an_exp b) λ u.
+    Rule.need g (an_exp c) λ v.
+    by_rule of_core g (exp_span b) (λ (o : Ty × Term). IfGives t.0 t.1 u.0 u.1 v.0 v.1 o.0 o.1) (IfRefuses t.0 u.0 v.0) λ o.
+    Rule.gives o
+exp_steps g (ExpAt at (ExpOps a rest)) =
+    Rule.need g (an_exp a) λ t.
+    Rule.need g (operands (exp_span a) t.0 t.1 rest) λ u.
+    Rule.gives u
+exp_steps g (ExpAt at (ExpApply a rest)) =
+    Rule.need g (an_exp a) λ t.
+    Rule.need g (args (exp_span a) t.0 t.1 rest) λ u.
+    Rule.gives u
+exp_steps g (ExpAt at (ExpFields rest)) =
+    Rule.need g (fields [] rest) λ o.
+    Rule.gives (Ty.Fields o.0, Term.Fields o.1)
+exp_steps g (ExpAt at (ExpGet a x)) =
+    Rule.need g (an_exp a) λ t.
+    some (λ row. t.0 ≡ Ty.Fields row) (refuse g (exp_span a) (NotRecord t.0)) λ row.
+    by_rule of_core g (name_span x) (λ (o : Ty × Term). GetGives t.0 t.1 (name_of x) o.0 o.1) (GetRefuses t.0 (name_of x)) λ o.
+    Rule.gives o
+exp_steps g (ExpAt at (ExpPack x a)) =
+    found g x λ o.
+    Rule.need g (a_sig a) λ y.
+    the (Norm (kinds g) y) λ z.
+    matched g (sig_span a) o.0 z λ m.
+    the (λ d. Packs (kinds g) m.0 (Term.Call m.1 o.1) (enc_abs z) d) λ d.
+    Rule.gives (enc_abs z, d)
+
+abbrev pub operands_steps : Env → Span → Ty → Term → OpExps → Rule (Ty × Term)
+operands_steps g at t e NoOps = Rule.gives (t, e)
+operands_steps g at t e (MoreOps o b rest) =
+    test (t ≡ Ty.Int) (refuse g at (Differ t Ty.Int)) λ h.
+    Rule.need g (an_exp b) λ u.
+    by_rule of_core g (exp_span b) (λ (p : Ty × Term). OperationGives (omega_op o) t e u.0 u.1 p.0 p.1) (OperationRefuses t u.0) λ p.
+    Rule.need g (operands (up_to at (exp_span b)) p.0 p.1 rest) λ v.
+    Rule.gives v
+
+abbrev pub args_steps : Env → Span → Ty → Term → Args → Rule (Ty × Term)
+args_steps g at t e NoArgs = Rule.gives (t, e)
+args_steps g at t e (MoreArgs (ArgExp b) rest) =
+    some (λ (p : Ty × Ty). t ≡ Ty.Arrow p.0 p.1) (refuse g at (NotArrow t)) λ p.
+    Rule.need g (an_exp b) λ u.
+    by_rule of_core g (exp_span b) (λ (o : Ty × Term). CallGives t e u.0 u.1 o.0 o.1) (CallRefuses t u.0) λ o.
+    Rule.need g (args (up_to at (exp_span b)) o.0 o.1 rest) λ v.
+    Rule.gives v
+args_steps g at t e (MoreArgs (ArgTy a place) rest) =
+    some (λ (p : Kind × Ty). t ≡ Ty.All p.0 p.1) (refuse g at (NotAll t)) λ p.
+    Rule.need g (a_type a) λ u.
+    by_rule of_core g (ty_span a) (λ (o : Ty × Term). InstanceGives (kinds g) t e u.0 u.1 o.0 o.1) (InstanceRefuses t u.0 u.1) λ o.
+    Rule.need g (args (up_to at place) o.0 o.1 rest) λ w.
+    Rule.gives w
+
+abbrev pub fields_steps : Env → List Name → FieldExps → Rule (Row × TermRow)
+fields_steps g before NoFieldExps = Rule.gives (Row.End, TermRow.End)
+fields_steps g before (MoreFieldExps x a rest) =
+    test (IsNew (name_of x) before) (refuse g (name_span x) (DuplicateField (name_of x))) λ n.
+    Rule.need g (an_exp a) λ t.
+    Rule.need g (fields (name_of x ∷ before) rest) λ o.
+    Rule.gives (insert_part (Label.Name (name_of x)) t.0 o.0, insert_term (Label.Name (name_of x)) t.1 o.1)
+
+-- signatures and declarations
+
+abbrev pub sig_path : Env → Span → Module → Rule Abs
+sig_path g at (made f (Abs.Ex ks s) ts e) =
+    some (λ x. s ≡ Sig.Meta x) (refuse g at WrongPath) λ x.
+    some (λ y. SigOutside (kinds g) ks x y) (refuse g at Escapes) λ y.
+    Rule.gives y
+
+abbrev pub functor_sig : Env → Bool → SpanName → SigEx → Abs → Rule Abs
+functor_sig g false x b (Abs.Ex ks s) =
+    Rule.need (with_module g ks (name_of x) s) (a_sig b) λ y.
+    the (GenerativeSigGives (Abs.Ex ks s) y) λ z.
+    Rule.gives z
+functor_sig g true x b (Abs.Ex ks s) =
+    Rule.need (with_module g ks (name_of x) s) (a_sig b) λ y.
+    the (Lift (kinds g) ks s y) λ z.
+    Rule.gives z
+
+abbrev pub refined : Env → SpanName → List SpanName → TyEx → Abs → Ty × Kind → Rule Abs
+refined g z path b (Abs.Ex ks s) u =
+    Rule.ask (λ q. Leads s (names_of (z ∷ path)) q) (λ r. (x : SpanName) × LeavesAt name_of s (z ∷ path) x × (r ≡ refuse g (name_span x) (NoPart (name_of x)))) λ q.
+    some (λ (o : List Kind × Kind × List Kind). (ks ≡ o.0 ++ (o.1 ∷ o.2)) × (q ≡ own_part o.1 o.2)) (refuse g (path_span z path) (NotAbstract (map Item.Part (names_of (z ∷ path))))) λ o.
+    test (u.1 ≡ o.1) (refuse g (ty_span b) (KindDiffer u.1 o.1)) λ h.
+    the (λ n. NormalSigForm (extend (kinds g) (o.0 ++ o.2)) (substitute_sig (unders o.2 (front (raise o.0 u.0) Ty.Var)) s) n) λ n.
+    Rule.gives (Abs.Ex (o.0 ++ o.2) n)
+
+abbrev pub sig_steps : Env → SigEx → Rule Abs
+sig_steps g (SigAt at (PathSig m)) = Rule.need g (a_mod m) λ M. sig_path g at M
+sig_steps g (SigAt at (SigDecls ds)) =
+    Rule.need g (decls [] ds) λ x.
+    Rule.gives x
+sig_steps g (SigAt at (SigFun pure x a b)) = Rule.need g (a_sig a) λ y. functor_sig g pure x b y
+sig_steps g (SigAt at (SigRefine a z path b)) =
+    Rule.need g (a_sig a) λ x.
+    Rule.need g (a_type b) λ u.
+    refined g z path b x u
+
+abbrev pub decl_steps : Env → Decl → Rule Abs
+decl_steps g (DeclAt at (DeclVal x a)) =
+    Rule.need g (a_type a) λ t.
+    by_rule of_sig g (ty_span a) (ValueGives (name_of x) t.0 t.1) (ValueRefuses t.0 t.1) λ y.
+    Rule.gives y
+decl_steps g (DeclAt at (DeclTyIs x a)) =
+    Rule.need g (a_type a) λ t.
+    the (TypeGives (name_of x) t.0 t.1) λ y.
+    Rule.gives y
+decl_steps g (DeclAt at (DeclTyOf x k)) =
+    the (AbstractGives (name_of x) k) λ y.
+    Rule.gives y
+decl_steps g (DeclAt at (DeclModule x a)) =
+    Rule.need g (a_sig a) λ y.
+    the (ModuleGives (name_of x) y) λ z.
+    Rule.gives z
+decl_steps g (DeclAt at (DeclSignature x a)) =
+    Rule.need g (a_sig a) λ y.
+    the (SignatureGives (name_of x) y) λ z.
+    Rule.gives z
+decl_steps g (DeclAt at (DeclInclude a)) =
+    Rule.need g (a_sig a) λ y.
+    by_rule of_sig g (sig_span a) (IncludeGives y) (IncludeRefuses y) λ z.
+    Rule.gives z
+
+abbrev pub decls_after : List Kind → SigRow → Abs → Rule Abs
+decls_after ks fs (Abs.Ex js t) =
+    the (λ gs. t ≡ Sig.Str gs) λ gs.
+    Rule.gives (Abs.Ex (ks ++ js) (Sig.Str (merge (raise_sig_row js fs) gs)))
+
+abbrev pub decls_from : Env → List Name → Decl → Decls → Abs → Rule Abs
+decls_from g before d ds (Abs.Ex ks s) =
+    the (λ fs. s ≡ Sig.Str fs) λ fs.
+    Rule.ask {B = Unit {0}} (λ u. AreNew fs before) (λ r. (l : Name) × FirstOld fs before l × (r ≡ refuse g (decl_span d) (Duplicate l))) λ u.
+    Rule.need (named_fields (type_vars g ks) fs) (decls (with_names fs before) ds) λ y.
+    decls_after ks fs y
+
+abbrev pub decls_steps : Env → List Name → Decls → Rule Abs
+decls_steps g before NoDecls = Rule.gives (Abs.Ex [] (Sig.Str SigRow.End))
+decls_steps g before (MoreDecls d ds) = Rule.need g (a_decl d) λ x. decls_from g before d ds x
+
+-- modules and bindings
+
+abbrev pub projected : Env → SpanName → Module → Rule Module
+projected g x (made f (Abs.Ex ks s) ts e) =
+    structure_of (refuse g (name_span x) NotStructure) s λ fs.
+    some (λ t. HasField fs (name_of x) t) (refuse g (name_span x) (NoPart (name_of x))) λ t.
+    the (Projected (kinds g) (made f (Abs.Ex ks (Sig.Str fs)) ts e) (name_of x)) λ N.
+    Rule.gives N
+
+abbrev pub generative : Env → List Kind → Sig → Module → Rule Module
+generative g ks s (made f y ts e) =
+    the (Packed (extend (kinds g) ks) (made f y ts e)) λ d.
+    Rule.gives (made Pure (Abs.Ex [] (Sig.Fun Impure ks s y)) [] (ty_lam_over ks (Term.Lam (enc s) (one_field Label.Gen d))))
+
+abbrev pub functor_of : Env → List Kind → Sig → Bool → Module → Rule Module
+functor_of g ks s false (made Pure y ts e) =
+    the (Lift (kinds g) ks s y) λ z.
+    Rule.gives (made Pure z (lifted_types ks ts) (ty_lam_over ks (Term.Lam (enc s) (one_field Label.App e))))
+functor_of g ks s false (made Impure y ts e) = generative g ks s (made Impure y ts e)
+functor_of g ks s true M = generative g ks s M
+
+abbrev pub functor_body : Env → Bool → SpanName → Mod → Abs → Rule Module
+functor_body g gen x b (Abs.Ex ks s) = Rule.need (with_module g ks (name_of x) s) (a_mod b) λ M. functor_of g ks s gen M
+
+abbrev pub mod_steps : Env → Mod → Rule Module
+mod_steps g (ModAt at (ModName x)) =
+    found g x λ o.
+    Rule.gives (made Pure (Abs.Ex [] o.0) [] o.1)
+mod_steps g (ModAt at (ModStruct bs)) =
+    Rule.need g (binds [] bs) λ M.
+    Rule.gives M
+mod_steps g (ModAt at (ModProject m x)) = Rule.need g (a_mod m) λ M. projected g x M
+mod_steps g (ModAt at (ModFunctor gen x a b)) = Rule.need g (a_sig a) λ y. functor_body g gen x b y
+mod_steps g (ModAt at (ModApply x z)) =
+    found g x λ o.
+    some (λ (p : Effect × List Kind × Sig × Abs). o.0 ≡ Sig.Fun p.0 p.1 p.2 p.3) (refuse g (name_span x) NotFunctor) λ p.
+    found g z λ q.
+    matched g (name_span z) q.0 (Abs.Ex p.1 p.2) λ m.
+    the (NormalAbsForm (kinds g) (abs_at m.0 p.3)) λ w.
+    Rule.gives (made p.0 w [] (Term.Get (Term.Call (insts o.1 m.0) (Term.Call m.1 q.1)) (result_label p.0)))
+mod_steps g (ModAt at (ModSeal x a)) =
+    found g x λ o.
+    Rule.need g (a_sig a) λ y.
+    matched g (sig_span a) o.0 y λ m.
+    the (SealGives o.1 y m.0 m.1) λ M.
+    Rule.gives M
+mod_steps g (ModAt at (ModUnpack b a)) =
+    Rule.need g (an_exp b) λ t.
+    Rule.need g (a_sig a) λ x.
+    the (Norm (kinds g) x) λ y.
+    by_rule of_unpack g (exp_span b) (UnpackGives t.0 t.1 y) (UnpackRefuses t.0 y) λ M.
+    Rule.gives M
+
+abbrev pub bind_steps : Env → Bind → Rule (Name × Module)
+bind_steps g (BindAt at (BindVal x a)) =
+    Rule.need g (an_exp a) λ t.
+    the (ValueModule t.0 t.1) λ M.
+    Rule.gives (name_of x, M)
+bind_steps g (BindAt at (BindTy x a)) =
+    Rule.need g (a_type a) λ t.
+    the (TypeModule t.0 t.1) λ M.
+    Rule.gives (name_of x, M)
+bind_steps g (BindAt at (BindSignature x a)) =
+    Rule.need g (a_sig a) λ y.
+    the (SignatureModule y) λ M.
+    Rule.gives (name_of x, M)
+bind_steps g (BindAt at (BindModule x m)) =
+    Rule.need g (a_mod m) λ M.
+    Rule.gives (name_of x, M)
+-- an include is no single binding
+bind_steps g (BindAt at (BindInclude m)) = stop (refuse g at NotStructure)
+
+abbrev pub with_lets : SigRow → Module → Module
+with_lets fs (made f y ts e) = made f y ts (field_lets 0 fs e)
+
+abbrev pub after_bind : Env → List Name → Binds → Name → Module → Rule Module
+after_bind g before bs x (made f (Abs.Ex ks s) ts e) =
+    Rule.need (with_module g ks x s) (binds (with_name x before) bs) λ M.
+    the (Seq (kinds g) (made f (Abs.Ex ks s) ts e) M) λ N.
+    Rule.gives N
+
+abbrev pub after_include : Env → List Name → Mod → Binds → Module → Rule Module
+after_include g before m bs (made f (Abs.Ex ks s) ts e) =
+    structure_of (refuse g (mod_span m) NotStructure) s λ fs.
+    Rule.need (named_fields (with_module g ks include_name (Sig.Str fs)) fs) (binds (with_names fs before) bs) λ M.
+    the (Seq (kinds g) (made f (Abs.Ex ks (Sig.Str fs)) ts e) (with_lets fs M)) λ N.
+    Rule.gives N
+
+abbrev pub binds_steps : Env → List Name → Binds → Rule Module
+binds_steps g before NoBinds =
+    the (λ (o : SigRow × TermRow). Collected g before o.0 o.1) λ o.
+    Rule.gives (made Pure (Abs.Ex [] (Sig.Str o.0)) [] (Term.Fields o.1))
+binds_steps g before (MoreBinds (BindAt at (BindInclude m)) bs) = Rule.need g (a_mod m) λ M. after_include g before m bs M
+binds_steps g before (MoreBinds b bs) = Rule.need g (a_bind b) λ o. after_bind g before bs o.0 o.1
+
+-- the rule of each task
+abbrev pub steps : (g : Env) (a : Task) → Rule (Result a)
+steps g (a_type a) = type_steps g a
+steps g (type_args at t k rest) = type_args_steps g at t k rest
+steps g (type_fields before rest) = type_fields_steps g before rest
+steps g (an_exp a) = exp_steps g a
+steps g (operands at t e rest) = operands_steps g at t e rest
+steps g (args at t e rest) = args_steps g at t e rest
+steps g (fields before rest) = fields_steps g before rest
+steps g (a_sig a) = sig_steps g a
+steps g (a_decl d) = decl_steps g d
+steps g (decls before ds) = decls_steps g before ds
+steps g (a_mod m) = mod_steps g m
+steps g (a_bind b) = bind_steps g b
+steps g (binds before bs) = binds_steps g before bs

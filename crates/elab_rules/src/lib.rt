@@ -1,0 +1,4 @@
+// The rules of elaboration: what each phrase means in an environment, and how it is refused.
+// Stands on signatures and fing_syntax.
+// Nothing is proved here: the laws stand in elab_laws and elab_exact, worked programs in elab_examples.
+#![tactic(auto)]

@@ -1,0 +1,62 @@
+-- Paths into signatures: what they lead to is one thing, and any two are in order.
+use Rattle.std.specs.Prelude.{List, [], ◌∷◌, ◌++◌, ◌≡◌}
+use Rattle.std.proofs.Math.Path.{refl, sym, ap, ap₂, subst}
+use Rattle.omega_kinds.specs.Kind.{Kind}
+use Rattle.omega_kinds.specs.Name.{Name}
+use Rattle.omega_types.specs.Ty.{Ty}
+use Rattle.signatures.specs.Signatures.Sig.{Sig, SigRow, HasField, here, there}
+use Rattle.signatures.specs.Explicit.SigPath.{Item, SigPath, by_name, PathBefore, first, later, PartAt}
+use Rattle.explicit_laws.proofs.Names.{Compared, before, after, same, NameBefore, compare-names}
+
+pub one-field : {fs : SigRow} {l m : Name} {s t : Sig} → HasField fs l s → HasField fs m t → l ≡ m → s ≡ t
+one-field here here e = refl
+one-field here (there n h) e = absurd (n (sym e))
+one-field (there n h) here e = absurd (n e)
+one-field (there n h) (there m g) e = one-field h g e
+
+name_of : SigPath → Name
+name_of (Item.Part l ∷ p) = l
+name_of p = []
+
+rest_of : SigPath → SigPath
+rest_of [] = []
+rest_of (a ∷ p) = p
+
+pub same_name_of : {l m : Name} {p q : SigPath} → Item.Part l ∷ p ≡ Item.Part m ∷ q → l ≡ m
+unfolding name_of
+same_name_of e = ap name_of e
+
+pub same_rest_of : {a b : Item} {p q : SigPath} → a ∷ p ≡ b ∷ q → p ≡ q
+unfolding rest_of
+same_rest_of e = ap rest_of e
+
+pub one-part : {s q r : Sig} {p o : SigPath} {bs cs : List Kind} → PartAt s p bs q → PartAt s o cs r → p ≡ o → (bs ≡ cs) × (q ≡ r)
+one-part PartAt.end PartAt.end e = (refl, refl)
+one-part PartAt.end (PartAt.field h x) e = absurd (cc (e))
+one-part PartAt.end (PartAt.result x) e = absurd (cc (e))
+one-part (PartAt.field h x) PartAt.end e = absurd (cc (e))
+one-part (PartAt.result x) PartAt.end e = absurd (cc (e))
+one-part {r = r} {cs = cs} (PartAt.field h x) (PartAt.field {p = o} g y) e = one-part x (subst (λ t. PartAt t o cs r) (sym (one-field h g (same_name_of e))) y) (same_rest_of e)
+one-part (PartAt.result {ks = ks} x) (PartAt.result y) e = let f = one-part x y (same_rest_of e) in (ap (λ xs. ks ++ xs) f.0, f.1)
+
+-- of two paths to types in one signature, one comes before the other
+pub compare-paths : {s : Sig} {t u : Ty} {k j : Kind} {p q : SigPath} {bs cs : List Kind} → PartAt s p bs (Sig.Typ t k) → PartAt s q cs (Sig.Typ u j) → Compared PathBefore p q
+compare-paths PartAt.end PartAt.end = same refl
+compare-paths {u = u} {j = j} (PartAt.field {l = l} {s = s} {p = p} h x) (PartAt.field {l = m} {s = r} {p = q} {bs = cs} g y) =
+    go (λ e. compare-paths x (subst (λ t. PartAt t q cs (Sig.Typ u j)) (sym (one-field h g e)) y)) (compare-names l m)
+  where
+    deeper : l ≡ m → Compared PathBefore p q → Compared PathBefore (Item.Part l ∷ p) (Item.Part m ∷ q)
+    deeper e (before b) = before (subst (λ n. PathBefore (Item.Part l ∷ p) (Item.Part n ∷ q)) e (later b))
+    deeper e (after b) = after (subst (λ n. PathBefore (Item.Part n ∷ q) (Item.Part l ∷ p)) e (later b))
+    deeper e (same f) = same (ap₂ (λ n o. Item.Part n ∷ o) e f)
+
+    go : (l ≡ m → Compared PathBefore p q) → Compared NameBefore l m → Compared PathBefore (Item.Part l ∷ p) (Item.Part m ∷ q)
+    go ih (before b) = before (first (by_name b))
+    go ih (after b) = after (first (by_name b))
+    go ih (same e) = deeper e (ih e)
+compare-paths (PartAt.result {p = p} x) (PartAt.result {p = q} y) = go (compare-paths x y)
+  where
+    go : Compared PathBefore p q → Compared PathBefore (Item.Res ∷ p) (Item.Res ∷ q)
+    go (before b) = before (later b)
+    go (after b) = after (later b)
+    go (same e) = same (ap (λ o. Item.Res ∷ o) e)

@@ -1,0 +1,4 @@
+pub mod FunctionSound
+pub mod LookSound
+pub mod PackUp
+pub mod StepFacts

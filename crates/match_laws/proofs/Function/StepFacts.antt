@@ -1,0 +1,126 @@
+-- The tests of the functions by the facts that a program finds out, and what looking up depends on.
+use Rattle.std.specs.Prelude.{ℕ, suc, ◌+◌, List, [], ◌≡◌, Option, Some, None, length}
+use Rattle.std.proofs.Common.{arith}
+use Rattle.std.proofs.Math.Path.{refl, sym, ◌∙◌, ap, subst, fun_ext}
+use Rattle.omega_kinds.specs.Kind.{Kind}
+use Rattle.omega_kinds.specs.declared.effect.Effect.TheVariants.{Pure}
+use Rattle.omega_kinds.specs.Name.{Name}
+use Rattle.omega_types.specs.Ty.{Ty}
+use Rattle.omega_types.specs.Binders.{extend, past}
+use Rattle.omega_terms.specs.Term.{Term}
+use Rattle.signatures.specs.Signatures.Sig.{Sig, Abs, SigRow, HasField, NoField}
+use Rattle.signatures.specs.Signatures.SigSubst.{raise_abs, sig_at_under}
+use Rattle.signatures.specs.Signatures.SigSize.{size}
+use Rattle.sig_laws.specs.NormalSig.{normal_sig}
+use Rattle.signatures.specs.Explicit.SigPath.{SigPath}
+use Rattle.signatures.specs.Explicit.RootPath.{RootPath, LeastRoot, least}
+use Rattle.sig_laws.proofs.Algebra.BinderLaws.{past-length}
+use Rattle.signatures.specs.Matching.LookUp.{Found}
+use Rattle.signatures.specs.Matching.MatchRefusal.{MatchRefusal}
+use Rattle.match_laws.specs.RootSearch.{where_both}
+use Rattle.match_laws.specs.MatchFunction.{Outcome, MatchFn, find_field, look_field, look_result, look, where_same, where_both_same, match_sig}
+use Rattle.match_laws.specs.MatchClaims.{LookGives, LaterTypesDoNotMatter}
+use Rattle.match_laws.proofs.OneMatch.Views.{field-unique}
+use Rattle.match_laws.proofs.OneMatch.Agree.{Agree}
+use Rattle.match_laws.proofs.LookUp.Good.{GoodLeft, GoodRight}
+use Rattle.match_laws.proofs.LookUp.LookUpLaws.{found-unique, root-agreed}
+use Rattle.match_laws.proofs.LookUp.Refused.{no-field}
+use Rattle.match_laws.proofs.Function.LookSound.{FieldOk, has, lacks, find_field-ok, LookOk, look_found, look_none, look-ok, at-form}
+use Rattle.match_laws.proofs.Function.FunctionSound.{match_sig-ok}
+
+pub same-yes : {A : Type 0} (d : Dec A) (f : Term) (q : MatchRefusal) → A → where_same d f q ≡ Outcome.coerced f
+same-yes (yes a) f q h = refl
+same-yes (no n) f q h = absurd (n h)
+
+pub same-no : {A : Type 0} (d : Dec A) (f : Term) (q : MatchRefusal) → (A → ⊥) → where_same d f q ≡ Outcome.refused q
+same-no (yes a) f q h = absurd (h a)
+same-no (no n) f q h = refl
+
+pub both_same-yes : {A B : Type 0} (d : Dec A) (c : Dec B) (f : Term) (q : MatchRefusal) → A → B → where_both_same d c f q ≡ Outcome.coerced f
+both_same-yes (yes a) c f q h g = same-yes c f q g
+both_same-yes (no n) c f q h g = absurd (n h)
+
+pub both_same-no : {A B : Type 0} (d : Dec A) (c : Dec B) (f : Term) (q : MatchRefusal) → (A → B → ⊥) → where_both_same d c f q ≡ Outcome.refused q
+both_same-no (yes a) c f q h = same-no c f q (h a)
+both_same-no (no n) c f q h = refl
+
+pub both-yes : {A B : Type 0} (d : Dec A) (c : Dec B) (o : Option SigPath) → A → B → where_both d c o ≡ o
+both-yes (yes a) (yes b) o h g = refl
+both-yes (yes a) (no n) o h g = absurd (n g)
+both-yes (no n) c o h g = absurd (n h)
+
+pub both-no : {A B : Type 0} (d : Dec A) (c : Dec B) (o : Option SigPath) → (A → B → ⊥) → where_both d c o ≡ None
+both-no (yes a) (yes b) o h = absurd (h a b)
+both-no (yes a) (no n) o h = refl
+both-no (no n) c o h = refl
+
+pub field-has : {fs : SigRow} {l : Name} {s : Sig} → HasField fs l s → find_field l fs ≡ Some s
+field-has {fs} {l} {s} h = go (find_field-ok l fs)
+  where
+    go : {o : Option Sig} → FieldOk fs l o → o ≡ Some s
+    go (has g) = ap Some (field-unique g h)
+    go (lacks n) = absurd (no-field h n)
+
+pub field-lacks : (fs : SigRow) (l : Name) → NoField l fs → find_field l fs ≡ None
+field-lacks fs l n = go (find_field-ok l fs)
+  where
+    go : {o : Option Sig} → FieldOk fs l o → o ≡ None
+    go (has g) = absurd (no-field g n)
+    go (lacks m) = refl
+
+-- the search for roots by the number of binders so far
+pub depth-more : (ks : List Kind) (m : ℕ) → Path (ℕ → ℕ) (λ x. past ks (m + x)) (λ x. (length ks + m) + x)
+depth-more ks m = fun_ext (λ x. let e = past-length ks (m + x) in omega arith)
+
+-- looking up reads on the right only what stands on the path
+
+field-by : (o : Option Sig) (r q : Sig) (f : Sig → Sig → Option Ty) → ((s : Sig) → f s r ≡ f s q) → look_field o (Some r) f ≡ look_field o (Some q) f
+field-by None r q f h = refl
+field-by (Some s) r q f h = h s
+
+pub look-agree : {r q : Sig} {p : SigPath} {bs : List Kind} {a b : Ty} {k : Kind} → Agree r q p bs a b k → (m : MatchFn) (ctx : List Kind) (s : Sig) → look m ctx s p r ≡ look m ctx s p q
+look-agree Agree.end m ctx (Sig.Typ t k) = refl
+look-agree Agree.end m ctx (Sig.Fun Pure ks a (Abs.Ex [] b)) = refl
+look-agree Agree.end m ctx s = refl
+look-agree (Agree.field {l = l} {r = r} {q = q} {p = p} g h a) m ctx (Sig.Str fs) =
+    ap (λ o. look_field (find_field l fs) o (λ s r. look m ctx s p r)) (field-has g) ∙
+    (field-by (find_field l fs) r q (λ s r. look m ctx s p r) (λ s. look-agree a m ctx s) ∙
+    sym (ap (λ o. look_field (find_field l fs) o (λ s r. look m ctx s p r)) (field-has h)))
+look-agree (Agree.field g h a) m ctx (Sig.Fun Pure ks c (Abs.Ex [] b)) = refl
+look-agree (Agree.field g h a) m ctx s = refl
+look-agree (Agree.result {ks = js} {s = b} a) m ctx (Sig.Fun Pure ks c (Abs.Ex [] s)) =
+    ap (look_result js (m (extend ctx js) b (raise_abs js (Abs.Ex ks c)))) (fun_ext (λ ts. look-agree a m (extend ctx js) (normal_sig (extend ctx js) (sig_at_under js ts s))))
+look-agree (Agree.result a) m ctx s = refl
+
+pub later_types : LaterTypesDoNotMatter
+later_types m ctx ks s r p before rest others v lt l h g =
+    let z = root-agreed before rest others refl refl h g lt (root-of l) (at-form v h) (at-form v g) in
+    look-agree z.5.2 m ctx s
+  where
+    root-of : LeastRoot ctx ks r (length before) p → RootPath ctx ks r (length before) p
+    root-of (least x y) = x
+
+-- looking up as a function
+
+look-is : {ctx : List Kind} {s r : Sig} {p : SigPath} {o : Option Ty} {t : Ty} → GoodLeft ctx s → GoodRight ctx r → LookOk ctx s p r o → Found ctx s p r t → o ≡ Some t
+look-is {t = t} w v (look_found f) g = ap Some (found-unique f w v t g)
+look-is {t = t} w v (look_none n) g = absurd (n t g)
+
+look-nothing : {ctx : List Kind} {s r : Sig} {p : SigPath} {o : Option Ty} → LookOk ctx s p r o → ((t : Ty) → Found ctx s p r t → ⊥) → o ≡ None
+look-nothing (look_found {t = t} f) n = absurd (n t f)
+look-nothing (look_none m) n = refl
+
+abbrev LookMeans : List Kind → Sig → SigPath → Sig → Option Ty → Type 0
+LookMeans ctx s p r None = (t : Ty) → Found ctx s p r t → ⊥
+LookMeans ctx s p r (Some t) = Found ctx s p r t
+
+look-means : (ctx : List Kind) (s : Sig) (p : SigPath) (r : Sig) {o : Option Ty} → LookOk ctx s p r o → LookMeans ctx s p r o
+look-means ctx s p r (look_found f) = f
+look-means ctx s p r (look_none n) = n
+
+pub look_gives : LookGives
+look_gives ctx s p r w v =
+    let ok = look-ok match_sig (suc (size s + size r)) (λ ctx s x lt w v. match_sig-ok ctx s x w v) ctx s p r (omega arith) w v in (
+      (λ t. (λ e. subst (LookMeans ctx s p r) e (look-means ctx s p r ok), λ f. look-is w v ok f)),
+      (λ e. subst (LookMeans ctx s p r) e (look-means ctx s p r ok), λ n. look-nothing ok n),
+    )

@@ -1,0 +1,17 @@
+use Rattle.match_laws.proofs.decided.Goals as goal
+use Rattle.match_laws.proofs.Theorems.{match_or_refusal, sub_or_refusal, sub_abs_or_refusal, not_both, one_refusal}
+
+pub returns-clause-matching : goal.returns-clause-matching
+returns-clause-matching c = match_or_refusal
+
+pub returns-clause-sub : goal.returns-clause-sub
+returns-clause-sub c = sub_or_refusal
+
+pub returns-clause-abs : goal.returns-clause-abs
+returns-clause-abs c = sub_abs_or_refusal
+
+pub returns-clause-exclude : goal.returns-clause-exclude
+returns-clause-exclude c = not_both
+
+pub returns-clause-one : goal.returns-clause-one
+returns-clause-one c = one_refusal

@@ -1,0 +1,53 @@
+-- The statements that each rule has exactly one conclusion, or exactly one refusal, for good premises.
+use Rattle.std.specs.Prelude.{List}
+use Rattle.omega_kinds.specs.Kind.{Kind}
+use Rattle.omega_kinds.specs.declared.effect.Effect.{Effect}
+use Rattle.omega_kinds.specs.Name.{Name}
+use Rattle.omega_types.specs.Ty.{Ty}
+use Rattle.omega_types.specs.Binders.{extend}
+use Rattle.omega_terms.specs.Term.{Term, TermRow}
+use Rattle.signatures.specs.Signatures.Sig.{Sig, Abs, SigRow, Module, made}
+use Rattle.signatures.specs.Env.{Env}
+use Rattle.signatures.specs.Verdict.{Verdict, One}
+use Rattle.sig_laws.specs.Good.{OkModule, Bound}
+use Rattle.module_rules.specs.PathUse.{TypeOfPath, ValueOfPath, SigOfPath}
+use Rattle.module_rules.specs.Projection.{Projected}
+use Rattle.module_rules.specs.Sequence.{Seq, Collected}
+use Rattle.module_rules.specs.ModRules.{NamedGives, NamedRefuses, ProjectRefuses, TypePathRefuses, ValuePathRefuses, SigPathRefuses, GenerativeGives, SealGives, ValueGives, TypeGives, SignatureGives}
+
+abbrev pub OneNamed : Type 0
+OneNamed = (g : Env) (l : Name) → Verdict (NamedGives g l) (NamedRefuses g l)
+
+abbrev pub OneProjected : Type 0
+OneProjected = (ctx : List Kind) (m : Module) (l : Name) → OkModule ctx m → Verdict (Projected ctx m l) (ProjectRefuses m l)
+
+abbrev pub OneTypePath : Type 0
+OneTypePath = (ctx : List Kind) (m : Module) → OkModule ctx m → Verdict (λ (o : Ty × Kind). TypeOfPath ctx m o.0 o.1) (TypePathRefuses ctx m)
+
+abbrev pub OneValuePath : Type 0
+OneValuePath = (ctx : List Kind) (m : Module) → OkModule ctx m → Verdict (λ (o : Ty × Term). ValueOfPath ctx m o.0 o.1) (ValuePathRefuses ctx m)
+
+abbrev pub OneSigPath : Type 0
+OneSigPath = (ctx : List Kind) (m : Module) → OkModule ctx m → Verdict (SigOfPath ctx m) (SigPathRefuses ctx m)
+
+abbrev pub OneGenerative : Type 0
+OneGenerative = (ctx ks : List Kind) (s : Sig) (m : Module) → OkModule (extend ctx ks) m → One (GenerativeGives ctx ks s m)
+
+abbrev pub OneEnd : Type 0
+OneEnd = (g : Env) (names : List Name) → Bound g names → One (λ (o : SigRow × TermRow). Collected g names o.0 o.1)
+
+-- a binding and the rest of a structure
+abbrev pub OneSequence : Type 0
+OneSequence = (ctx ks : List Kind) (f : Effect) (s : Sig) (ts : List Ty) (e : Term) (rest : Module) → OkModule ctx (made f (Abs.Ex ks s) ts e) → OkModule (extend ctx ks) rest → One (Seq ctx (made f (Abs.Ex ks s) ts e) rest)
+
+abbrev pub OneSeal : Type 0
+OneSeal = (e : Term) (y : Abs) (ts : List Ty) (c : Term) → One (SealGives e y ts c)
+
+abbrev pub OneValueModule : Type 0
+OneValueModule = (t : Ty) (e : Term) → One (ValueGives t e)
+
+abbrev pub OneTypeModule : Type 0
+OneTypeModule = (t : Ty) (k : Kind) → One (TypeGives t k)
+
+abbrev pub OneSignatureModule : Type 0
+OneSignatureModule = (x : Abs) → One (SignatureGives x)

@@ -1,0 +1,24 @@
+// The rules of modules and bindings: what each makes of premises that are elaborated already, and how it is refused.
+// Specifications and their laws only, so far; the calls that follow them are still to come.
+// Stands on signatures and premise_laws.
+// Proved: each rule with a condition or a choice has exactly one conclusion or exactly one refusal.
+#![tactic(auto)]
+
+ghost use Rattle.module_rules.specs.OneOutcome.{OneNamed, OneProjected, OneTypePath, OneValuePath, OneSigPath, OneGenerative, OneEnd, OneSequence, OneSeal, OneValueModule, OneTypeModule, OneSignatureModule};
+
+/// Names, projections and paths have exactly one conclusion or exactly one refusal; generative functors, sealing,
+/// single bindings, finished structures and sequences of bindings have exactly one conclusion.
+pub fn module_rules()
+    ensures named { OneNamed }
+    ensures projected { OneProjected }
+    ensures type_path { OneTypePath }
+    ensures value_path { OneValuePath }
+    ensures sig_path { OneSigPath }
+    ensures generative { OneGenerative }
+    ensures end { OneEnd }
+    ensures sequence { OneSequence }
+    ensures seal { OneSeal }
+    ensures value { OneValueModule }
+    ensures type_ { OneTypeModule }
+    ensures signature { OneSignatureModule }
+{}

@@ -1,0 +1,3 @@
+pub mod Norm
+pub mod Orders
+pub mod NormClaims

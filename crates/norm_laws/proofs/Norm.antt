@@ -1,0 +1,4 @@
+pub mod NormAgain
+pub mod NormKeeps
+pub mod NormRenamed
+pub mod NormUnique

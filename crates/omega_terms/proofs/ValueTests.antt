@@ -1,0 +1,61 @@
+-- The test for values is exact.
+use Rattle.std.proofs.Common.{◌↔◌, ◌&&◌, Bool as Truth, true, false, IsTrue, refl}
+use Rattle.omega_terms.specs.Term.{Term, TermRow}
+use Rattle.omega_terms.specs.Steps.{IsValue, AreValues}
+use Rattle.omega_terms.specs.ValueTest.{value_test, values_test}
+
+no : IsTrue false → ⊥
+no p = cc
+
+both : (a b : Truth) → IsTrue a → IsTrue b → IsTrue (a && b)
+both true b p q = q
+both false b p q = p
+
+left : (a b : Truth) → IsTrue (a && b) → IsTrue a
+left true b p = refl
+left false b p = p
+
+right : (a b : Truth) → IsTrue (a && b) → IsTrue b
+right true b p = p
+right false b p = absurd (no p)
+
+mutual
+  tested : (e : Term) → IsTrue (value_test e) → IsValue e
+  tested (Term.Var i) p = absurd (no p)
+  tested (Term.Int z) p = IsValue.int
+  tested (Term.Bool b) p = IsValue.bool
+  tested (Term.Text s) p = IsValue.text
+  tested (Term.Lam t e) p = IsValue.lam
+  tested (Term.Call f a) p = absurd (no p)
+  tested (Term.TyLam k e) p = IsValue.ty_lam
+  tested (Term.Inst e t) p = absurd (no p)
+  tested (Term.Fields row) p = IsValue.fields (all_tested row p)
+  tested (Term.Get e l) p = absurd (no p)
+  tested (Term.Pack t e u) p = IsValue.pack (tested e p)
+  tested (Term.Unpack d e) p = absurd (no p)
+  tested (Term.If a b c) p = absurd (no p)
+  tested (Term.Arith op a b) p = absurd (no p)
+  tested (Term.Fix t u e) p = IsValue.fix
+
+  all_tested : (row : TermRow) → IsTrue (values_test row) → AreValues row
+  all_tested TermRow.End p = AreValues.end
+  all_tested (TermRow.More l e rest) p =
+      AreValues.more (tested e (left (value_test e) (values_test rest) p)) (all_tested rest (right (value_test e) (values_test rest) p))
+
+mutual
+  passes : {e : Term} → IsValue e → IsTrue (value_test e)
+  passes IsValue.int = refl
+  passes IsValue.bool = refl
+  passes IsValue.text = refl
+  passes IsValue.lam = refl
+  passes IsValue.ty_lam = refl
+  passes IsValue.fix = refl
+  passes (IsValue.fields f) = all_pass f
+  passes (IsValue.pack v) = passes v
+
+  all_pass : {row : TermRow} → AreValues row → IsTrue (values_test row)
+  all_pass AreValues.end = refl
+  all_pass (AreValues.more v f) = both _ _ (passes v) (all_pass f)
+
+pub test-exact : (e : Term) → IsTrue (value_test e) ↔ IsValue e
+test-exact e = (tested e, passes)

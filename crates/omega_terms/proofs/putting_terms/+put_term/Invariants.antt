@@ -1,0 +1,9 @@
+use Rattle.std.proofs.Common.{◌≡◌, ◌≤◌, take, drop}
+use Rattle.omega_terms.specs.Size.{pairs_size}
+use Rattle.omega_terms.specs.TermSubst.{put_term}
+use Rattle.omega_terms.proofs.OneIndex.{map_terms}
+use Rattle.omega_terms.proofs.putting_terms.+put_term.Given as goal
+
+abbrev pub invariant-put_in_fields-loop-field : goal.invariant-put_in_fields-loop-field
+invariant-put_in_fields-loop-field l =
+    (l.filled ≡ map_terms (λ e. put_term e l.index l.arg) (take l.field-index l.field-items)) × (pairs_size (drop l.field-index l.field-items) ≤ pairs_size l.field-items)

@@ -1,0 +1,8 @@
+use Rattle.std.proofs.Common.{◌≡◌, max, drop}
+use Rattle.omega_terms.specs.Bound.{row_term_bound}
+use Rattle.omega_terms.specs.Fields.{term_row}
+use Rattle.omega_terms.proofs.tree.TermFields.term_bound.Given as goal
+
+abbrev pub invariant-loop-field : goal.invariant-loop-field
+invariant-loop-field l =
+    max l.most (row_term_bound (term_row (drop l.field-index l.field-items))) ≡ row_term_bound (term_row l.field-items)

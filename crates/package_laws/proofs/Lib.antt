@@ -1,0 +1,8 @@
+pub mod FlipProofs
+pub mod NormMapped
+pub mod OrderProofs
+pub mod Pairs
+pub mod SameLaws
+pub mod SamePackage
+pub mod Shuffles
+pub mod PackageClaims

@@ -1,0 +1,11 @@
+use Rattle.package_laws.proofs.package_types.Goals as goal
+use Rattle.package_laws.proofs.PackageClaims.{one_package_type, two_package_types, order_matters}
+
+pub returns-clause-one : goal.returns-clause-one
+returns-clause-one c = one_package_type
+
+pub returns-clause-two : goal.returns-clause-two
+returns-clause-two c = two_package_types
+
+pub returns-clause-order : goal.returns-clause-order
+returns-clause-order c = order_matters

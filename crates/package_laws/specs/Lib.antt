@@ -1,0 +1,4 @@
+pub mod FlipExample
+pub mod OrderExample
+pub mod SamePaths
+pub mod PackageTypes

@@ -1,0 +1,26 @@
+-- The statements that what premises give exists, and is the only one.
+use Rattle.std.specs.Prelude.{List}
+use Rattle.omega_kinds.specs.Kind.{Kind}
+use Rattle.omega_types.specs.Ty.{Ty}
+use Rattle.omega_types.specs.Binders.{extend}
+use Rattle.omega_terms.specs.Term.{Term}
+use Rattle.signatures.specs.Signatures.Sig.{Sig, Abs, Module}
+use Rattle.signatures.specs.Lifting.{Lift}
+use Rattle.signatures.specs.Packing.{Packed}
+use Rattle.signatures.specs.QuantifierOrder.{Norm}
+use Rattle.signatures.specs.Matching.Subtyping.{Match}
+use Rattle.signatures.specs.Matching.MatchRefusal.{RefusesMatch}
+use Rattle.signatures.specs.Verdict.{Verdict, One}
+use Rattle.sig_laws.specs.Good.{OkSig, OkAbs, OkRight, OkModule}
+
+abbrev pub OneMatchOrRefusal : Type 0
+OneMatchOrRefusal = (ctx : List Kind) (s : Sig) (x : Abs) → OkSig ctx s → OkRight ctx x → Verdict (λ (o : List Ty × Term). Match ctx s x o.0 o.1) (RefusesMatch ctx s x)
+
+abbrev pub OneNorm : Type 0
+OneNorm = (ctx : List Kind) (x : Abs) → OkRight ctx x → One (Norm ctx x)
+
+abbrev pub OneLift : Type 0
+OneLift = (ctx ks : List Kind) (s : Sig) (y : Abs) → OkRight ctx (Abs.Ex ks s) → OkAbs (extend ctx ks) y → One (Lift ctx ks s y)
+
+abbrev pub OnePacked : Type 0
+OnePacked = (ctx : List Kind) (m : Module) → OkModule ctx m → One (Packed ctx m)

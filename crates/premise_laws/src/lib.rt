@@ -1,0 +1,15 @@
+// What premises of the rules of elaboration determine: matches, norms, lifted signatures, packed terms, instances.
+// Stands on match_laws, explicit_laws and norm_laws.
+// Proved: each of these exists, and is the only one.
+#![tactic(auto)]
+
+ghost use Rattle.premise_laws.specs.Determined.{OneMatchOrRefusal, OneNorm, OneLift, OnePacked};
+
+/// For well formed and ordered explicit signatures of normal types there is exactly one match or one refusal, one norm
+/// and one lifted signature; and each module has exactly one packed term.
+pub fn premises()
+    ensures matching { OneMatchOrRefusal }
+    ensures norm { OneNorm }
+    ensures lift { OneLift }
+    ensures packed { OnePacked }
+{}

@@ -1,0 +1,10 @@
+pub mod AlikeLaws
+pub mod BinderLaws
+pub mod EtaLaws
+pub mod FormLaws
+pub mod Instances
+pub mod Own
+pub mod PathLaws
+pub mod SigAlgebra
+pub mod SigMention
+pub mod SizeLaws

@@ -1,0 +1,5 @@
+pub mod Conditions
+pub mod Forms
+pub mod NormGood
+pub mod WellFormedLaws
+pub mod WellFormedShape

@@ -1,0 +1,57 @@
+-- The laws as they are stated.
+use Rattle.std.proofs.Math.Path.{sym, subst}
+use Rattle.signatures.specs.Signatures.Alike.{NormalSigForm}
+use Rattle.sig_laws.specs.SigLaws.{SubstituteId, SubstituteTwice, SubstituteAgree, SizeKept, PartKept, RootKept, WellFormedKept, ResultsKept, ExplicitKept, WellFormedConv, NormalSigGives, EncNormal, EncInjective, ConvExactly, OperatorFound}
+use Rattle.sig_laws.proofs.Algebra.SigAlgebra.{substitute_sig-id, substitute-substitute_sig}
+use Rattle.sig_laws.proofs.Algebra.SigMention.{substitute_sig-agree}
+use Rattle.sig_laws.proofs.Algebra.SizeLaws.{size-substitute}
+use Rattle.sig_laws.proofs.Algebra.PathLaws.{part-substitute}
+use Rattle.sig_laws.proofs.Algebra.AlikeLaws.{form_sig-same, conv_sig-gives}
+use Rattle.sig_laws.proofs.Formed.WellFormedLaws.{root-substitute, well_formed-substitute, explicit_results-substitute, explicit-substitute, well_formed-conv, well_formed-kinds}
+use Rattle.sig_laws.proofs.Encoded.EncodingLaws.{enc-normal, enc-injective, enc-conv, conv-enc}
+use Rattle.sig_laws.proofs.Algebra.EtaLaws.{operator_found}
+
+pub substitute_id : SubstituteId
+substitute_id s = substitute_sig-id s
+
+pub substitute_twice : SubstituteTwice
+substitute_twice f g s = substitute-substitute_sig f g s
+
+pub substitute_agree : SubstituteAgree
+substitute_agree f g s h = substitute_sig-agree f g s h
+
+pub size_kept : SizeKept
+size_kept f s = size-substitute f s
+
+pub part_kept : PartKept
+part_kept f s q p bs a = part-substitute f a
+
+pub root_kept : RootKept
+root_kept ctx other ks s number p f h lt r = root-substitute f h lt r
+
+pub well_formed_kept : WellFormedKept
+well_formed_kept ctx other s f h w = well_formed-substitute f h w
+
+pub results_kept : ResultsKept
+results_kept ctx other s f h w = explicit_results-substitute f h w
+
+pub explicit_kept : ExplicitKept
+explicit_kept ctx other x f h w = explicit-substitute f h w
+
+pub well_formed_conv : WellFormedConv
+well_formed_conv ctx s t w c = well_formed-conv w c
+
+pub normal_sig_gives : NormalSigGives
+normal_sig_gives ctx s n w = (λ f. form_sig-same f, λ e. subst (NormalSigForm ctx s) (sym e) (conv_sig-gives (well_formed-kinds w)))
+
+pub enc_normal : EncNormal
+enc_normal ctx s w n = enc-normal w n
+
+pub enc_injective : EncInjective
+enc_injective s t e = enc-injective s t e
+
+pub conv_exactly : ConvExactly
+conv_exactly ctx s t w v = (λ c. enc-conv w c, λ c. conv-enc w v c)
+
+pub found_operator : OperatorFound
+found_operator ctx ks t u k n m c = operator_found ks n m c

@@ -1,0 +1,5 @@
+pub mod Algebra
+pub mod Encoded
+pub mod Formed
+pub mod LawTheorems
+pub mod LiftLaws

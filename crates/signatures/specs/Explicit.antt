@@ -1,0 +1,3 @@
+pub mod RootPath
+pub mod SigPath
+pub mod WellFormed
