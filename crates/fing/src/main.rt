@@ -4,9 +4,8 @@
 
 use fing_text::{StdSink, StdSource};
 use fing_top::{Status, fing};
-use std::env;
-use std::io;
 use std::process::ExitCode;
+use std::{env, io};
 
 // The words after the program's name.
 fn words(rt: &HostRuntime) -> io::Result<Vec<String>> {
