@@ -1,5 +1,5 @@
 -- Each rule of expressions has exactly one conclusion or exactly one refusal.
-use Rattle.std.specs.Prelude.{List, [], ◌∷◌, ◌≡◌, ◌≢◌, ◌⊎◌}
+use Rattle.std.specs.Prelude.{ℤ, Bool, List, [], ◌∷◌, ◌≡◌, ◌≢◌, ◌⊎◌}
 use Rattle.std.proofs.Common.{inl, inr}
 use Rattle.std.proofs.Math.Path.{refl, sym, subst, ap, ◌∙◌}
 use Rattle.omega_kinds.specs.Kind.{Kind, Kind-discrete}
@@ -20,8 +20,22 @@ use Rattle.signatures.specs.Signatures.RecordOrder.{insert_part, insert_term, Is
 use Rattle.sig_laws.specs.Decide.{dec_ty}
 use Rattle.sig_laws.proofs.Formed.Forms.{new_dec, part-at}
 use Rattle.core_rules.specs.CoreWhy.{CoreWhy, NotArrow, NotAll, NotRecord, NoField, Differ, KindDiffer, DuplicateField, IsNoArrow, IsNoAll, IsNoRecord}
-use Rattle.core_rules.specs.ExpRules.{FunctionGives, FunctionRefuses, TypeFunctionGives, CallGives, CallRefuses, InstanceGives, InstanceRefuses, GetGives, GetRefuses, IfGives, IfRefuses, OperationGives, OperationRefuses, FixGives, FixRefuses, FieldExp, field, RecordGives, RecordRefuses}
-use Rattle.core_rules.specs.OneOutcome.{OneFunction, OneTypeFunction, OneCall, OneInstance, OneGet, OneIf, OneOperation, OneFix, OneRecord}
+use Rattle.core_rules.specs.ExpRules.{Literal, LiteralGives, FunctionGives, FunctionRefuses, TypeFunctionGives, CallGives, CallRefuses, InstanceGives, InstanceRefuses, GetGives, GetRefuses, IfGives, IfRefuses, OperationGives, OperationRefuses, FixGives, FixRefuses, FieldExp, field, RecordGives, RecordRefuses}
+use Rattle.core_rules.specs.OneOutcome.{OneLiteral, OneFunction, OneTypeFunction, OneCall, OneInstance, OneGet, OneIf, OneOperation, OneFix, OneRecord}
+
+literal-int : {z : ℤ} (o : Ty × Term) → LiteralGives (Literal.Int z) o.0 o.1 → o ≡ (Ty.Int, Term.Int z)
+literal-int _ LiteralGives.int = refl
+
+literal-bool : {b : Bool} (o : Ty × Term) → LiteralGives (Literal.Bool b) o.0 o.1 → o ≡ (Ty.Bool, Term.Bool b)
+literal-bool _ LiteralGives.bool = refl
+
+literal-text : {bytes : Name} (o : Ty × Term) → LiteralGives (Literal.Text bytes) o.0 o.1 → o ≡ (Ty.Text, Term.Text bytes)
+literal-text _ LiteralGives.text = refl
+
+pub one_literal : OneLiteral
+one_literal (Literal.Int z) = holds (Ty.Int, Term.Int z) LiteralGives.int literal-int (λ r q. q)
+one_literal (Literal.Bool b) = holds (Ty.Bool, Term.Bool b) LiteralGives.bool literal-bool (λ r q. q)
+one_literal (Literal.Text w) = holds (Ty.Text, Term.Text w) LiteralGives.text literal-text (λ r q. q)
 
 pair-same : {A B : Type 0} {a : A} {b : B} (p : A × B) → p.0 ≡ a → p.1 ≡ b → p ≡ (a, b)
 pair-same p x y = λ i. (x i, y i)

@@ -13,8 +13,22 @@ use Rattle.signatures.specs.Verdict.{Verdict, holds, refuses}
 use Rattle.signatures.specs.Signatures.RecordOrder.{insert_part, IsNew}
 use Rattle.sig_laws.proofs.Formed.Forms.{new_dec}
 use Rattle.core_rules.specs.CoreWhy.{CoreWhy, KindDiffer, NotOperator, DuplicateField}
-use Rattle.core_rules.specs.TypeRules.{ArrowGives, ArrowRefuses, AllGives, AllRefuses, OperatorGives, AppliedGives, AppliedRefuses, FieldTy, field, RecordTypeGives, RecordTypeRefuses}
-use Rattle.core_rules.specs.OneOutcome.{OneArrow, OneAll, OneOperator, OneApplied, OneRecordType}
+use Rattle.core_rules.specs.TypeRules.{Base, BaseGives, ArrowGives, ArrowRefuses, AllGives, AllRefuses, OperatorGives, AppliedGives, AppliedRefuses, FieldTy, field, RecordTypeGives, RecordTypeRefuses}
+use Rattle.core_rules.specs.OneOutcome.{OneBase, OneArrow, OneAll, OneOperator, OneApplied, OneRecordType}
+
+base-int : (o : Ty × Kind) → BaseGives Base.Int o.0 o.1 → o ≡ (Ty.Int, Kind.Star)
+base-int _ BaseGives.int = refl
+
+base-bool : (o : Ty × Kind) → BaseGives Base.Bool o.0 o.1 → o ≡ (Ty.Bool, Kind.Star)
+base-bool _ BaseGives.bool = refl
+
+base-text : (o : Ty × Kind) → BaseGives Base.Text o.0 o.1 → o ≡ (Ty.Text, Kind.Star)
+base-text _ BaseGives.text = refl
+
+pub one_base : OneBase
+one_base Base.Int = holds (Ty.Int, Kind.Star) BaseGives.int base-int (λ r q. q)
+one_base Base.Bool = holds (Ty.Bool, Kind.Star) BaseGives.bool base-bool (λ r q. q)
+one_base Base.Text = holds (Ty.Text, Kind.Star) BaseGives.text base-text (λ r q. q)
 
 arrow-only : {t u : Ty} (o : Ty × Kind) → ArrowGives t Kind.Star u Kind.Star o.0 o.1 → o ≡ (Ty.Arrow t u, Kind.Star)
 arrow-only _ ArrowGives.arrow = refl

@@ -1,6 +1,6 @@
 -- The rules of expressions, one relation for the conclusion of each, and one for its refusals, over premises that are
 -- already elaborated: normal types with their terms. A rule's conditions are tried in order.
-use Rattle.std.specs.Prelude.{List, [], ◌∷◌, ◌≢◌}
+use Rattle.std.specs.Prelude.{ℤ, Bool as Truth, List, [], ◌∷◌, ◌≢◌}
 use Rattle.omega_kinds.specs.Kind.{Kind}
 use Rattle.omega_kinds.specs.declared.label.Label.{Label}
 use Rattle.omega_kinds.specs.Name.{Name}
@@ -12,6 +12,17 @@ use Rattle.omega_terms.specs.Term.{Term, TermRow}
 use Rattle.omega_terms.specs.Typing.{HasPart, result_type}
 use Rattle.signatures.specs.Signatures.RecordOrder.{insert_part, insert_term, IsNew}
 use Rattle.core_rules.specs.CoreWhy.{CoreWhy, NotArrow, NotAll, NotRecord, NoField, Differ, KindDiffer, DuplicateField, IsNoArrow, IsNoAll, IsNoRecord}
+
+pub data Literal : Type 0 where
+  Int : ℤ → Literal
+  Bool : Truth → Literal
+  Text : (bytes : Name) → Literal
+
+-- a number, a truth value, a text; never refused
+pub data LiteralGives : Literal → Ty → Term → Type 0 where
+  int : {z : ℤ} → LiteralGives (Literal.Int z) Ty.Int (Term.Int z)
+  bool : {b : Truth} → LiteralGives (Literal.Bool b) Ty.Bool (Term.Bool b)
+  text : {bytes : Name} → LiteralGives (Literal.Text bytes) Ty.Text (Term.Text bytes)
 
 -- fun (X : T) => E, E under X
 pub data FunctionGives : (param : Ty) (kind : Kind) (body : Ty) (term : Term) → Ty → Term → Type 0 where

@@ -8,12 +8,15 @@ use Rattle.omega_terms.specs.declared.op.Op.{Op}
 use Rattle.omega_terms.specs.Term.{Term, TermRow}
 use Rattle.signatures.specs.Verdict.{Verdict}
 use Rattle.core_rules.specs.CoreWhy.{CoreWhy}
-use Rattle.core_rules.specs.TypeRules.{ArrowGives, ArrowRefuses, AllGives, AllRefuses, OperatorGives, AppliedGives, AppliedRefuses, FieldTy, RecordTypeGives, RecordTypeRefuses}
-use Rattle.core_rules.specs.ExpRules.{FunctionGives, FunctionRefuses, TypeFunctionGives, CallGives, CallRefuses, InstanceGives, InstanceRefuses, GetGives, GetRefuses, IfGives, IfRefuses, OperationGives, OperationRefuses, FixGives, FixRefuses, FieldExp, RecordGives, RecordRefuses}
+use Rattle.core_rules.specs.TypeRules.{Base, BaseGives, ArrowGives, ArrowRefuses, AllGives, AllRefuses, OperatorGives, AppliedGives, AppliedRefuses, FieldTy, RecordTypeGives, RecordTypeRefuses}
+use Rattle.core_rules.specs.ExpRules.{Literal, LiteralGives, FunctionGives, FunctionRefuses, TypeFunctionGives, CallGives, CallRefuses, InstanceGives, InstanceRefuses, GetGives, GetRefuses, IfGives, IfRefuses, OperationGives, OperationRefuses, FixGives, FixRefuses, FieldExp, RecordGives, RecordRefuses}
 
 -- a rule without a refusal
 abbrev pub Never : CoreWhy → Type 0
 Never why = ⊥
+
+abbrev pub OneBase : Type 0
+OneBase = (b : Base) → Verdict (λ (o : Ty × Kind). BaseGives b o.0 o.1) Never
 
 abbrev pub OneArrow : Type 0
 OneArrow = (t : Ty) (k : Kind) (u : Ty) (j : Kind) → Verdict (λ (o : Ty × Kind). ArrowGives t k u j o.0 o.1) (ArrowRefuses t k u j)
@@ -29,6 +32,9 @@ OneApplied = (ctx : List Kind) (t : Ty) (k : Kind) (u : Ty) (j : Kind) → HasKi
 
 abbrev pub OneRecordType : Type 0
 OneRecordType = (before : List Name) (fields : List FieldTy) → Verdict (RecordTypeGives before fields) (RecordTypeRefuses before fields)
+
+abbrev pub OneLiteral : Type 0
+OneLiteral = (l : Literal) → Verdict (λ (o : Ty × Term). LiteralGives l o.0 o.1) Never
 
 abbrev pub OneFunction : Type 0
 OneFunction = (t : Ty) (k : Kind) (u : Ty) (e : Term) → Verdict (λ (o : Ty × Term). FunctionGives t k u e o.0 o.1) (FunctionRefuses t k)

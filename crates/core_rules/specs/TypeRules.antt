@@ -9,6 +9,15 @@ use Rattle.omega_types.specs.Normalises.{NormalForm}
 use Rattle.signatures.specs.Signatures.RecordOrder.{insert_part, IsNew}
 use Rattle.core_rules.specs.CoreWhy.{CoreWhy, KindDiffer, NotOperator, DuplicateField}
 
+pub data Base : Type 0 where
+  Int Bool Text : Base
+
+-- Int, Bool, Text; never refused
+pub data BaseGives : Base → Ty → Kind → Type 0 where
+  int : BaseGives Base.Int Ty.Int Kind.Star
+  bool : BaseGives Base.Bool Ty.Bool Kind.Star
+  text : BaseGives Base.Text Ty.Text Kind.Star
+
 -- T -> U: both are types of values
 pub data ArrowGives : (from : Ty) (kind : Kind) (to : Ty) (to_kind : Kind) → Ty → Kind → Type 0 where
   arrow : {t u : Ty} → ArrowGives t Kind.Star u Kind.Star (Ty.Arrow t u) Kind.Star

@@ -4,10 +4,11 @@
 // Proved: each rule has exactly one conclusion or exactly one refusal.
 #![tactic(auto)]
 
-ghost use Rattle.core_rules.specs.OneOutcome.{OneArrow, OneAll, OneOperator, OneApplied, OneRecordType, OneFunction, OneTypeFunction, OneCall, OneInstance, OneGet, OneIf, OneOperation, OneFix, OneRecord};
+ghost use Rattle.core_rules.specs.OneOutcome.{OneBase, OneArrow, OneAll, OneOperator, OneApplied, OneRecordType, OneLiteral, OneFunction, OneTypeFunction, OneCall, OneInstance, OneGet, OneIf, OneOperation, OneFix, OneRecord};
 
 /// Each rule of types gives exactly one normal type and kind, or has exactly one refusal, its first condition that fails.
 pub fn type_rules()
+    ensures base { OneBase }
     ensures arrow { OneArrow }
     ensures all { OneAll }
     ensures operator { OneOperator }
@@ -18,6 +19,7 @@ pub fn type_rules()
 /// Each rule of expressions gives exactly one normal type and term, or has exactly one refusal, its first condition that
 /// fails.
 pub fn expression_rules()
+    ensures literal { OneLiteral }
     ensures function { OneFunction }
     ensures type_function { OneTypeFunction }
     ensures call { OneCall }

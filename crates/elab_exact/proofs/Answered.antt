@@ -1,8 +1,8 @@
 -- In a good environment each phrase means exactly one thing or is refused in exactly one way.
-use Rattle.std.specs.Prelude.{List, [], ◌∷◌, ◌≡◌, ◌⊎◌, Bool, true, false, Some}
-use Rattle.std.proofs.Common.{inl, inr}
+use Rattle.std.specs.Prelude.{List, [], ◌∷◌, ◌≡◌, Bool, true, false, Some}
 use Rattle.std.proofs.Math.Path.{refl, sym, subst, ap, ◌∙◌}
 use Rattle.omega_kinds.specs.Kind.{Kind, Kind-discrete}
+use Rattle.omega_kinds.specs.declared.effect.Effect.{Effect}
 use Rattle.omega_kinds.specs.declared.effect.Effect.TheVariants.{Pure, Impure}
 use Rattle.omega_kinds.specs.Name.{Name}
 use Rattle.omega_types.specs.Ty.{Ty}
@@ -13,54 +13,48 @@ use Rattle.omega_types.specs.Normality.Normal.{n_arrow}
 use Rattle.omega_types.specs.Binders.{extend}
 use Rattle.omega_types.proofs.Preservation.{normal-kind}
 use Rattle.omega_terms.specs.Term.{Term}
-use Rattle.omega_terms.specs.Shorthands.{Packs}
 use Rattle.signatures.specs.Signatures.Sig.{Sig, Abs, SigRow, Module, made}
-use Rattle.signatures.specs.Signatures.Alike.{ConvAbs}
-use Rattle.signatures.specs.Signatures.Encoding.{enc_abs}
-use Rattle.signatures.specs.Explicit.WellFormed.{WellFormed, WellFormedAbs}
 use Rattle.signatures.specs.Matching.Subtyping.{Match}
 use Rattle.signatures.specs.Env.{Env, Value, kinds, find, type_vars, with_module, named_fields}
 use Rattle.signatures.specs.Signatures.FieldOrder.{with_name, with_names}
-use Rattle.sig_laws.proofs.Formed.WellFormedLaws.{explicit-kinds}
 use Rattle.signatures.specs.Matching.MatchRefusal.{MatchRefusal, RefusesMatch}
 use Rattle.sig_laws.proofs.Formed.Conditions.{explicit-right, explicit-abs, abs-body, str-fields, left-functor, match-kinds}
 use Rattle.fing_syntax.specs.Phrase.{Span, SpanName, Mod, ModAt, ModName, ModStruct, ModProject, ModFunctor, ModApply, ModSeal, ModUnpack, Bind, BindAt, BindVal, BindTy, BindModule, BindSignature, BindInclude, Binds, NoBinds, MoreBinds, SigEx, SigAt, PathSig, SigDecls, SigFun, SigRefine, Decl, DeclAt, DeclVal, DeclTyIs, DeclTyOf, DeclModule, DeclSignature, DeclInclude, Decls, NoDecls, MoreDecls, TyEx, TyAt, PathTy, TyInt, TyBool, TyText, TyArrow, TyApply, TyFields, TyAll, TyLam, TyPack, TyExs, NoTys, MoreTys, FieldTyExs, NoFieldTys, MoreFieldTys, Exp, ExpAt, PathExp, ExpInt, ExpBool, ExpText, ExpLam, ExpTyLam, ExpFix, ExpIf, ExpOps, ExpApply, ExpFields, ExpGet, ExpPack, OpExps, NoOps, MoreOps, ArgExp, ArgTy, Args, NoArgs, MoreArgs, FieldExps, NoFieldExps, MoreFieldExps}
 use Rattle.fing_syntax.specs.Place.{name_of, name_span, ty_span, exp_span, sig_span, up_to}
-use Rattle.signatures.specs.Signatures.RecordOrder.{AreNew, FirstOld}
 use Rattle.core_rules.specs.CoreWhy.{CoreWhy}
 use Rattle.core_rules.specs.OneOutcome.{Never}
-use Rattle.core_rules.specs.TypeRules.{AppliedGives}
-use Rattle.core_rules.specs.ExpRules.{CallGives, InstanceGives}
-use Rattle.core_rules.proofs.TypeVerdicts.{one_arrow, one_all, one_operator, one_applied}
-use Rattle.core_rules.proofs.ExpVerdicts.{one_function, one_type_function, one_call, one_instance, one_get, one_if, one_operation, one_fix}
-use Rattle.sig_rules.specs.SigRules.{ValueGives, TypeGives, AbstractGives, ModuleGives, SignatureGives, IncludeGives}
-use Rattle.sig_rules.proofs.Verdicts.{one_value, one_type, one_abstract, one_module, one_signature, one_include, one_generative}
-use Rattle.module_rules.proofs.Verdicts.{one_seal, one_value_module, one_type_module, one_signature_module}
-use Rattle.packages.proofs.Verdicts.{one_pack_type, one_unpack}
-use Rattle.elab_rules.specs.Operators.{with_type, include_name, omega_op}
-use Rattle.fing_refusals.specs.Refusal.{Refusal, NoPart}
-use Rattle.elab_rules.specs.Refusals.Refusal.{refuse, refuse_match}
+use Rattle.core_rules.specs.TypeRules.{Base, AppliedGives}
+use Rattle.core_rules.specs.ExpRules.{Literal, CallGives, InstanceGives}
+use Rattle.core_rules.proofs.TypeVerdicts.{one_base, one_record_type, one_arrow, one_all, one_operator, one_applied}
+use Rattle.core_rules.proofs.ExpVerdicts.{one_literal, one_record, one_function, one_type_function, one_call, one_instance, one_get, one_if, one_operation, one_fix}
+use Rattle.sig_rules.specs.SigRules.{ValueGives, TypeGives, AbstractGives, ModuleGives, SignatureGives, IncludeGives, DeclarationsGive}
+use Rattle.sig_rules.proofs.Verdicts.{one_value, one_type, one_abstract, one_module, one_signature, one_include, one_generative, one_distinct, one_declarations}
+use Rattle.module_rules.proofs.Verdicts.{one_named, one_projected, one_type_path, one_value_path, one_sig_path, one_parts, one_generative as one_generative_module, found-one as bound-one, apply-one, include-one, included-structure, one_seal, one_value_module, one_type_module, one_signature_module}
+use Rattle.module_rules.specs.ModWhy.{ModWhy}
+use Rattle.module_rules.specs.ModRules.{NamedRefuses, PartsGive, ApplyGives}
+use Rattle.applicative_functors.proofs.Verdicts.{one_pure_functor}
+use Rattle.packages.proofs.Verdicts.{one_pack_type, one_pack, one_unpack}
+use Rattle.elab_rules.specs.Operators.{names_of, with_type, include_name, omega_op}
+use Rattle.fing_refusals.specs.Refusal.{Refusal}
+use Rattle.elab_rules.specs.Refusals.Refusal.{refuse, refuse_match, of_mod}
 use Rattle.elab_rules.specs.Judgments.Meaning.{DeclMeans, DeclsMean}
 use Rattle.signatures.specs.Verdict.{Verdict, holds, refuses, One}
 use Rattle.elab_rules.specs.Refusals.Task.{Task, a_type, type_args, type_fields, an_exp, operands, args, fields, a_sig, a_decl, decls, a_mod, a_bind, binds}
-use Rattle.elab_rules.specs.Refusals.Steps.{steps, type_path, value_path, sig_path, functor_sig, refined, decls_after, decls_from, projected, generative, functor_of, functor_body, with_lets, after_bind, after_include}
+use Rattle.elab_rules.specs.Refusals.Steps.{steps, functor_sig, refined, decls_from, generative, functor_of, functor_body, after_bind, after_include}
 use Rattle.elab_exact.specs.Claims.{Exactly}
 use Rattle.sig_laws.specs.Good.{OkSig, OkRow, OkAbs, OkRight, OkEnv, OkModule, Names}
 use Rattle.elab_laws.proofs.FieldLaws.{rise-with_name, rise-with_names}
 use Rattle.elab_laws.proofs.Kept.{type_ok, exp_ok, sig_ok, decl_ok, mod_ok, bind_ok, binds_ok, norm_ok}
+use Rattle.sig_rules.proofs.WhereVerdict.{one_where}
+use Rattle.elab_exact.proofs.Places.{placed}
 use Rattle.elab_exact.proofs.Rules.Generic.{Ready, answer, perhaps-some, dec-test, one-the, stopped}
 use Rattle.elab_exact.proofs.Rules.Complete.{means-runs}
 use Rattle.elab_exact.proofs.Rules.Correct.{steps-sound}
 use Rattle.sig_laws.specs.Decide.{dec_ty}
-use Rattle.sig_laws.proofs.Formed.Forms.{kind-arrow, type-arrow, type-all, type-record, sig-value, sig-type, sig-meta, sig-structure, sig-functor, option-some, field-at, new_dec, new-or-old, new-not_old}
-use Rattle.module_rules.proofs.Escapes.{type-outside, sig-outside}
-use Rattle.sig_rules.proofs.Paths.{leads, shows}
+use Rattle.sig_laws.proofs.Formed.Forms.{kind-arrow, type-arrow, type-all, type-record, new_dec}
 use Rattle.premise_laws.proofs.Environments.{good-module, good-fields, good-type_fields, find-good, bound-module, bound-bind, bound-fields}
-use Rattle.premise_laws.proofs.Terms.{packs_all-one}
-use Rattle.module_rules.proofs.Determined.{lets-normal}
-use Rattle.premise_laws.proofs.Determined.{result-one, lift-one, match-verdict, norm-one, packed-one}
-use Rattle.module_rules.proofs.Determined.{projected-one, collected-one, seq-one}
-use Rattle.sig_rules.proofs.Refining.{refined-one}
+use Rattle.premise_laws.proofs.Determined.{lift-one, match-verdict, norm-one}
+use Rattle.module_rules.proofs.Determined.{collected-one, seq-one}
 use Rattle.sig_laws.proofs.Encoded.EnvTyping.{kinds-named_fields}
 use Rattle.sig_laws.proofs.Algebra.FormLaws.{kinds-type_vars}
 
@@ -74,16 +68,6 @@ mapped f (refuses r q only never) = refuses (f r) (r, q, refl) (λ s u. u.2 ∙ 
 
 star-one : {r : Refusal} (k : Kind) → Verdict {A = Unit {0}} (λ u. k ≡ Kind.Star) (λ q. (k ≡ Kind.Star → ⊥) × (q ≡ r))
 star-one {r} k = dec-test r (Kind-discrete k Kind.Star)
-
--- what the parts of well formed signatures are
-typ-kind : {ctx : List Kind} {t : Ty} {k : Kind} → WellFormed ctx (Sig.Typ t k) → HasKind ctx t k
-typ-kind (WellFormed.typ h) = h
-
-val-kind : {ctx : List Kind} {t : Ty} → WellFormed ctx (Sig.Val t) → HasKind ctx t Kind.Star
-val-kind (WellFormed.val h) = h
-
-meta-kinds : {ctx : List Kind} {x : Abs} → WellFormed ctx (Sig.Meta x) → ConvAbs ctx x x
-meta-kinds (WellFormed.meta h) = explicit-kinds h
 
 arrow-result : {ctx : List Kind} {t u : Ty} {k : Kind} → HasKind ctx (Ty.Arrow t u) k → HasKind ctx u Kind.Star
 arrow-result (k_arrow a b) = b
@@ -112,20 +96,8 @@ structure-row h = (str-fields h.0, h.1)
 right-abs : {ctx : List Kind} {x : Abs} → OkRight ctx x → OkAbs ctx x
 right-abs h = (explicit-abs h.0, h.1)
 
-type_path-ready : (g : Env) (at : Span) (M : Module) → OkModule (kinds g) M → Ready (type_path g at M)
-type_path-ready g at (made f (Abs.Ex ks s) ts e) h = (perhaps-some _ (sig-type s), λ p q. (perhaps-some _ (type-outside (kinds g) ks p.0 p.1 (typ-kind (subst (λ s. WellFormed (extend (kinds g) ks) s) q (abs-body h.0.0)))), λ t o. tt))
-
-value_path-ready : (g : Env) (at : Span) (M : Module) → OkModule (kinds g) M → Ready (value_path g at M)
-value_path-ready g at (made f (Abs.Ex ks s) ts e) h = (perhaps-some _ (sig-value s), λ t q. (perhaps-some _ (type-outside (kinds g) ks t Kind.Star (val-kind (subst (λ s. WellFormed (extend (kinds g) ks) s) q (abs-body h.0.0)))), λ n o. tt))
-
-sig_path-ready : (g : Env) (at : Span) (M : Module) → OkModule (kinds g) M → Ready (sig_path g at M)
-sig_path-ready g at (made f (Abs.Ex ks s) ts e) h = (perhaps-some _ (sig-meta s), λ x q. (perhaps-some _ (sig-outside (kinds g) ks x (meta-kinds (subst (λ s. WellFormed (extend (kinds g) ks) s) q (abs-body h.0.0)))), λ n o. tt))
-
-found-one : {r : Refusal} (g : Env) (x : SpanName) → Verdict (λ o. find g (name_of x) ≡ Some o) (λ q. ((o : Sig × Term) → find g (name_of x) ≡ Some o → ⊥) × (q ≡ r))
-found-one {r} g x = perhaps-some r (option-some (find g (name_of x)))
-
-packs_abs-one : {ctx : List Kind} {s : Sig} {ts : List Ty} {f : Term} (e : Term) (z : Abs) → OkRight ctx z → Match ctx s z ts f → One (λ d. Packs ctx ts e (enc_abs z) d)
-packs_abs-one e (Abs.Ex ks t) h m = packs_all-one e t (match-kinds m) (explicit-abs h.0)
+found-one : (g : Env) (x : SpanName) → Verdict (λ o. find g (name_of x) ≡ Some o) (λ q. (why : ModWhy) × NamedRefuses g (name_of x) why × (q ≡ refuse g (name_span x) (of_mod why)))
+found-one g x = mapped _ (bound-one g (name_of x))
 
 -- an environment under the binders of a signature
 right-under : (g : Env) (ks : List Kind) {x : Abs} → OkRight (kinds (type_vars g ks)) x → OkRight (extend (kinds g) ks) x
@@ -133,9 +105,6 @@ right-under g ks {x} h = subst (λ ctx. OkRight ctx x) (kinds-type_vars g ks) h
 
 module-under : (g : Env) (ks : List Kind) (M : Module) → OkModule (kinds (type_vars g ks)) M → OkModule (extend (kinds g) ks) M
 module-under g ks M h = subst (λ ctx. OkModule ctx M) (kinds-type_vars g ks) h
-
-lets-ok : (ctx : List Kind) (fs : SigRow) (M : Module) → OkRow ctx fs → OkModule ctx M → OkModule ctx (with_lets fs M)
-lets-ok ctx fs (made f (Abs.Ex ks s) ts e) w h = (h.0, h.1, lets-normal ctx 0 fs e w h.2)
 
 -- declarations are structures
 abbrev body : Abs → Sig
@@ -151,7 +120,7 @@ decl-structure (DeclMeans.decl_include p IncludeGives.include) = (_, refl)
 
 decls-structure : {g : Env} {before : List Name} {ds : Decls} {x : Abs} → DeclsMean g before ds x → (fs : SigRow) × (body x ≡ Sig.Str fs)
 decls-structure DeclsMean.no_decls = (_, refl)
-decls-structure (DeclsMean.next_decl p n q) = (_, refl)
+decls-structure (DeclsMean.next_decl p n q DeclarationsGive.declarations) = (_, refl)
 
 str-same : {fs gs : SigRow} → Sig.Str fs ≡ Sig.Str gs → fs ≡ gs
 str-same e = cc
@@ -159,54 +128,23 @@ str-same e = cc
 structure-one : {s : Sig} → (fs : SigRow) × (s ≡ Sig.Str fs) → One (λ fs. s ≡ Sig.Str fs)
 structure-one p = (p.0, p.1, λ gs e. str-same (sym e ∙ p.1))
 
-new-verdict : (fs : SigRow) (before : List Name) → Verdict {A = Unit {0}} (λ u. AreNew fs before) (λ l. FirstOld fs before l)
-new-verdict fs before = go (new-or-old fs before)
-  where
-    go : AreNew fs before ⊎ One (λ l. FirstOld fs before l) → Verdict {A = Unit {0}} (λ u. AreNew fs before) (λ l. FirstOld fs before l)
-    go (inl h) = holds tt h (λ u q. refl) (λ l f. new-not_old h f)
-    go (inr o) = refuses o.0 o.1 o.2 (λ u h. new-not_old h o.1)
-
-decls_after-ready : {g : Env} {before : List Name} {ds : Decls} (ks : List Kind) (fs : SigRow) (y : Abs) → DeclsMean g before ds y → Ready (decls_after ks fs y)
-decls_after-ready ks fs (Abs.Ex js t) q = (one-the (structure-one (decls-structure q)), λ gs e. tt)
+sequence-one : {g : Env} {before : List Name} {ds : Decls} (ks : List Kind) (fs : SigRow) (y : Abs) → DeclsMean g before ds y → One (DeclarationsGive (Abs.Ex ks (Sig.Str fs)) y)
+sequence-one ks fs (Abs.Ex js t) q = let v = decls-structure q in subst (λ t. One (DeclarationsGive (Abs.Ex ks (Sig.Str fs)) (Abs.Ex js t))) (sym v.1) (one_declarations ks js fs v.0)
 
 decls_from-ready : (g : Env) → OkEnv g → (before : List Name) (d : Decl) (ds : Decls) (x : Abs) → OkRight (kinds g) x → DeclMeans g d x → ((k : Env) → OkEnv k → (names : List Name) → Exactly k (decls names ds)) → Ready (decls_from g before d ds x)
 decls_from-ready g h before d ds (Abs.Ex ks s) w p go = (
   one-the (structure-one (decl-structure p)),
   λ fs e. (
-    mapped _ (new-verdict fs before),
+    mapped _ (one_distinct before fs),
     λ u n. (
       go (named_fields (type_vars g ks) fs) (good-type_fields g ks fs h (structure-row (subst (λ s. OkSig (extend (kinds g) ks) s) e (body-ok w)))) (with_names fs before),
-      λ y q. decls_after-ready ks fs y q,
+      λ y q. (one-the (sequence-one ks fs y q), λ z r. tt),
     ),
   ),
 )
 
 refined-ready : (g : Env) (z : SpanName) (path : List SpanName) (b : TyEx) (x : Abs) (u : Ty × Kind) → OkRight (kinds g) x → HasKind (kinds g) u.0 u.1 → Ready (refined g z path b x u)
-refined-ready g z path b (Abs.Ex ks s) u w h = (
-  mapped (λ x. refuse g (name_span x) (NoPart (name_of x))) (leads name_of s (z ∷ path)),
-  λ q l. (
-    perhaps-some _ (shows ks q),
-    λ o e. (
-      dec-test _ (Kind-discrete u.1 o.1),
-      λ v f. (
-        one-the (refined-one (kinds g) o.0 o.2 ks o.1 u.0 s e.0 (subst (λ k. HasKind (kinds g) u.0 k) f h) (body-ok w).0),
-        λ n r. tt,
-      ),
-    ),
-  ),
-)
-
-projected-ready : (g : Env) (x : SpanName) (M : Module) → OkModule (kinds g) M → Ready (projected g x M)
-projected-ready g x (made f (Abs.Ex ks s) ts e) w = (
-  perhaps-some _ (sig-structure s),
-  λ fs i. (
-    perhaps-some _ (field-at fs (name_of x)),
-    λ t h. (
-      one-the (projected-one (kinds g) ks f fs ts e (name_of x) t (subst (λ s. WellFormedAbs (kinds g) (Abs.Ex ks s)) i w.0.0) h),
-      λ N j. tt,
-    ),
-  ),
-)
+refined-ready g z path b (Abs.Ex ks s) u w h = (placed g ks s z path b u (one_where (kinds g) (Abs.Ex ks s) (names_of (z ∷ path)) u.0 u.1 w h), λ y r. tt)
 
 functor_sig-ready : (g : Env) → OkEnv g → (pure : Bool) (x : SpanName) (b : SigEx) (y : Abs) → OkRight (kinds g) y → ((k : Env) → OkEnv k → Exactly k (a_sig b)) → Ready (functor_sig g pure x b y)
 functor_sig-ready g h false x b (Abs.Ex ks s) w go = (go (with_module g ks (name_of x) s) (good-module g ks (name_of x) s h (body-ok w)), λ y p. (one-the (one_generative (Abs.Ex ks s) y), λ z r. tt))
@@ -215,10 +153,10 @@ functor_sig-ready g h true x b (Abs.Ex ks s) w go =
     (go (with_module g ks (name_of x) s) good, λ y p. (one-the (lift-one (kinds g) ks s y w (right-abs (right-under g ks (sig_ok (with_module g ks (name_of x) s) b y good p)))), λ z l. tt))
 
 generative-ready : (g : Env) (ks : List Kind) (s : Sig) (M : Module) → OkModule (extend (kinds g) ks) M → Ready (generative g ks s M)
-generative-ready g ks s (made f y ts e) w = (one-the (packed-one (extend (kinds g) ks) (made f y ts e) w), λ d p. tt)
+generative-ready g ks s M w = (one-the (one_generative_module (kinds g) ks s M w), λ N r. tt)
 
 functor_of-ready : (g : Env) (ks : List Kind) (s : Sig) (gen : Bool) (M : Module) → OkRight (kinds g) (Abs.Ex ks s) → OkModule (extend (kinds g) ks) M → Ready (functor_of g ks s gen M)
-functor_of-ready g ks s false (made Pure (Abs.Ex js t) ts e) v w = (one-the (lift-one (kinds g) ks s (Abs.Ex js t) v w.0), λ z l. tt)
+functor_of-ready g ks s false (made Pure (Abs.Ex js t) ts e) v w = (one-the (one_pure_functor (kinds g) ks s (Abs.Ex js t) ts e v w.0), λ N r. tt)
 functor_of-ready g ks s false (made Impure (Abs.Ex js t) ts e) v w = generative-ready g ks s (made Impure (Abs.Ex js t) ts e) w
 functor_of-ready g ks s true (made f y ts e) v w = generative-ready g ks s (made f y ts e) w
 
@@ -236,7 +174,7 @@ after_bind-ready g h before bd bs x (made f (Abs.Ex ks s) ts e) w go =
 
 after_include-ready : (g : Env) → OkEnv g → (before : List Name) → Names g before → (m : Mod) (bs : Binds) (M : Module) → OkModule (kinds g) M → ((k : Env) → OkEnv k → (names : List Name) → Names k names → Exactly k (binds names bs)) → Ready (after_include g before m bs M)
 after_include-ready g h before bd m bs (made f (Abs.Ex ks s) ts e) w go = (
-  perhaps-some _ (sig-structure s),
+  mapped _ (included-structure ks f s ts e),
   λ fs i.
       let v : OkModule (kinds g) (made f (Abs.Ex ks (Sig.Str fs)) ts e) = subst (λ s. OkModule (kinds g) (made f (Abs.Ex ks s) ts e)) i w in
       let inner = with_module g ks include_name (Sig.Str fs) in
@@ -246,22 +184,28 @@ after_include-ready g h before bd m bs (made f (Abs.Ex ks s) ts e) w go = (
         go (named_fields inner fs) good (with_names fs before) (bound-fields inner fs before (bound-module g ks include_name (Sig.Str fs) before bd.0), rise-with_names fs before bd.1),
         λ N q.
             let n : OkModule (kinds inner) N = subst (λ ctx. OkModule ctx N) (kinds-named_fields inner fs) (binds_ok (named_fields inner fs) (with_names fs before) bs N good (rise-with_names fs before bd.1) q) in
-            (one-the (seq-one (kinds g) ks f (Sig.Str fs) ts e (with_lets fs N) v (module-under g ks (with_lets fs N) (lets-ok (kinds inner) fs N row n))), λ K j. tt),
+            (one-the (include-one (kinds g) ks f fs ts e N v (module-under g ks N n)), λ K j. tt),
       ),
 )
+
+param-ok : {ctx : List Kind} {s : Sig} {f : Effect} {param result : Abs} → PartsGive s f param result → OkSig ctx s → OkRight ctx param
+param-ok PartsGive.parts w = ((left-functor w.0).0, w.1.0)
+
+applies-one : {ctx : List Kind} {s t : Sig} {f : Effect} {param result : Abs} {ts : List Ty} {c d e : Term} → PartsGive s f param result → Match ctx t param ts c → OkSig ctx s → One (ApplyGives ctx s d ts c e)
+applies-one {ctx} {ts = ts} {c = c} {d = d} {e = e} (PartsGive.parts {f = f} {ks = ks} {s = s} {y = y}) m w = apply-one ctx ks f s y d ts c e w.0 (match-kinds m)
 
 matched-one : (g : Env) → OkEnv g → (at : Span) (s : Sig) (y : Abs) → OkSig (kinds g) s → OkRight (kinds g) y → Verdict (λ (o : List Ty × Term). Match (kinds g) s y o.0 o.1) (λ q. (r : MatchRefusal) × RefusesMatch (kinds g) s y r × (q ≡ refuse_match g at r))
 matched-one g h at s y w v = mapped (refuse_match g at) (match-verdict (kinds g) s y w v)
 
 mutual
   pub type-one : (g : Env) → OkEnv g → (a : TyEx) → Exactly g (a_type a)
-  type-one g h (TyAt at (PathTy m)) = done g (a_type (TyAt at (PathTy m))) (mod-one g h m, λ M p. type_path-ready g at M (mod_ok g m M h p))
-  type-one g h (TyAt at TyInt) = done g (a_type (TyAt at TyInt)) tt
-  type-one g h (TyAt at TyBool) = done g (a_type (TyAt at TyBool)) tt
-  type-one g h (TyAt at TyText) = done g (a_type (TyAt at TyText)) tt
+  type-one g h (TyAt at (PathTy m)) = done g (a_type (TyAt at (PathTy m))) (mod-one g h m, λ M p. (mapped _ (one_type_path (kinds g) M (mod_ok g m M h p)), λ o r. tt))
+  type-one g h (TyAt at TyInt) = done g (a_type (TyAt at TyInt)) (never-refused (one_base Base.Int), λ o r. tt)
+  type-one g h (TyAt at TyBool) = done g (a_type (TyAt at TyBool)) (never-refused (one_base Base.Bool), λ o r. tt)
+  type-one g h (TyAt at TyText) = done g (a_type (TyAt at TyText)) (never-refused (one_base Base.Text), λ o r. tt)
   type-one g h (TyAt at (TyArrow a b)) = done g (a_type (TyAt at (TyArrow a b))) (type-one g h a, λ t p. (star-one t.1, λ u e. (type-one g h b, λ v q. (mapped _ (one_arrow t.0 t.1 v.0 v.1), λ o r. tt))))
   type-one g h (TyAt at (TyApply a rest)) = done g (a_type (TyAt at (TyApply a rest))) (type-one g h a, λ t p. (type_args-one g h (ty_span a) t.0 t.1 rest (normal-kind (type_ok g a t.0 t.1 h p)), λ u q. tt))
-  type-one g h (TyAt at (TyFields rest)) = done g (a_type (TyAt at (TyFields rest))) (type_fields-one g h [] rest, λ row p. tt)
+  type-one g h (TyAt at (TyFields rest)) = done g (a_type (TyAt at (TyFields rest))) (type_fields-one g h [] rest, λ parts p. (mapped _ (one_record_type [] parts), λ row r. tt))
   type-one g h (TyAt at (TyAll x k b)) = done g (a_type (TyAt at (TyAll x k b))) (type-one (with_type g k (name_of x)) (tt, (tt, h)) b, λ t p. (mapped _ (one_all k t.0 t.1), λ o r. tt))
   type-one g h (TyAt at (TyLam x k b)) = done g (a_type (TyAt at (TyLam x k b))) (type-one (with_type g k (name_of x)) (tt, (tt, h)) b, λ t p. (never-refused (one_operator k t.0 t.1), λ o r. tt))
   type-one g h (TyAt at (TyPack a)) = done g (a_type (TyAt at (TyPack a))) (sig-one g h a, λ x p. (one-the (one_pack_type (kinds g) x (sig_ok g a x h p)), λ y n. tt))
@@ -285,10 +229,10 @@ mutual
   type_fields-one g h before (MoreFieldTys x a rest) = done g (type_fields before (MoreFieldTys x a rest)) (dec-test _ (new_dec (name_of x) before), λ u n. (type-one g h a, λ t p. (star-one t.1, λ v e. (type_fields-one g h (name_of x ∷ before) rest, λ row q. tt))))
 
   pub exp-one : (g : Env) → OkEnv g → (a : Exp) → Exactly g (an_exp a)
-  exp-one g h (ExpAt at (PathExp m)) = done g (an_exp (ExpAt at (PathExp m))) (mod-one g h m, λ M p. value_path-ready g at M (mod_ok g m M h p))
-  exp-one g h (ExpAt at (ExpInt z)) = done g (an_exp (ExpAt at (ExpInt z))) tt
-  exp-one g h (ExpAt at (ExpBool b)) = done g (an_exp (ExpAt at (ExpBool b))) tt
-  exp-one g h (ExpAt at (ExpText w)) = done g (an_exp (ExpAt at (ExpText w))) tt
+  exp-one g h (ExpAt at (PathExp m)) = done g (an_exp (ExpAt at (PathExp m))) (mod-one g h m, λ M p. (mapped _ (one_value_path (kinds g) M (mod_ok g m M h p)), λ o r. tt))
+  exp-one g h (ExpAt at (ExpInt z)) = done g (an_exp (ExpAt at (ExpInt z))) (never-refused (one_literal (Literal.Int z)), λ o r. tt)
+  exp-one g h (ExpAt at (ExpBool b)) = done g (an_exp (ExpAt at (ExpBool b))) (never-refused (one_literal (Literal.Bool b)), λ o r. tt)
+  exp-one g h (ExpAt at (ExpText w)) = done g (an_exp (ExpAt at (ExpText w))) (never-refused (one_literal (Literal.Text w)), λ o r. tt)
   exp-one g h (ExpAt at (ExpLam x a b)) =
       done g (an_exp (ExpAt at (ExpLam x a b)))
       (type-one g h a, λ t p. (star-one t.1, λ u e. (exp-one (Value (name_of x) t.0 ∷ g) (subst (λ k. Normal (kinds g) t.0 k) e (type_ok g a t.0 t.1 h p), h) b, λ v q. (mapped _ (one_function t.0 t.1 v.0 v.1), λ o r. tt))))
@@ -313,7 +257,7 @@ mutual
   exp-one g h (ExpAt at (ExpIf a b c)) = done g (an_exp (ExpAt at (ExpIf a b c))) (exp-one g h a, λ t p. (dec-test _ (dec_ty t.0 Ty.Bool), λ u e. (exp-one g h b, λ v q. (exp-one g h c, λ w r. (mapped _ (one_if t.0 t.1 v.0 v.1 w.0 w.1), λ o j. tt)))))
   exp-one g h (ExpAt at (ExpOps a rest)) = done g (an_exp (ExpAt at (ExpOps a rest))) (exp-one g h a, λ t p. (operands-one g h (exp_span a) t.0 t.1 rest, λ u q. tt))
   exp-one g h (ExpAt at (ExpApply a rest)) = done g (an_exp (ExpAt at (ExpApply a rest))) (exp-one g h a, λ t p. (args-one g h (exp_span a) t.0 t.1 rest (normal-kind (exp_ok g a t.0 t.1 h p)), λ u q. tt))
-  exp-one g h (ExpAt at (ExpFields rest)) = done g (an_exp (ExpAt at (ExpFields rest))) (fields-one g h [] rest, λ o p. tt)
+  exp-one g h (ExpAt at (ExpFields rest)) = done g (an_exp (ExpAt at (ExpFields rest))) (fields-one g h [] rest, λ parts p. (mapped _ (one_record [] parts), λ o r. tt))
   exp-one g h (ExpAt at (ExpGet a x)) = done g (an_exp (ExpAt at (ExpGet a x))) (exp-one g h a, λ t p. (perhaps-some _ (type-record t.0), λ row e. (mapped _ (one_get t.0 t.1 (name_of x)), λ o q. tt)))
   exp-one g h (ExpAt at (ExpPack x a)) =
       done g (an_exp (ExpAt at (ExpPack x a))) (
@@ -324,7 +268,7 @@ mutual
             one-the (norm-one (kinds g) y (sig_ok g a y h p)),
             λ z n.
                 let w = norm_ok (kinds g) y z (sig_ok g a y h p) n in
-                (matched-one g h (sig_span a) o.0 z (find-good g (name_of x) h o f) w, λ m k. (one-the (packs_abs-one (Term.Call m.1 o.1) z w k), λ d j. tt)),
+                (matched-one g h (sig_span a) o.0 z (find-good g (name_of x) h o f) w, λ m k. (one-the (one_pack (kinds g) o.0 o.1 z m.0 m.1 w k), λ d j. tt)),
           ),
         ),
       )
@@ -359,7 +303,7 @@ mutual
   fields-one g h before (MoreFieldExps x a rest) = done g (fields before (MoreFieldExps x a rest)) (dec-test _ (new_dec (name_of x) before), λ u n. (exp-one g h a, λ t p. (fields-one g h (name_of x ∷ before) rest, λ o q. tt)))
 
   pub sig-one : (g : Env) → OkEnv g → (a : SigEx) → Exactly g (a_sig a)
-  sig-one g h (SigAt at (PathSig m)) = done g (a_sig (SigAt at (PathSig m))) (mod-one g h m, λ M p. sig_path-ready g at M (mod_ok g m M h p))
+  sig-one g h (SigAt at (PathSig m)) = done g (a_sig (SigAt at (PathSig m))) (mod-one g h m, λ M p. (mapped _ (one_sig_path (kinds g) M (mod_ok g m M h p)), λ x r. tt))
   sig-one g h (SigAt at (SigDecls ds)) = done g (a_sig (SigAt at (SigDecls ds))) (decls-one g h [] ds, λ x p. tt)
   sig-one g h (SigAt at (SigFun pure x a b)) = done g (a_sig (SigAt at (SigFun pure x a b))) (sig-one g h a, λ y p. functor_sig-ready g h pure x b y (sig_ok g a y h p) (λ k w. sig-one k w b))
   sig-one g h (SigAt at (SigRefine a z path b)) = done g (a_sig (SigAt at (SigRefine a z path b))) (sig-one g h a, λ x p. (type-one g h b, λ u q. refined-ready g z path b x u (sig_ok g a x h p) (normal-kind (type_ok g b u.0 u.1 h q))))
@@ -377,21 +321,20 @@ mutual
   decls-one g h before (MoreDecls d ds) = done g (decls before (MoreDecls d ds)) (decl-one g h d, λ x p. decls_from-ready g h before d ds x (decl_ok g d x h p) p (λ k w names. decls-one k w names ds))
 
   pub mod-one : (g : Env) → OkEnv g → (m : Mod) → Exactly g (a_mod m)
-  mod-one g h (ModAt at (ModName x)) = done g (a_mod (ModAt at (ModName x))) (found-one g x, λ o f. tt)
+  mod-one g h (ModAt at (ModName x)) = done g (a_mod (ModAt at (ModName x))) (mapped _ (one_named g (name_of x)), λ M r. tt)
   mod-one g h (ModAt at (ModStruct bs)) = done g (a_mod (ModAt at (ModStruct bs))) (binds-one g h [] (tt, tt) bs, λ M p. tt)
-  mod-one g h (ModAt at (ModProject m x)) = done g (a_mod (ModAt at (ModProject m x))) (mod-one g h m, λ M p. projected-ready g x M (mod_ok g m M h p))
+  mod-one g h (ModAt at (ModProject m x)) = done g (a_mod (ModAt at (ModProject m x))) (mod-one g h m, λ M p. (mapped _ (one_projected (kinds g) M (name_of x) (mod_ok g m M h p)), λ N r. tt))
   mod-one g h (ModAt at (ModFunctor gen x a b)) = done g (a_mod (ModAt at (ModFunctor gen x a b))) (sig-one g h a, λ y p. functor_body-ready g h gen x b y (sig_ok g a y h p) (λ k w. mod-one k w b))
   mod-one g h (ModAt at (ModApply x z)) =
       done g (a_mod (ModAt at (ModApply x z))) (
         found-one g x,
         λ o f. (
-          perhaps-some _ (sig-functor o.0),
+          mapped _ (one_parts o.0),
           λ p e. (
             found-one g z,
             λ q i.
-                let w : OkSig (kinds g) (Sig.Fun p.0 p.1 p.2 p.3) = subst (λ s. OkSig (kinds g) s) e (find-good g (name_of x) h o f) in
-                let v = left-functor w.0 in
-                (matched-one g h (name_span z) q.0 (Abs.Ex p.1 p.2) (find-good g (name_of z) h q i) (v.0, w.1.0), λ m k. (one-the (result-one (match-kinds k) v.1), λ n j. tt)),
+                let w = find-good g (name_of x) h o f in
+                (matched-one g h (name_span z) q.0 p.1 (find-good g (name_of z) h q i) (param-ok e w), λ m k. (one-the (applies-one e k w), λ M r. tt)),
           ),
         ),
       )

@@ -27,8 +27,10 @@ use Rattle.signatures.specs.Lifting.{Lift}
 use Rattle.module_rules.specs.PathUse.{TypeOfPath}
 use Rattle.module_rules.specs.Projection.{Projected}
 use Rattle.module_rules.specs.Sequence.{Seq, Collected}
-use Rattle.sig_rules.specs.SigRules.{AbstractGives}
-use Rattle.module_rules.specs.ModRules.{SealGives, TypeGives as TypeModule}
+use Rattle.sig_rules.specs.SigRules.{AbstractGives, DeclarationsGive}
+use Rattle.module_rules.specs.ModRules.{SealGives, TypeGives as TypeModule, NamedGives, GenerativeGives, PartsGive, ApplyGives}
+use Rattle.core_rules.specs.TypeRules.{BaseGives}
+use Rattle.applicative_functors.specs.PureFunctor.{PureFunctorGives}
 use Rattle.elab_rules.specs.Judgments.Meaning.{TyMeans, SigMeans, DeclMeans, DeclsMean, ModMeans, BindMeans, BindsMean}
 use Rattle.omega_types.specs.Kinding.HasKind.{k_int}
 use Rattle.signatures.specs.Explicit.WellFormed.{WellFormed, WellFormedRow}
@@ -72,16 +74,16 @@ pub one-instance : {ctx : List Kind} (l : Name) → Instance ctx ctx Ty.Var (one
 one-instance l = Instance.fields (Instances.more Instance.var Instances.end)
 
 param_means : (g : Env) → SigMeans g param (Abs.Ex star (one_type u (Ty.Var 0)))
-param_means g = SigMeans.sig_decls (DeclsMean.next_decl (DeclMeans.decl_of AbstractGives.abstract) (tt, tt) DeclsMean.no_decls)
+param_means g = SigMeans.sig_decls (DeclsMean.next_decl (DeclMeans.decl_of AbstractGives.abstract) (tt, tt) DeclsMean.no_decls DeclarationsGive.declarations)
 
 target_means : (g : Env) → SigMeans g target (Abs.Ex star (one_type t (Ty.Var 0)))
-target_means g = SigMeans.sig_decls (DeclsMean.next_decl (DeclMeans.decl_of AbstractGives.abstract) (tt, tt) DeclsMean.no_decls)
+target_means g = SigMeans.sig_decls (DeclsMean.next_decl (DeclMeans.decl_of AbstractGives.abstract) (tt, tt) DeclsMean.no_decls DeclarationsGive.declarations)
 
 pub int_struct_means : ModMeans [] int_struct (made Pure (Abs.Ex [] (one_type u Ty.Int)) [] (one_type_term u Ty.Int))
 int_struct_means =
     ModMeans.mod_struct
     (BindsMean.next_bind
-    (BindMeans.bind_ty TyMeans.ty_int TypeModule.type)
+    (BindMeans.bind_ty (TyMeans.ty_int BaseGives.int) TypeModule.type)
     (BindsMean.no_binds (Collected.next refl Collected.none))
     (Seq.both_pure (AlikeSig.typ (its-form n_int)) NormalForms.none (one-instance u)))
 
@@ -93,7 +95,7 @@ inner_means : ModMeans in_functor inner (made Pure (Abs.Ex [] (one_type t (Ty.Va
 inner_means =
     ModMeans.mod_struct
     (BindsMean.next_bind
-    (BindMeans.bind_ty (TyMeans.ty_path (ModMeans.mod_project (ModMeans.mod_name refl) (Projected.pure HasField.here)) (TypeOfPath.type_of (var-path var0))) TypeModule.type)
+    (BindMeans.bind_ty (TyMeans.ty_path (ModMeans.mod_project (ModMeans.mod_name (NamedGives.named refl)) (Projected.pure HasField.here)) (TypeOfPath.type_of (var-path var0))) TypeModule.type)
     (BindsMean.no_binds (Collected.next refl Collected.none))
     (Seq.both_pure (AlikeSig.typ (its-form var0)) NormalForms.none (one-instance t)))
 
@@ -125,7 +127,7 @@ lift-form : Lift [] star (one_type u (Ty.Var 0)) (Abs.Ex star (one_type t (Ty.Va
 lift-form = Lift.lift (AlikeAbs.ex (AlikeSig.fun (type-form u var0) (AlikeAbs.ex (type-form t (n_neutral (n_apply (n_var (there here)) var0))))))
 
 pub functor_means : ModMeans (Entry.Named A (one_type u Ty.Int) ∷ []) functor (made Pure (Abs.Ex operators functor_sig) (identity ∷ []) functor_term)
-functor_means = ModMeans.mod_applicative (param_means (Entry.Named A (one_type u Ty.Int) ∷ [])) body_means lift-form
+functor_means = ModMeans.mod_applicative (param_means (Entry.Named A (one_type u Ty.Int) ∷ [])) body_means (PureFunctorGives.pure_functor lift-form)
 
 -- the application, under A and F
 abbrev pub after_functor : Env
@@ -157,11 +159,11 @@ application_means =
     ModMeans.mod_project
     (ModMeans.mod_struct
     (BindsMean.next_bind
-    (BindMeans.bind_module (ModMeans.mod_name refl))
+    (BindMeans.bind_module (ModMeans.mod_name (NamedGives.named refl)))
     (BindsMean.next_bind
-    (BindMeans.bind_module (ModMeans.mod_name refl))
+    (BindMeans.bind_module (ModMeans.mod_name (NamedGives.named refl)))
     (BindsMean.next_bind
-    (BindMeans.bind_module (ModMeans.mod_apply refl refl (matches u n_int) (AlikeAbs.ex (type-form t at_int))))
+    (BindMeans.bind_module (ModMeans.mod_apply refl PartsGive.parts refl (matches u n_int) (ApplyGives.apply (AlikeAbs.ex (type-form t at_int)))))
     (BindsMean.no_binds (Collected.next refl (Collected.next refl (Collected.next refl Collected.none))))
     (Seq.both_pure (type-form t at_int) NormalForms.none triple-instance))
     (Seq.both_pure (type-form u n_int) NormalForms.none after-arg))
@@ -173,4 +175,4 @@ pub generative_means : GenerativeMeans
 generative_means = (_, means, module_is_typed (Entry.Named A (one_type u Ty.Int) ∷ []) generative_functor Pure (Abs.Ex [] generative_sig) [] _ _ ((WellFormed.str (tt, tt) (WellFormedRow.more (WellFormed.typ k_int) WellFormedRow.end)), tt) ((n_int, tt), tt) means (Packed.pure Packs.none))
   where
     means : ModMeans (Entry.Named A (one_type u Ty.Int) ∷ []) generative_functor (made Pure (Abs.Ex [] generative_sig) [] (Term.TyLam Kind.Star (Term.Lam (enc (one_type u (Ty.Var 0))) (one_field Label.Gen (Term.Pack (Ty.Var 0) body_term (enc_abs (Abs.Ex star (one_type t (Ty.Var 0)))))))))
-    means = ModMeans.mod_generative (param_means (Entry.Named A (one_type u Ty.Int) ∷ [])) body_means refl (Packed.pure (Packs.next (its-form (one-normal t var0)) Packs.none))
+    means = ModMeans.mod_generative (param_means (Entry.Named A (one_type u Ty.Int) ∷ [])) body_means refl (GenerativeGives.generative (Packed.pure (Packs.next (its-form (one-normal t var0)) Packs.none)))

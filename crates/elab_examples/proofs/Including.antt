@@ -27,7 +27,7 @@ use Rattle.signatures.specs.Packing.{Packed}
 use Rattle.module_rules.specs.PathUse.{Outside, TypeOfPath, ValueOfPath}
 use Rattle.module_rules.specs.Projection.{Projected}
 use Rattle.module_rules.specs.Sequence.{Seq, Collected, field_lets, past_opens}
-use Rattle.module_rules.specs.ModRules.{TypeGives as TypeModule}
+use Rattle.module_rules.specs.ModRules.{TypeGives as TypeModule, NamedGives, IncludeGives as IncludeModule}
 use Rattle.packages.specs.Package.{UnpackGives}
 use Rattle.elab_rules.specs.Judgments.Meaning.{TyMeans, ExpMeans, ModMeans, BindMeans, BindsMean}
 use Rattle.sig_rules.specs.Refinement.{Refined}
@@ -85,15 +85,15 @@ include_derived =
     ModMeans.mod_struct
     (BindsMean.next_include
     (ModMeans.mod_unpack
-    (ExpMeans.exp_path (ModMeans.mod_name refl) (ValueOfPath.value_at (Outside.outside package_type (c_refl (normal-kind package_type-normal)) (its-form package_type-normal))))
+    (ExpMeans.exp_path (ModMeans.mod_name (NamedGives.named refl)) (ValueOfPath.value_at (Outside.outside package_type (c_refl (normal-kind package_type-normal)) (its-form package_type-normal))))
     (t_first_means with_p)
     (t_first_norm [])
     UnpackGives.unpack)
     (BindsMean.next_bind
-    (BindMeans.bind_ty (TyMeans.ty_path (ModMeans.mod_name refl) (TypeOfPath.type_of (var-path var1))) TypeModule.type)
+    (BindMeans.bind_ty (TyMeans.ty_path (ModMeans.mod_name (NamedGives.named refl)) (TypeOfPath.type_of (var-path var1))) TypeModule.type)
     (BindsMean.no_binds (Collected.next refl (Collected.next refl (Collected.next refl (Collected.next refl Collected.none)))))
     (Seq.both_pure (AlikeSig.typ (its-form var1)) NormalForms.none record-instance))
-    (Seq.some_impure refl Packed.impure (Packed.pure Packs.none) packing))
+    (IncludeModule.include (Seq.some_impure refl Packed.impure (Packed.pure Packs.none) packing)))
 
 pub include_means : IncludeMeans
 include_means = (_, include_derived, typed_here include_derived)
@@ -111,7 +111,7 @@ project_derived : ModMeans with_p x_of_p (made Impure (Abs.Ex two (Sig.Val (Ty.V
 project_derived =
     ModMeans.mod_project
     (ModMeans.mod_unpack
-    (ExpMeans.exp_path (ModMeans.mod_name refl) (ValueOfPath.value_at (Outside.outside package_type (c_refl (normal-kind package_type-normal)) (its-form package_type-normal))))
+    (ExpMeans.exp_path (ModMeans.mod_name (NamedGives.named refl)) (ValueOfPath.value_at (Outside.outside package_type (c_refl (normal-kind package_type-normal)) (its-form package_type-normal))))
     (t_first_means with_p)
     (t_first_norm [])
     UnpackGives.unpack)

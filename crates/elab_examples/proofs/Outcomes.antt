@@ -25,6 +25,8 @@ use Rattle.fing_syntax.specs.Phrase.{Span, SpanName, Mod, ModAt, ModStruct, ModP
 use Rattle.fing_syntax.specs.Place.{name_of}
 use Rattle.module_rules.specs.Projection.{Projected}
 use Rattle.module_rules.specs.Sequence.{Seq, joined, Collected}
+use Rattle.module_rules.specs.ModRules.{GenerativeGives, PartsGive, ApplyGives}
+use Rattle.applicative_functors.specs.PureFunctor.{PureFunctorGives}
 use Rattle.elab_rules.specs.Judgments.Meaning.{SigMeans, ModMeans, BindMeans, BindsMean}
 use Rattle.sig_laws.specs.Good.{OkEnv, OkModule, Names}
 use Rattle.elab_laws.proofs.Kept.{mod_ok, bind_ok, binds_ok}
@@ -74,13 +76,13 @@ pub show-generative : {g : Env} {at : Span} {x : SpanName} {a : SigEx} {b : Mod}
 show-generative {g} {x = x} {b = b} {f = f} {ks = ks} {s = s} {y = y} ok p q =
     let M = made f y q.0 q.1 in
     let d = packed-one (extend (kinds g) ks) M (under g ks M (mod_ok (with_module g ks (name_of x) s) b M ok q.2)) in
-    (_, _, ModMeans.mod_generative p q.2 refl d.1)
+    (_, _, ModMeans.mod_generative p q.2 refl (GenerativeGives.generative d.1))
 
 pub show-applicative : {g : Env} {at : Span} {x : SpanName} {a : SigEx} {b : Mod} {ks : List Kind} {s : Sig} {y z : Abs} → SigMeans g a (Abs.Ex ks s) → ModShows (with_module g ks (name_of x) s) b Pure y → Lift (kinds g) ks s y z → ModShows g (ModAt at (ModFunctor false x a b)) Pure z
-show-applicative p q l = (_, _, ModMeans.mod_applicative p q.2 l)
+show-applicative p q l = (_, _, ModMeans.mod_applicative p q.2 (PureFunctorGives.pure_functor l))
 
 pub show-apply : {g : Env} {at : Span} {x z : SpanName} {f : Effect} {ks : List Kind} {s t : Sig} {y w : Abs} {ts : List Ty} {c d e : Term} → find g (name_of x) ≡ Some (Sig.Fun f ks s y, d) → find g (name_of z) ≡ Some (t, e) → Match (kinds g) t (Abs.Ex ks s) ts c → NormalAbsForm (kinds g) (abs_at ts y) w → ModShows g (ModAt at (ModApply x z)) f w
-show-apply p q m n = (_, _, ModMeans.mod_apply p q m n)
+show-apply p q m n = (_, _, ModMeans.mod_apply p PartsGive.parts q m (ApplyGives.apply n))
 
 -- bindings
 

@@ -33,9 +33,11 @@ use Rattle.fing_syntax.specs.Phrase.{MoreBinds, NoBinds}
 use Rattle.module_rules.specs.PathUse.{Outside, TypeOfPath, ValueOfPath}
 use Rattle.module_rules.specs.Projection.{Projected}
 use Rattle.module_rules.specs.Sequence.{Seq, Collected}
-use Rattle.sig_rules.specs.SigRules.{ValueGives, AbstractGives}
-use Rattle.module_rules.specs.ModRules.{ValueGives as ValueModule, TypeGives as TypeModule}
-use Rattle.packages.specs.Package.{UnpackGives}
+use Rattle.sig_rules.specs.SigRules.{ValueGives, AbstractGives, DeclarationsGive}
+use Rattle.module_rules.specs.ModRules.{ValueGives as ValueModule, TypeGives as TypeModule, NamedGives}
+use Rattle.packages.specs.Package.{UnpackGives, PackGives}
+use Rattle.core_rules.specs.TypeRules.{BaseGives}
+use Rattle.core_rules.specs.ExpRules.{LiteralGives}
 use Rattle.elab_rules.specs.Judgments.Meaning.{TyMeans, ExpMeans, SigMeans, DeclMeans, DeclsMean, ModMeans, BindMeans, BindsMean}
 use Rattle.elab_rules.specs.Judgments.Program.{ProgramMeans}
 use Rattle.elab_laws.proofs.TypedClaims.{whole_is_typed}
@@ -70,9 +72,9 @@ t_first_means g =
     (DeclsMean.next_decl (DeclMeans.decl_of AbstractGives.abstract) (tt, tt)
     (DeclsMean.next_decl (DeclMeans.decl_of AbstractGives.abstract) ((u-not-t, tt), tt)
     (DeclsMean.next_decl
-    (DeclMeans.decl_val (TyMeans.ty_path (ModMeans.mod_name refl) (TypeOfPath.type_of (var-path (n_neutral (n_var (there here)))))) ValueGives.value)
+    (DeclMeans.decl_val (TyMeans.ty_path (ModMeans.mod_name (NamedGives.named refl)) (TypeOfPath.type_of (var-path (n_neutral (n_var (there here)))))) ValueGives.value)
     ((x-not-t, (x-not-u, tt)), tt)
-    DeclsMean.no_decls)))
+    DeclsMean.no_decls DeclarationsGive.declarations) DeclarationsGive.declarations) DeclarationsGive.declarations)
 
 pub u_first_means : (g : Env) → SigMeans g u_first (Abs.Ex two (Sig.Str (fields_of 0 1)))
 u_first_means g =
@@ -80,9 +82,9 @@ u_first_means g =
     (DeclsMean.next_decl (DeclMeans.decl_of AbstractGives.abstract) (tt, tt)
     (DeclsMean.next_decl (DeclMeans.decl_of AbstractGives.abstract) ((t-not-u, tt), tt)
     (DeclsMean.next_decl
-    (DeclMeans.decl_val (TyMeans.ty_path (ModMeans.mod_name refl) (TypeOfPath.type_of (var-path (n_neutral (n_var here))))) ValueGives.value)
+    (DeclMeans.decl_val (TyMeans.ty_path (ModMeans.mod_name (NamedGives.named refl)) (TypeOfPath.type_of (var-path (n_neutral (n_var here))))) ValueGives.value)
     ((x-not-t, (x-not-u, tt)), tt)
-    DeclsMean.no_decls)))
+    DeclsMean.no_decls DeclarationsGive.declarations) DeclarationsGive.declarations) DeclarationsGive.declarations)
 
 norm-row : {ctx : List Kind} {a b : ℕ} → NormSig ctx (Sig.Str (fields_of a b)) (Sig.Str (fields_of a b))
 norm-row = NormSig.str (NormRow.more NormSig.typ (NormRow.more NormSig.typ (NormRow.more NormSig.val NormRow.end)))
@@ -133,11 +135,11 @@ pub given_means : ModMeans [] given (made Pure (Abs.Ex [] showing) [] given_term
 given_means =
     ModMeans.mod_struct
     (BindsMean.next_bind
-    (BindMeans.bind_ty TyMeans.ty_int TypeModule.type)
+    (BindMeans.bind_ty (TyMeans.ty_int BaseGives.int) TypeModule.type)
     (BindsMean.next_bind
-    (BindMeans.bind_ty TyMeans.ty_bool TypeModule.type)
+    (BindMeans.bind_ty (TyMeans.ty_bool BaseGives.bool) TypeModule.type)
     (BindsMean.next_bind
-    (BindMeans.bind_val ExpMeans.exp_int ValueModule.value)
+    (BindMeans.bind_val (ExpMeans.exp_int LiteralGives.int) ValueModule.value)
     (BindsMean.no_binds (Collected.next refl (Collected.next refl (Collected.next refl Collected.none))))
     (Seq.both_pure (AlikeSig.val (its-form n_int)) NormalForms.none three-instance))
     (Seq.both_pure (AlikeSig.typ (its-form n_bool)) NormalForms.none after-bool))
@@ -183,9 +185,9 @@ package_means =
     (ModMeans.mod_project
     (ModMeans.mod_struct
     (BindsMean.next_bind
-    (BindMeans.bind_module (ModMeans.mod_name refl))
+    (BindMeans.bind_module (ModMeans.mod_name (NamedGives.named refl)))
     (BindsMean.next_bind
-    (BindMeans.bind_val (ExpMeans.exp_pack refl (t_first_means (Entry.Named h1 showing ∷ Entry.Named A showing ∷ [])) (t_first_norm []) matches packing) ValueModule.value)
+    (BindMeans.bind_val (ExpMeans.exp_pack refl (t_first_means (Entry.Named h1 showing ∷ Entry.Named A showing ∷ [])) (t_first_norm []) matches (PackGives.pack packing)) ValueModule.value)
     (BindsMean.no_binds (Collected.next refl (Collected.next refl Collected.none)))
     (Seq.both_pure (AlikeSig.val (its-form package_type-normal)) NormalForms.none pair-instance))
     (Seq.both_pure showing-form NormalForms.none
@@ -216,7 +218,7 @@ unpacked_means =
     BindsMean.next_bind
     (BindMeans.bind_module
     (ModMeans.mod_unpack
-    (ExpMeans.exp_path (ModMeans.mod_name refl) (ValueOfPath.value_at (Outside.outside package_type (c_refl (normal-kind package_type-normal)) (its-form package_type-normal))))
+    (ExpMeans.exp_path (ModMeans.mod_name (NamedGives.named refl)) (ValueOfPath.value_at (Outside.outside package_type (c_refl (normal-kind package_type-normal)) (its-form package_type-normal))))
     (u_first_means (Entry.Named p (Sig.Val package_type) ∷ Entry.Named A showing ∷ []))
     (u_first_norm [])
     UnpackGives.unpack))

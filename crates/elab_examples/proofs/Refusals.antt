@@ -24,8 +24,10 @@ use Rattle.sig_laws.specs.Good.{OkEnv}
 use Rattle.module_rules.specs.PathUse.{Outside, ValueOfPath}
 use Rattle.module_rules.specs.Projection.{Projected}
 use Rattle.module_rules.specs.Sequence.{Collected}
-use Rattle.sig_rules.specs.SigRules.{ValueGives, AbstractGives}
-use Rattle.module_rules.specs.ModRules.{ValueGives as ValueModule}
+use Rattle.sig_rules.specs.SigRules.{ValueGives, AbstractGives, DeclarationsGive}
+use Rattle.module_rules.specs.ModRules.{ValueGives as ValueModule, NamedGives}
+use Rattle.core_rules.specs.TypeRules.{BaseGives}
+use Rattle.core_rules.specs.ExpRules.{LiteralGives}
 use Rattle.elab_rules.specs.Judgments.Meaning.{TyMeans, ExpMeans, SigMeans, DeclMeans, DeclsMean, ModMeans, BindMeans, BindsMean}
 use Rattle.elab_rules.specs.Refusals.Refused.{Refused}
 use Rattle.elab_examples.specs.Rows.{HiddenSumRefused, UnmatchedRefused, MissingRefused, OtherTypeRefused, t, x, h1}
@@ -52,7 +54,7 @@ hidden_sum_refused =
     (inr (
       _,
       ExpMeans.exp_path
-          (ModMeans.mod_project (ModMeans.mod_name refl) (Projected.pure (HasField.there x-not-t HasField.here)))
+          (ModMeans.mod_project (ModMeans.mod_name (NamedGives.named refl)) (Projected.pure (HasField.there x-not-t HasField.here)))
           (ValueOfPath.value_at (Outside.outside (Ty.Var 0) (c_refl (k_var here)) (its-form (n_neutral (n_var here))))),
       inl (refl, refl),
     ))
@@ -105,7 +107,7 @@ root =
     none-before
 
 none-found : (u : Ty) → FoundAt [] nothing (Kind.Star ∷ []) wanted [] u → ⊥
-none-found u (FoundAt.found_at rest r k n f) = not-found refl f
+none-found u (FoundAt.found_at r n f) = not-found refl f
 
 pub unmatched_refused : UnmatchedRefused
 unmatched_refused =
@@ -121,7 +123,7 @@ unmatched_refused =
       refl,
       (
         _,
-        SigMeans.sig_decls (DeclsMean.next_decl (DeclMeans.decl_of AbstractGives.abstract) (tt, tt) DeclsMean.no_decls),
+        SigMeans.sig_decls (DeclsMean.next_decl (DeclMeans.decl_of AbstractGives.abstract) (tt, tt) DeclsMean.no_decls DeclarationsGive.declarations),
         inl (_, RefusesMatch.no_root FoundAfter.none (omega arith) root none-found, refl),
       ),
     )))))))))
@@ -145,7 +147,7 @@ missing_refused =
       refl,
       (
         _,
-        SigMeans.sig_decls (DeclsMean.next_decl (DeclMeans.decl_val TyMeans.ty_int ValueGives.value) (tt, tt) DeclsMean.no_decls),
+        SigMeans.sig_decls (DeclsMean.next_decl (DeclMeans.decl_val (TyMeans.ty_int BaseGives.int) ValueGives.value) (tt, tt) DeclsMean.no_decls DeclarationsGive.declarations),
         inl (_, missing_match, refl),
       ),
     )))))))))
@@ -165,7 +167,7 @@ type_match =
     (RefusesSub.structures (RefusesFields.at_field HasField.here (RefusesSub.values bool-not-int)))
 
 bool_means : {g : Env} {at place other : Span} → OkEnv g → BindShows g (BindAt at (BindModule (Spelled h1 place) (ModAt other (ModStruct (MoreBinds (BindAt (Bytes 18 30) (BindVal (Spelled x (Bytes 22 23)) (ExpAt (Bytes 26 30) (ExpBool true)))) NoBinds))))) h1 Pure (Abs.Ex [] (Sig.Str (SigRow.More x (Sig.Val Ty.Bool) SigRow.End)))
-bool_means ok = show-module (show-struct (show-next ok (tt, tt) (_, _, BindMeans.bind_val ExpMeans.exp_bool ValueModule.value) λ ok2 names. show-end (Collected.next refl Collected.none)))
+bool_means ok = show-module (show-struct (show-next ok (tt, tt) (_, _, BindMeans.bind_val (ExpMeans.exp_bool LiteralGives.bool) ValueModule.value) λ ok2 names. show-end (Collected.next refl Collected.none)))
 
 pub other_type_refused : OtherTypeRefused
 other_type_refused =
@@ -182,7 +184,7 @@ other_type_refused =
       refl,
       (
         _,
-        SigMeans.sig_decls (DeclsMean.next_decl (DeclMeans.decl_val TyMeans.ty_int ValueGives.value) (tt, tt) DeclsMean.no_decls),
+        SigMeans.sig_decls (DeclsMean.next_decl (DeclMeans.decl_val (TyMeans.ty_int BaseGives.int) ValueGives.value) (tt, tt) DeclsMean.no_decls DeclarationsGive.declarations),
         inl (_, type_match, refl),
       ),
     )))))))))

@@ -29,8 +29,10 @@ use Rattle.signatures.specs.Packing.{Packed}
 use Rattle.module_rules.specs.PathUse.{Outside, TypeOfPath}
 use Rattle.module_rules.specs.Projection.{Projected}
 use Rattle.module_rules.specs.Sequence.{Seq, Collected}
-use Rattle.sig_rules.specs.SigRules.{ValueGives, AbstractGives}
-use Rattle.module_rules.specs.ModRules.{SealGives, ValueGives as ValueModule, TypeGives as TypeModule}
+use Rattle.sig_rules.specs.SigRules.{ValueGives, AbstractGives, DeclarationsGive}
+use Rattle.module_rules.specs.ModRules.{SealGives, ValueGives as ValueModule, TypeGives as TypeModule, NamedGives}
+use Rattle.core_rules.specs.TypeRules.{BaseGives}
+use Rattle.core_rules.specs.ExpRules.{LiteralGives}
 use Rattle.elab_rules.specs.Judgments.Meaning.{TyMeans, ExpMeans, SigMeans, DeclMeans, DeclsMean, ModMeans, BindMeans, BindsMean}
 use Rattle.elab_rules.specs.Judgments.Program.{ProgramMeans}
 use Rattle.elab_laws.proofs.TypedClaims.{whole_is_typed}
@@ -47,9 +49,9 @@ pub structure_means : ModMeans [] structure (made Pure (Abs.Ex [] shown_sig) [] 
 structure_means =
     ModMeans.mod_struct
     (BindsMean.next_bind
-    (BindMeans.bind_ty TyMeans.ty_int TypeModule.type)
+    (BindMeans.bind_ty (TyMeans.ty_int BaseGives.int) TypeModule.type)
     (BindsMean.next_bind
-    (BindMeans.bind_val ExpMeans.exp_int ValueModule.value)
+    (BindMeans.bind_val (ExpMeans.exp_int LiteralGives.int) ValueModule.value)
     (BindsMean.no_binds (Collected.next refl (Collected.next refl Collected.none)))
     (Seq.both_pure (AlikeSig.val (its-form n_int)) NormalForms.none (Instance.fields (Instances.more Instance.var (Instances.more Instance.var Instances.end)))))
     (Seq.both_pure (AlikeSig.typ (its-form n_int)) NormalForms.none (Instance.call (Instance.lam (TyInstance.made int_part_normal (its-form int_part_normal)) (Instance.fields (Instances.more Instance.var (Instances.more Instance.var Instances.end)))) (Instance.fields (Instances.more Instance.int Instances.end)))))
@@ -68,9 +70,9 @@ signature_means =
     SigMeans.sig_decls
     (DeclsMean.next_decl (DeclMeans.decl_of AbstractGives.abstract) (tt, tt)
     (DeclsMean.next_decl
-    (DeclMeans.decl_val (TyMeans.ty_path (ModMeans.mod_name refl) (TypeOfPath.type_of (Outside.outside (Ty.Var 0) (c_refl (k_var here)) (its-form (n_neutral (n_var here)))))) ValueGives.value)
+    (DeclMeans.decl_val (TyMeans.ty_path (ModMeans.mod_name (NamedGives.named refl)) (TypeOfPath.type_of (Outside.outside (Ty.Var 0) (c_refl (k_var here)) (its-form (n_neutral (n_var here)))))) ValueGives.value)
     ((x-not-t, tt), tt)
-    DeclsMean.no_decls))
+    DeclsMean.no_decls DeclarationsGive.declarations) DeclarationsGive.declarations)
 
 pub matches : Match [] shown_sig (Abs.Ex (Kind.Star ∷ []) hidden_sig) (Ty.Int ∷ []) coercion
 matches =

@@ -23,12 +23,13 @@ use Rattle.signatures.specs.Env.{Env, Entry, kinds, find, past_term}
 use Rattle.signatures.specs.Lifting.{Lift}
 use Rattle.signatures.specs.Matching.Subtyping.{Sub, SubFields, Match}
 use Rattle.fing_syntax.specs.Phrase.{Span, Bytes, Spelled, Mod, ModAt, ModName, ModStruct, ModProject, ModApply, BindAt, BindModule, NoBinds, MoreBinds}
-use Rattle.core_rules.specs.ExpRules.{FunctionGives, CallGives, CallRefuses}
+use Rattle.core_rules.specs.ExpRules.{FunctionGives, CallGives, CallRefuses, LiteralGives}
 use Rattle.module_rules.specs.PathUse.{TypeOfPath, ValueOfPath}
 use Rattle.module_rules.specs.Projection.{Projected}
 use Rattle.module_rules.specs.Sequence.{Collected}
-use Rattle.sig_rules.specs.SigRules.{ValueGives, AbstractGives}
-use Rattle.module_rules.specs.ModRules.{SealGives, ValueGives as ValueModule, TypeGives as TypeModule}
+use Rattle.sig_rules.specs.SigRules.{ValueGives, AbstractGives, DeclarationsGive}
+use Rattle.module_rules.specs.ModRules.{SealGives, ValueGives as ValueModule, TypeGives as TypeModule, NamedGives}
+use Rattle.core_rules.specs.TypeRules.{BaseGives}
 use Rattle.elab_rules.specs.Judgments.Meaning.{TyMeans, ExpMeans, ArgsMean, SigMeans, DeclMeans, DeclsMean, ModMeans, BindMeans}
 use Rattle.elab_rules.specs.Judgments.Program.{ProgramMeans}
 use Rattle.elab_rules.specs.Refusals.Refused.{Refused}
@@ -54,8 +55,8 @@ pair-form h = AlikeSig.str (AlikeRow.more (AlikeSig.typ (its-form h)) (AlikeRow.
 structure_shows : (g : Env) → OkEnv g → ModShows g structure Pure (Abs.Ex [] (pair_of Ty.Int))
 structure_shows g ok =
     show-struct
-    (show-next ok (tt, tt) (_, _, BindMeans.bind_ty TyMeans.ty_int TypeModule.type) λ ok2 names.
-    show-next ok2 names (_, _, BindMeans.bind_val ExpMeans.exp_int ValueModule.value) λ ok3 names3.
+    (show-next ok (tt, tt) (_, _, BindMeans.bind_ty (TyMeans.ty_int BaseGives.int) TypeModule.type) λ ok2 names.
+    show-next ok2 names (_, _, BindMeans.bind_val (ExpMeans.exp_int LiteralGives.int) ValueModule.value) λ ok3 names3.
     show-end (Collected.next refl (Collected.next refl Collected.none)))
 
 signature_means : (g : Env) → SigMeans g signature (Abs.Ex (Kind.Star ∷ []) (pair_of (Ty.Var 0)))
@@ -63,9 +64,9 @@ signature_means g =
     SigMeans.sig_decls
     (DeclsMean.next_decl (DeclMeans.decl_of AbstractGives.abstract) (tt, tt)
     (DeclsMean.next_decl
-    (DeclMeans.decl_val (TyMeans.ty_path (ModMeans.mod_name refl) (TypeOfPath.type_of (var-path var0))) ValueGives.value)
+    (DeclMeans.decl_val (TyMeans.ty_path (ModMeans.mod_name (NamedGives.named refl)) (TypeOfPath.type_of (var-path var0))) ValueGives.value)
     ((v-not-t, tt), tt)
-    DeclsMean.no_decls))
+    DeclsMean.no_decls DeclarationsGive.declarations) DeclarationsGive.declarations)
 
 abbrev coercion : Ty → Term
 coercion a = fields_part (enc (pair_of a)) (TermRow.More (Label.Name t) (same_part (enc (Sig.Typ a Kind.Star))) (TermRow.More (Label.Name v) (same_part (enc (Sig.Val a))) TermRow.End))
@@ -111,8 +112,8 @@ generative_application : (g : Env) (at f a : Span) {d e : Term} → OkEnv g → 
 generative_application g at f a ok p q =
     show-project ok
     (show-struct
-    (show-next ok (tt, tt) (show-module (_, _, ModMeans.mod_name p)) λ ok1 names1.
-    show-next ok1 names1 (show-module (_, _, ModMeans.mod_name (ap past_term q))) λ ok2 names2.
+    (show-next ok (tt, tt) (show-module (_, _, ModMeans.mod_name (NamedGives.named p))) λ ok1 names1.
+    show-next ok1 names1 (show-module (_, _, ModMeans.mod_name (NamedGives.named (ap past_term q)))) λ ok2 names2.
     show-next ok2 names2 (show-module (show-apply refl refl empty_matches (AlikeAbs.ex (pair-form var0)))) λ ok3 names3.
     show-end (Collected.next refl (Collected.next refl (Collected.next refl Collected.none)))))
     HasField.here
@@ -121,8 +122,8 @@ shared_application : (g : Env) (at f a : Span) {d e : Term} → OkEnv g → Norm
 shared_application g at f a ok n p q =
     show-project ok
     (show-struct
-    (show-next ok (tt, tt) (show-module (_, _, ModMeans.mod_name p)) λ ok1 names1.
-    show-next ok1 names1 (show-module (_, _, ModMeans.mod_name (ap past_term q))) λ ok2 names2.
+    (show-next ok (tt, tt) (show-module (_, _, ModMeans.mod_name (NamedGives.named p))) λ ok1 names1.
+    show-next ok1 names1 (show-module (_, _, ModMeans.mod_name (NamedGives.named (ap past_term q)))) λ ok2 names2.
     show-next ok2 names2 (show-module (show-apply refl refl empty_matches (AlikeAbs.ex (pair-form n)))) λ ok3 names3.
     show-end (Collected.next refl (Collected.next refl (Collected.next refl Collected.none)))))
     HasField.here
@@ -157,14 +158,14 @@ identity_means : {g : Env} {i : ℕ} {e : Term} → Normal (kinds g) (Ty.Var i) 
 identity_means h p = (
   _,
   ExpMeans.exp_lam
-      (TyMeans.ty_path (ModMeans.mod_project (ModMeans.mod_name p) (Projected.pure HasField.here)) (TypeOfPath.type_of (var-path h)))
-      (ExpMeans.exp_path (ModMeans.mod_name refl) (ValueOfPath.value_at (var-path h)))
+      (TyMeans.ty_path (ModMeans.mod_project (ModMeans.mod_name (NamedGives.named p)) (Projected.pure HasField.here)) (TypeOfPath.type_of (var-path h)))
+      (ExpMeans.exp_path (ModMeans.mod_name (NamedGives.named refl)) (ValueOfPath.value_at (var-path h)))
       FunctionGives.function,
 )
 
 -- Q.v, where Q's type has the index i
 argument_means : {g : Env} {i : ℕ} {e : Term} → Normal (kinds g) (Ty.Var i) Kind.Star → find g Q ≡ Some (pair_of (Ty.Var i), e) → (d : Term) × ExpMeans g argument (Ty.Var i) d
-argument_means h p = (_, ExpMeans.exp_path (ModMeans.mod_project (ModMeans.mod_name p) (Projected.pure (HasField.there v-not-t HasField.here))) (ValueOfPath.value_at (var-path h)))
+argument_means h p = (_, ExpMeans.exp_path (ModMeans.mod_project (ModMeans.mod_name (NamedGives.named p)) (Projected.pure (HasField.there v-not-t HasField.here))) (ValueOfPath.value_at (var-path h)))
 
 index : Ty → ℕ
 index (Ty.Var i) = i

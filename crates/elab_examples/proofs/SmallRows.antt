@@ -8,7 +8,7 @@ use Rattle.omega_terms.specs.Shorthands.{Packs}
 use Rattle.omega_terms.specs.Instance.{Instance, Instances}
 use Rattle.signatures.specs.Signatures.Alike.{AlikeSig}
 use Rattle.signatures.specs.Packing.{Packed}
-use Rattle.core_rules.specs.ExpRules.{OperationGives}
+use Rattle.core_rules.specs.ExpRules.{OperationGives, LiteralGives}
 use Rattle.module_rules.specs.Sequence.{Seq, Collected}
 use Rattle.module_rules.specs.ModRules.{ValueGives as ValueModule}
 use Rattle.elab_rules.specs.Judgments.Meaning.{ExpMeans, OpsMean, BindMeans, BindsMean}
@@ -22,7 +22,7 @@ pub sum_program : SumProgram
 sum_program =
     ProgramMeans.program
     (BindsMean.next_bind
-    (BindMeans.bind_val (ExpMeans.exp_ops ExpMeans.exp_int (OpsMean.next_op ExpMeans.exp_int OperationGives.operation OpsMean.no_ops)) ValueModule.value)
+    (BindMeans.bind_val (ExpMeans.exp_ops (ExpMeans.exp_int LiteralGives.int) (OpsMean.next_op (ExpMeans.exp_int LiteralGives.int) OperationGives.operation OpsMean.no_ops)) ValueModule.value)
     (BindsMean.no_binds (Collected.next refl Collected.none))
     (Seq.both_pure (AlikeSig.val (n_int, c_refl k_int)) NormalForms.none (Instance.fields (Instances.more Instance.var Instances.end))))
     (Packed.pure Packs.none)

@@ -30,11 +30,12 @@ use Rattle.sig_laws.proofs.Algebra.AlikeLaws.{form-conv_sig}
 use Rattle.sig_laws.proofs.Formed.WellFormedLaws.{explicit-conv}
 use Rattle.fing_syntax.specs.Phrase.{TyEx, TyExs, FieldTyExs, Exp, OpExps, Args, FieldExps, SigEx, Decl, Decls, Mod, Bind, Binds}
 use Rattle.fing_syntax.specs.Place.{name_of}
-use Rattle.core_rules.specs.TypeRules.{ArrowGives, AllGives, OperatorGives, AppliedGives}
-use Rattle.core_rules.specs.ExpRules.{FunctionGives, TypeFunctionGives, CallGives, InstanceGives, GetGives, IfGives, OperationGives, FixGives}
-use Rattle.sig_rules.specs.SigRules.{ValueGives, TypeGives, AbstractGives, ModuleGives, SignatureGives, IncludeGives, GenerativeGives as GenerativeSigGives}
-use Rattle.module_rules.specs.ModRules.{SealGives, ValueGives as ValueModule, TypeGives as TypeModule, SignatureGives as SignatureModule}
-use Rattle.packages.specs.Package.{PackTypeGives, UnpackGives}
+use Rattle.core_rules.specs.TypeRules.{BaseGives, FieldTy, RecordTypeGives, ArrowGives, AllGives, OperatorGives, AppliedGives}
+use Rattle.core_rules.specs.ExpRules.{LiteralGives, FieldExp, RecordGives, FunctionGives, TypeFunctionGives, CallGives, InstanceGives, GetGives, IfGives, OperationGives, FixGives}
+use Rattle.sig_rules.specs.SigRules.{ValueGives, TypeGives, AbstractGives, ModuleGives, SignatureGives, IncludeGives, DeclarationsGive, GenerativeGives as GenerativeSigGives}
+use Rattle.module_rules.specs.ModRules.{NamedGives, GenerativeGives, PartsGive, ApplyGives, IncludeGives as IncludeModule, SealGives, ValueGives as ValueModule, TypeGives as TypeModule, SignatureGives as SignatureModule}
+use Rattle.applicative_functors.specs.PureFunctor.{PureFunctorGives}
+use Rattle.packages.specs.Package.{PackTypeGives, PackGives, UnpackGives}
 use Rattle.elab_rules.specs.Operators.{omega_op, include_name, with_type}
 use Rattle.signatures.specs.Signatures.RecordOrder.{insert_part, IsNew, AreNew, BeforeNames, NamesRise}
 use Rattle.module_rules.specs.PathUse.{Outside, TypeOfPath, ValueOfPath, SigOutside, SigOfPath}
@@ -234,12 +235,12 @@ good-included g ks fs h w = good-named_fields (with_module g ks include_name (Si
 mutual
   pub type_kind : (g : Env) {a : TyEx} {t : Ty} {k : Kind} → IsGoodEnv g → TyMeans g a t k → HasKind (kinds g) t k
   type_kind g h (TyMeans.ty_path m p) = type-path p
-  type_kind g h TyMeans.ty_int = k_int
-  type_kind g h TyMeans.ty_bool = k_bool
-  type_kind g h TyMeans.ty_text = k_text
+  type_kind g h (TyMeans.ty_int BaseGives.int) = k_int
+  type_kind g h (TyMeans.ty_bool BaseGives.bool) = k_bool
+  type_kind g h (TyMeans.ty_text BaseGives.text) = k_text
   type_kind g h (TyMeans.ty_arrow a b ArrowGives.arrow) = k_arrow (type_kind g h a) (type_kind g h b)
   type_kind g h (TyMeans.ty_apply a r) = args_kind g h r (type_kind g h a)
-  type_kind g h (TyMeans.ty_fields f) = k_fields (field_kinds g h f).0
+  type_kind g h (TyMeans.ty_fields f r) = k_fields (field_kinds g h f r).0
   type_kind g h (TyMeans.ty_all {a = a} {k = k} b AllGives.all) = k_all (type_kind (with_type g k (name_of a)) (tt, (tt, h)) b)
   type_kind g h (TyMeans.ty_lam {a = a} {k = k} b OperatorGives.operator) = k_lam (type_kind (with_type g k (name_of a)) (tt, (tt, h)) b)
   type_kind g h (TyMeans.ty_pack s (PackTypeGives.pack_type n)) = enc_explicit-kind (norm_abs-explicit n (sig_explicit g h s))
@@ -248,24 +249,24 @@ mutual
   args_kind g h ArgTysMean.no_args f = f
   args_kind g h (ArgTysMean.next_arg a (AppliedGives.applied n) r) f = args_kind g h r (normal-kind n.0)
 
-  pub field_kinds : (g : Env) {names : List Name} {a : FieldTyExs} {row : Row} → IsGoodEnv g → FieldTysMean g names a row → GoodRow (kinds g) names row
-  field_kinds g {names} h FieldTysMean.no_field_tys = (k_end, none-end names)
-  field_kinds g {names} h (FieldTysMean.next_field_ty {x = x} n a r) = good-field names (name_of x) n (type_kind g h a) (field_kinds g h r)
+  pub field_kinds : (g : Env) {names : List Name} {a : FieldTyExs} {parts : List FieldTy} {row : Row} → IsGoodEnv g → FieldTysMean g names a parts → RecordTypeGives names parts row → GoodRow (kinds g) names row
+  field_kinds g {names} h FieldTysMean.no_field_tys RecordTypeGives.no_fields = (k_end, none-end names)
+  field_kinds g {names} h (FieldTysMean.next_field_ty {x = x} m a f) (RecordTypeGives.next_field n r) = good-field names (name_of x) n (type_kind g h a) (field_kinds g h f r)
 
   pub exp_kind : (g : Env) {a : Exp} {t : Ty} {e : Term} → IsGoodEnv g → ExpMeans g a t e → HasKind (kinds g) t Kind.Star
   exp_kind g h (ExpMeans.exp_path m p) = value-path p
-  exp_kind g h ExpMeans.exp_int = k_int
-  exp_kind g h ExpMeans.exp_bool = k_bool
-  exp_kind g h ExpMeans.exp_text = k_text
+  exp_kind g h (ExpMeans.exp_int LiteralGives.int) = k_int
+  exp_kind g h (ExpMeans.exp_bool LiteralGives.bool) = k_bool
+  exp_kind g h (ExpMeans.exp_text LiteralGives.text) = k_text
   exp_kind g h (ExpMeans.exp_lam {x = x} {t = t} a b FunctionGives.function) = let k = type_kind g h a in k_arrow k (exp_kind (Entry.Value (name_of x) t ∷ g) (k, h) b)
   exp_kind g h (ExpMeans.exp_ty_lam {a = a} {k = k} b TypeFunctionGives.type_function) = k_all (exp_kind (with_type g k (name_of a)) (tt, (tt, h)) b)
   exp_kind g h (ExpMeans.exp_fix a b e FixGives.fix) = k_arrow (type_kind g h a) (type_kind g h b)
   exp_kind g h (ExpMeans.exp_if a b c IfGives.if_) = exp_kind g h b
   exp_kind g h (ExpMeans.exp_ops a r) = ops_kind g h r (exp_kind g h a)
   exp_kind g h (ExpMeans.exp_apply a r) = arguments_kind g h r (exp_kind g h a)
-  exp_kind g h (ExpMeans.exp_fields f) = k_fields (field_exp_kinds g h f).0
+  exp_kind g h (ExpMeans.exp_fields f r) = k_fields (field_exp_kinds g h f r).0
   exp_kind g h (ExpMeans.exp_get a (GetGives.get p)) = part-kind (fields-of (exp_kind g h a)) p
-  exp_kind g h (ExpMeans.exp_pack f s n m p) = enc_explicit-kind (norm_abs-explicit n (sig_explicit g h s))
+  exp_kind g h (ExpMeans.exp_pack f s n m (PackGives.pack p)) = enc_explicit-kind (norm_abs-explicit n (sig_explicit g h s))
 
   pub ops_kind : (g : Env) {a : OpExps} {t u : Ty} {d e : Term} → IsGoodEnv g → OpsMean g t d a u e → HasKind (kinds g) t Kind.Star → HasKind (kinds g) u Kind.Star
   ops_kind g h OpsMean.no_ops f = f
@@ -276,9 +277,9 @@ mutual
   arguments_kind g h (ArgsMean.next_value b CallGives.call r) f = arguments_kind g h r (result-of f)
   arguments_kind g h (ArgsMean.next_type a (InstanceGives.instance n) r) f = arguments_kind g h r (normal-kind n.0)
 
-  pub field_exp_kinds : (g : Env) {names : List Name} {a : FieldExps} {row : Row} {es : TermRow} → IsGoodEnv g → FieldExpsMean g names a row es → GoodRow (kinds g) names row
-  field_exp_kinds g {names} h FieldExpsMean.no_field_exps = (k_end, none-end names)
-  field_exp_kinds g {names} h (FieldExpsMean.next_field_exp {x = x} n a r) = good-field names (name_of x) n (exp_kind g h a) (field_exp_kinds g h r)
+  pub field_exp_kinds : (g : Env) {names : List Name} {a : FieldExps} {parts : List FieldExp} {row : Row} {es : TermRow} → IsGoodEnv g → FieldExpsMean g names a parts → RecordGives names parts row es → GoodRow (kinds g) names row
+  field_exp_kinds g {names} h FieldExpsMean.no_field_exps RecordGives.no_fields = (k_end, none-end names)
+  field_exp_kinds g {names} h (FieldExpsMean.next_field_exp {x = x} m a f) (RecordGives.next_field n r) = good-field names (name_of x) n (exp_kind g h a) (field_exp_kinds g h f r)
 
   -- written signatures are ordered explicit
   pub sig_explicit : (g : Env) {a : SigEx} {x : Abs} → IsGoodEnv g → SigMeans g a x → Explicit (kinds g) x
@@ -302,22 +303,22 @@ mutual
 
   pub decls_good : (g : Env) {names : List Name} {a : Decls} {x : Abs} → IsGoodEnv g → DeclsMean g names a x → GoodDecls (kinds g) names x
   decls_good g h DeclsMean.no_decls = decls (plain_explicit (WellFormed.str tt WellFormedRow.end) (in_str in_end)) (λ n i. tt)
-  decls_good g {names} h (DeclsMean.next_decl {ks = ks} {js = js} {fs = fs} {gs = gs} d n r) =
+  decls_good g {names} h (DeclsMean.next_decl {ks = ks} {fs = fs} d n r (DeclarationsGive.declarations {js = js} {gs = gs})) =
       let e = decl_explicit g h d in
       more-decls e n (subst (λ c. GoodDecls c (with_names fs names) (Abs.Ex js (Sig.Str gs))) (under-fields g ks fs) (decls_good (named_fields (type_vars g ks) fs) (good-declared g ks fs h e) r))
 
   -- modules are well formed
   pub module_good : (g : Env) {a : Mod} {m : Module} → IsGoodEnv g → ModMeans g a m → GoodModule (kinds g) m
-  module_good g h (ModMeans.mod_name {x = x} {s = s} {e = e} p) = pure (find-well_formed g (name_of x) h s e p) OfKinds.none
+  module_good g h (ModMeans.mod_name {x = x} (NamedGives.named {s = s} {e = e} p)) = pure (find-well_formed g (name_of x) h s e p) OfKinds.none
   module_good g h (ModMeans.mod_struct b) = binds_good g h tt b
   module_good g h (ModMeans.mod_project m p) = good-projected (module_good g h m) p
-  module_good g h (ModMeans.mod_applicative {x = x} {ks = ks} {s = s} {y = y} {ts = ts} {e = d} a b l) =
+  module_good g h (ModMeans.mod_applicative {x = x} {ks = ks} {s = s} {y = y} {ts = ts} {e = d} a b (PureFunctorGives.pure_functor l)) =
       let e = sig_explicit g h a in
       good-lifted e (subst (λ c. GoodModule c (made Pure y ts d)) (kinds-type_vars g ks) (module_good (with_module g ks (name_of x) s) (good-module g ks (name_of x) s h (body-of e)) b)) l
-  module_good g h (ModMeans.mod_generative {x = x} {ks = ks} {s = s} {f = f} {y = y} {ts = ts} {e = c} a b q p) =
+  module_good g h (ModMeans.mod_generative {x = x} {ks = ks} {s = s} {f = f} {y = y} {ts = ts} {e = c} a b q (GenerativeGives.generative p)) =
       let e = sig_explicit g h a in
       good-functor {d = c} e (subst (λ z. GoodModule z (made f y ts c)) (kinds-type_vars g ks) (module_good (with_module g ks (name_of x) s) (good-module g ks (name_of x) s h (body-of e)) b))
-  module_good g h (ModMeans.mod_apply {x = x} {f = f} {ks = ks} {s = s} {y = y} {d = d} p q m n) = good-instance (find-well_formed g (name_of x) h (Sig.Fun f ks s y) d p) (match-kinds m) n
+  module_good g h (ModMeans.mod_apply {x = x} {d = d} p (PartsGive.parts {f = f} {ks = ks} {s = s} {y = y}) q m (ApplyGives.apply n)) = good-instance (find-well_formed g (name_of x) h (Sig.Fun f ks s y) d p) (match-kinds m) n
   module_good g h (ModMeans.mod_seal p s m SealGives.seal) = good-sealed (sig_explicit g h s) m
   module_good g h (ModMeans.mod_unpack e s n UnpackGives.unpack) = good-explicit (norm_abs-explicit n (sig_explicit g h s))
 
@@ -332,7 +333,7 @@ mutual
   binds_good g {names} h o (BindsMean.next_bind {x = x} {ks = ks} {s = s} {rest = rest} b r q) =
       let m = bind_good g h b in
       good-sequel m (subst (λ c. GoodModule c rest) (kinds-type_vars g ks) (binds_good (with_module g ks x s) (good-module g ks x s h (good-sig m)) (rise-with_name x names o) r)) q
-  binds_good g {names} h o (BindsMean.next_include {h = f} {ks = ks} {fs = fs} {us = us} {d = d} {y = y} m r q) =
+  binds_good g {names} h o (BindsMean.next_include {ks = ks} {fs = fs} m r (IncludeModule.include {h = f} {us = us} {d = d} {y = y} q)) =
       let n = module_good g h m in
       good-rest n (subst (λ c. GoodModule c (made f y us d)) (kinds-named_fields (with_module g ks include_name (Sig.Str fs)) fs ∙ kinds-type_vars g ks) (binds_good (named_fields (with_module g ks include_name (Sig.Str fs)) fs) (good-included g ks fs h (good-sig n)) (rise-with_names fs names o) r)) q
 

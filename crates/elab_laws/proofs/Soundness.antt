@@ -29,11 +29,12 @@ use Rattle.sig_laws.proofs.Encoded.LiftTyping.{lift-good}
 use Rattle.fing_syntax.specs.Phrase.{Mod, Bind, Binds, SigEx, Decl, Decls, TyEx, TyExs, FieldTyExs, Exp, OpExps, Args, FieldExps}
 use Rattle.fing_syntax.specs.Place.{name_of}
 use Rattle.signatures.specs.Signatures.FieldOrder.{with_names}
-use Rattle.core_rules.specs.TypeRules.{ArrowGives, AllGives, OperatorGives, AppliedGives}
-use Rattle.core_rules.specs.ExpRules.{FunctionGives, TypeFunctionGives, CallGives, InstanceGives, GetGives, IfGives, OperationGives, FixGives}
-use Rattle.sig_rules.specs.SigRules.{ValueGives, TypeGives, AbstractGives, ModuleGives, SignatureGives, IncludeGives, GenerativeGives as GenerativeSigGives}
-use Rattle.module_rules.specs.ModRules.{SealGives, ValueGives as ValueModule, TypeGives as TypeModule, SignatureGives as SignatureModule}
-use Rattle.packages.specs.Package.{PackTypeGives, UnpackGives}
+use Rattle.core_rules.specs.TypeRules.{BaseGives, FieldTy, RecordTypeGives, ArrowGives, AllGives, OperatorGives, AppliedGives}
+use Rattle.core_rules.specs.ExpRules.{LiteralGives, FieldExp, RecordGives, FunctionGives, TypeFunctionGives, CallGives, InstanceGives, GetGives, IfGives, OperationGives, FixGives}
+use Rattle.sig_rules.specs.SigRules.{ValueGives, TypeGives, AbstractGives, ModuleGives, SignatureGives, IncludeGives, DeclarationsGive, GenerativeGives as GenerativeSigGives}
+use Rattle.module_rules.specs.ModRules.{NamedGives, GenerativeGives, PartsGive, ApplyGives, IncludeGives as IncludeModule, SealGives, ValueGives as ValueModule, TypeGives as TypeModule, SignatureGives as SignatureModule}
+use Rattle.applicative_functors.specs.PureFunctor.{PureFunctorGives}
+use Rattle.packages.specs.Package.{PackTypeGives, PackGives, UnpackGives}
 use Rattle.elab_rules.specs.Operators.{include_name}
 use Rattle.signatures.specs.Signatures.RecordOrder.{NamesRise}
 use Rattle.elab_rules.specs.Judgments.Meaning.{TyMeans, ArgTysMean, FieldTysMean, ExpMeans, OpsMean, ArgsMean, FieldExpsMean, SigMeans, DeclMeans, DeclsMean, ModMeans, BindMeans, BindsMean}
@@ -47,12 +48,12 @@ use Rattle.sig_laws.proofs.Algebra.FormLaws.{kinds-type_vars}
 mutual
   pub ty-good : {g : Env} {T : TyEx} {t : Ty} {k : Kind} → GoodEnv g → TyMeans g T t k → Normal (kinds g) t k
   ty-good h (TyMeans.ty_path m p) = path-type p
-  ty-good h TyMeans.ty_int = n_int
-  ty-good h TyMeans.ty_bool = n_bool
-  ty-good h TyMeans.ty_text = n_text
+  ty-good h (TyMeans.ty_int BaseGives.int) = n_int
+  ty-good h (TyMeans.ty_bool BaseGives.bool) = n_bool
+  ty-good h (TyMeans.ty_text BaseGives.text) = n_text
   ty-good h (TyMeans.ty_arrow a b ArrowGives.arrow) = n_arrow (ty-good h a) (ty-good h b)
   ty-good h (TyMeans.ty_apply a r) = arg_tys-good h (ty-good h a) r
-  ty-good h (TyMeans.ty_fields f) = n_fields (field_tys-good h f).0
+  ty-good h (TyMeans.ty_fields f r) = n_fields (field_tys-good h f r).0
   ty-good h (TyMeans.ty_all b AllGives.all) = n_all (ty-good (tt, (tt, h)) b)
   ty-good h (TyMeans.ty_lam b OperatorGives.operator) = n_lam (ty-good (tt, (tt, h)) b)
   ty-good h (TyMeans.ty_pack s (PackTypeGives.pack_type n)) = good_abs-normal (norm-good n (sig-good h s))
@@ -61,26 +62,26 @@ mutual
   arg_tys-good h n ArgTysMean.no_args = n
   arg_tys-good h n (ArgTysMean.next_arg a (AppliedGives.applied f) r) = arg_tys-good h f.0 r
 
-  pub field_tys-good : {g : Env} {before : List Name} {fields : FieldTyExs} {row : Row} → GoodEnv g → FieldTysMean g before fields row → Normals (kinds g) row × FreshAll before row
-  field_tys-good h (FieldTysMean.no_field_tys {before = before}) = (n_end, fresh_all-end before)
-  field_tys-good h (FieldTysMean.next_field_ty {before = before} {x = x} {t = t} {row = row} n a r) =
-      let q = field_tys-good h r in
+  pub field_tys-good : {g : Env} {before : List Name} {fields : FieldTyExs} {parts : List FieldTy} {row : Row} → GoodEnv g → FieldTysMean g before fields parts → RecordTypeGives before parts row → Normals (kinds g) row × FreshAll before row
+  field_tys-good h (FieldTysMean.no_field_tys {before = before}) RecordTypeGives.no_fields = (n_end, fresh_all-end before)
+  field_tys-good h (FieldTysMean.next_field_ty {before = before} {x = x} {t = t} m a f) (RecordTypeGives.next_field {row = row} n r) =
+      let q = field_tys-good h f r in
       (normals-insert (Label.Name (name_of x)) q.1.0 (ty-good h a) q.0, fresh_all-insert before (name_of x) t row n q.1.1)
 
   pub exp-good : {g : Env} {E : Exp} {t : Ty} {e : Term} → GoodEnv g → ExpMeans g E t e → Typed (kinds g) (types g) e t
   exp-good h (ExpMeans.exp_path m p) = path-value (mod-good h m) p
-  exp-good h ExpMeans.exp_int = Typed.int
-  exp-good h ExpMeans.exp_bool = Typed.bool
-  exp-good h ExpMeans.exp_text = Typed.text
+  exp-good h (ExpMeans.exp_int LiteralGives.int) = Typed.int
+  exp-good h (ExpMeans.exp_bool LiteralGives.bool) = Typed.bool
+  exp-good h (ExpMeans.exp_text LiteralGives.text) = Typed.text
   exp-good h (ExpMeans.exp_lam a b FunctionGives.function) = let n = ty-good h a in Typed.lam n (exp-good (n, h) b)
   exp-good h (ExpMeans.exp_ty_lam b TypeFunctionGives.type_function) = Typed.ty_lam (exp-good (tt, (tt, h)) b)
   exp-good h (ExpMeans.exp_fix a b e FixGives.fix) = let n = ty-good h a in let m = ty-good h b in Typed.fix n m (exp-good (n, (n_arrow n m, h)) e)
   exp-good h (ExpMeans.exp_if a b c IfGives.if_) = Typed.if_ (exp-good h a) (exp-good h b) (exp-good h c)
   exp-good h (ExpMeans.exp_ops a r) = ops-good h (exp-good h a) r
   exp-good h (ExpMeans.exp_apply a r) = args-good h (exp-good h a) r
-  exp-good h (ExpMeans.exp_fields f) = Typed.fields (field_exps-good h f).0
+  exp-good h (ExpMeans.exp_fields f r) = Typed.fields (field_exps-good h f r).0
   exp-good h (ExpMeans.exp_get a (GetGives.get p)) = Typed.get (exp-good h a) p
-  exp-good {g} h (ExpMeans.exp_pack {x = x} {z = Abs.Ex ks t} f a n m p) =
+  exp-good {g} h (ExpMeans.exp_pack {x = x} {z = Abs.Ex ks t} f a n m (PackGives.pack p)) =
       let q = find-good g (name_of x) h f in
       let i : Good (extend (kinds g) ks) t = good-body (norm-good n (sig-good h a)) in
       let M = match-typed q.0 i m in
@@ -95,10 +96,10 @@ mutual
   args-good h t (ArgsMean.next_value b CallGives.call r) = args-good h (Typed.call t (exp-good h b)) r
   args-good h t (ArgsMean.next_type a (InstanceGives.instance f) r) = args-good h (Typed.inst t (ty-good h a) f) r
 
-  pub field_exps-good : {g : Env} {before : List Name} {fields : FieldExps} {row : Row} {es : TermRow} → GoodEnv g → FieldExpsMean g before fields row es → TypedFields (kinds g) (types g) es row × FreshAll before row
-  field_exps-good h (FieldExpsMean.no_field_exps {before = before}) = (TypedFields.end, fresh_all-end before)
-  field_exps-good h (FieldExpsMean.next_field_exp {before = before} {x = x} {t = t} {row = row} n a r) =
-      let q = field_exps-good h r in
+  pub field_exps-good : {g : Env} {before : List Name} {fields : FieldExps} {parts : List FieldExp} {row : Row} {es : TermRow} → GoodEnv g → FieldExpsMean g before fields parts → RecordGives before parts row es → TypedFields (kinds g) (types g) es row × FreshAll before row
+  field_exps-good h (FieldExpsMean.no_field_exps {before = before}) RecordGives.no_fields = (TypedFields.end, fresh_all-end before)
+  field_exps-good h (FieldExpsMean.next_field_exp {before = before} {x = x} {t = t} m a f) (RecordGives.next_field {row = row} n r) =
+      let q = field_exps-good h f r in
       (typed-insert (Label.Name (name_of x)) q.1.0 (exp-good h a) q.0, fresh_all-insert before (name_of x) t row n q.1.1)
 
   pub sig-good : {g : Env} {S : SigEx} {x : Abs} → GoodEnv g → SigMeans g S x → GoodAbs (kinds g) x
@@ -124,23 +125,23 @@ mutual
 
   pub decls-good : {g : Env} {before : List Name} {ds : Decls} {x : Abs} → GoodEnv g → DeclsMean g before ds x → GoodDecls (kinds g) before x
   decls-good h (DeclsMean.no_decls {before = before}) = GoodDecls.decls (record { normal = tt; shape = tt }) (no_fields-end before)
-  decls-good {g} {before} h (DeclsMean.next_decl {ks = ks} {js = js} {fs = fs} {gs = gs} d n r) =
+  decls-good {g} {before} h (DeclsMean.next_decl {ks = ks} {fs = fs} d n r (DeclarationsGive.declarations {js = js} {gs = gs})) =
       let i = decl-good h d in
       let m : NormalSigRow (kinds (type_vars g ks)) fs = subst (λ c. NormalSigRow c fs) (sym (kinds-type_vars g ks)) i.normal in
       let q = decls-good (good-named_fields (type_vars g ks) fs (good-type_vars g ks h) m i.shape) r in
       join-decls i n (subst (λ c. GoodDecls c (with_names fs before) (Abs.Ex js (Sig.Str gs))) (kinds-named_fields (type_vars g ks) fs ∙ kinds-type_vars g ks) q)
 
   pub mod-good : {g : Env} {m : Mod} {M : Module} → GoodEnv g → ModMeans g m M → GoodModule (kinds g) (types g) M
-  mod-good {g} h (ModMeans.mod_name {x = x} f) = let q = find-good g (name_of x) h f in plain-module q.0 q.1
+  mod-good {g} h (ModMeans.mod_name {x = x} (NamedGives.named f)) = let q = find-good g (name_of x) h f in plain-module q.0 q.1
   mod-good h (ModMeans.mod_struct b) = binds-good h tt b
   mod-good h (ModMeans.mod_project m p) = project-typed (mod-good h m) p
-  mod-good {g} h (ModMeans.mod_applicative {x = x} {ks = ks} {s = s} {y = Abs.Ex bs r} a b l) =
+  mod-good {g} h (ModMeans.mod_applicative {x = x} {ks = ks} {s = s} {y = Abs.Ex bs r} a b (PureFunctorGives.pure_functor l)) =
       let i = good-body (sig-good h a) in
       applicative-good i (in-module s g ks (name_of x) (mod-good (good-with_module g ks (name_of x) h i) b)) l
-  mod-good {g} h (ModMeans.mod_generative {x = x} {ks = ks} {s = s} {y = Abs.Ex bs r} a b e p) =
+  mod-good {g} h (ModMeans.mod_generative {x = x} {ks = ks} {s = s} {y = Abs.Ex bs r} a b e (GenerativeGives.generative p)) =
       let i = good-body (sig-good h a) in
       generative-good i (in-module s g ks (name_of x) (mod-good (good-with_module g ks (name_of x) h i) b)) p
-  mod-good {g} h (ModMeans.mod_apply {x = x} {z = z} a b m n) =
+  mod-good {g} h (ModMeans.mod_apply {x = x} {z = z} a PartsGive.parts b m (ApplyGives.apply n)) =
       let p = find-good g (name_of x) h a in
       let q = find-good g (name_of z) h b in
       apply-good p.0 p.1 q.0 q.1 m n
@@ -163,7 +164,7 @@ mutual
       let m = bind-good h b in
       let n = binds-good (good-with_module g ks x h (module-good m)) (rise-with_name x before r) c in
       seq-typed (env-normal g h) m (in-module s g ks x n) q
-  binds-good {g} {before} h r (BindsMean.next_include {ks = ks} {fs = fs} a c q) =
+  binds-good {g} {before} h r (BindsMean.next_include {ks = ks} {fs = fs} a c (IncludeModule.include q)) =
       let m = mod-good h a in
       let i = module-good m in
       let w = good-with_module g ks include_name h i in

@@ -1,5 +1,5 @@
 -- The lifted signature of an applicative functor is ordered explicit where its parameter and its result are.
-use Rattle.std.specs.Prelude.{ℕ, zero, suc, ◌+◌, ◌<◌, List, [], ◌∷◌, ◌++◌, ◌≡◌, ◌⊎◌, length, map}
+use Rattle.std.specs.Prelude.{ℕ, zero, suc, ◌<◌, List, [], ◌∷◌, ◌++◌, ◌≡◌, ◌⊎◌, length, map}
 use mathlib.Core.Logic.{inl, inr}
 use Rattle.std.proofs.Common.{arith}
 use Rattle.std.proofs.Math.Path.{sym, ◌∙◌, ap, subst, fun_ext}
@@ -22,7 +22,7 @@ use Rattle.signatures.specs.Signatures.SigMentions.{Avoids}
 use Rattle.signatures.specs.Explicit.SigPath.{SigPath, Item, PartAt, ParamOn}
 use Rattle.signatures.specs.Explicit.RootPath.{ParamsAvoid, RootPath, root_path}
 use Rattle.signatures.specs.Explicit.WellFormed.{EachRooted, WellFormed, Explicit, explicit, in_pure}
-use Rattle.signatures.specs.Lifting.{lifted_kinds, by_binders, lifting, lifted}
+use Rattle.signatures.specs.Lifting.{lifted_kinds, lifting, lifted}
 use Rattle.sig_laws.proofs.Algebra.BinderLaws.{extend-append, applied-append, past-append, lifts-past, unders-vars, past-length}
 use Rattle.sig_laws.proofs.Algebra.SigAlgebra.{substitute-vars_sig}
 use Rattle.sig_laws.proofs.Algebra.SigMention.{mentions-raised}
@@ -32,15 +32,8 @@ use Rattle.explicit_laws.proofs.Moves.{Shows, shows, rooted-shows, shows-rooted,
 use Rattle.explicit_laws.proofs.Positions.{past-injective, not-past, own-below}
 use Rattle.omega_types.proofs.BinderLaws.{applied-kind, past-maps}
 use Rattle.omega_types.proofs.BinderPuts.{lifts-maps}
-use Rattle.sig_laws.proofs.Encoded.LiftTyping.{by-own}
+use Rattle.sig_laws.proofs.Encoded.LiftTyping.{lifting-own as lifting-below, lifting-outer as lifting-past}
 use Rattle.sig_laws.specs.Decide.{in_var}
-
--- the lifting on each index
-
-pub by_binders-past : (bs : List Kind) (f g : ℕ → Ty) (i j : ℕ) → j ≡ length bs + i → by_binders bs f g j ≡ g i
-by_binders-past [] f g i j e = ap g (omega arith)
-by_binders-past (b ∷ bs) f g i zero e = absurd (omega (arith, e))
-by_binders-past (b ∷ bs) f g i (suc j) e = by_binders-past bs (λ n. f (suc n)) g i j (omega (arith, e))
 
 pub lookup-mapped : (F : Kind → Kind) (bs ctx other : List Kind) {i : ℕ} {k : Kind} → i < length bs → Lookup (extend ctx bs) i k → Lookup (extend other (map F bs)) i (F k)
 lookup-mapped F [] ctx other h x = absurd (omega (arith, h))
@@ -72,12 +65,6 @@ past-same ks js e = fun_ext (λ i. let a = past-length ks i in let b = past-leng
 
 pub maps-lifted : (ks bs ctx : List Kind) → Maps ctx (extend ctx (lifted_kinds ks bs)) (past bs)
 maps-lifted ks bs ctx = subst (Maps ctx (extend ctx (lifted_kinds ks bs))) (past-same (lifted_kinds ks bs) bs (length-map bs (arrow_over ks))) (past-maps (lifted_kinds ks bs) ctx)
-
-pub lifting-below : (ks bs : List Kind) (i : ℕ) → i < length bs → lifting ks bs i ≡ applied ks (Ty.Var i)
-lifting-below ks bs i h = by-own bs (λ j. applied ks (Ty.Var j)) (λ j. Ty.Var (lifts ks (past bs) j)) i h
-
-pub lifting-past : (ks bs : List Kind) (i : ℕ) → lifting ks bs (past bs i) ≡ Ty.Var (lifts ks (past bs) i)
-lifting-past ks bs i = by_binders-past bs (λ j. applied ks (Ty.Var j)) (λ j. Ty.Var (lifts ks (past bs) j)) i (past bs i) (past-length bs i)
 
 pub lifting-substitutes : (ks bs ctx : List Kind) → Substitutes (extend (extend ctx ks) bs) (extend (extend ctx (lifted_kinds ks bs)) ks) (lifting ks bs)
 lifting-substitutes ks bs ctx i k x = go (split_index bs i)

@@ -82,7 +82,7 @@ pub nothing_is_found : NothingIsFound
 nothing_is_found = ((match_sig_gives [] with_nothing hides_t good_nothing good_t).1 _).1 (RefusesMatch.no_root FoundAfter.none (omega arith) least_t (λ t f. none f))
   where
     none : {t : Ty} → FoundAt [] with_nothing (Kind.Star ∷ []) body_t [] t → ⊥
-    none {t} (found_at {p = p} {n = n} rest l h nf f) = empty (subst (λ z. Found [] with_nothing z n t) (least-unique (omega arith) l least_t) f)
+    none {t} (found_at {p = p} {n = n} l k f) = empty (subst (λ z. Found [] with_nothing z n t) (least-unique (omega arith) l least_t) f)
       where
         empty : {n : Sig} {t : Ty} → Found [] with_nothing path_t n t → ⊥
         empty (Found.field hs hr f) = elim hs [ ]

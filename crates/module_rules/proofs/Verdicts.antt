@@ -9,28 +9,32 @@ use Rattle.omega_kinds.specs.declared.effect.Effect.TheVariants.{Pure, Impure}
 use Rattle.omega_kinds.specs.Name.{Name}
 use Rattle.omega_types.specs.Ty.{Ty}
 use Rattle.omega_types.specs.Kinding.{HasKind}
-use Rattle.omega_types.specs.Binders.{extend}
+use Rattle.omega_types.specs.Binders.{extend, OfKinds}
 use Rattle.omega_terms.specs.Term.{Term}
-use Rattle.omega_terms.specs.Shorthands.{ty_lam_over}
+use Rattle.omega_terms.specs.Shorthands.{insts, ty_lam_over}
+use Rattle.omega_terms.specs.Coercions.{result_label}
 use Rattle.omega_terms.specs.PartTerms.{one_field, value_term, type_term, sig_term}
 use Rattle.signatures.specs.Signatures.Sig.{Sig, Abs, SigRow, HasField, Module, made}
-use Rattle.signatures.specs.Signatures.Alike.{ConvAbs}
+use Rattle.signatures.specs.Signatures.SigSubst.{abs_at}
+use Rattle.signatures.specs.Signatures.Alike.{ConvAbs, NormalAbsForm}
 use Rattle.signatures.specs.Signatures.Encoding.{enc, enc_abs}
 use Rattle.signatures.specs.Explicit.WellFormed.{WellFormed, WellFormedAbs}
 use Rattle.signatures.specs.Env.{Env, find}
 use Rattle.signatures.specs.Packing.{Packed}
-use Rattle.signatures.specs.Verdict.{Verdict, holds, refuses, Perhaps, one, none}
-use Rattle.sig_laws.proofs.Formed.Conditions.{abs-body}
+use Rattle.signatures.specs.Verdict.{Verdict, holds, refuses, One, Perhaps, one, none}
+use Rattle.sig_laws.proofs.Formed.Conditions.{abs-body, str-fields, left-functor, match-kinds}
 use Rattle.sig_laws.proofs.Formed.WellFormedLaws.{explicit-kinds}
-use Rattle.sig_laws.proofs.Formed.Forms.{sig-type, sig-value, sig-meta, sig-structure, field-at}
-use Rattle.premise_laws.proofs.Determined.{packed-one}
+use Rattle.sig_laws.proofs.Formed.Forms.{sig-functor, sig-type, sig-value, sig-meta, sig-structure, field-at}
+use Rattle.premise_laws.proofs.Determined.{packed-one, result-one}
 use Rattle.module_rules.specs.PathUse.{Outside, SigOutside, TypeOfPath, ValueOfPath, SigOfPath, value_of}
 use Rattle.module_rules.specs.Projection.{Projected}
-use Rattle.module_rules.specs.ModWhy.{ModWhy, Unbound, NoPart, NotStructure, WrongPath, Escapes}
-use Rattle.module_rules.specs.ModRules.{NamedGives, NamedRefuses, ProjectRefuses, TypePathRefuses, ValuePathRefuses, SigPathRefuses, GenerativeGives, SealGives, ValueGives, TypeGives, SignatureGives}
-use Rattle.module_rules.specs.OneOutcome.{OneNamed, OneProjected, OneTypePath, OneValuePath, OneSigPath, OneGenerative, OneSeal, OneValueModule, OneTypeModule, OneSignatureModule}
+use Rattle.module_rules.specs.Sequence.{Seq, field_lets}
+use Rattle.sig_laws.specs.Good.{OkRow, OkModule}
+use Rattle.module_rules.specs.ModWhy.{ModWhy, Unbound, NoPart, NotStructure, NotFunctor, WrongPath, Escapes}
+use Rattle.module_rules.specs.ModRules.{NamedGives, NamedRefuses, ProjectRefuses, TypePathRefuses, ValuePathRefuses, SigPathRefuses, GenerativeGives, PartsGive, FunctorRefuses, ApplyGives, IncludeGives, IncludeRefuses, SealGives, ValueGives, TypeGives, SignatureGives}
+use Rattle.module_rules.specs.OneOutcome.{OneNamed, OneProjected, OneTypePath, OneValuePath, OneSigPath, OneGenerative, OneParts, OneApply, OneInclude, OneSeal, OneValueModule, OneTypeModule, OneSignatureModule}
 use Rattle.module_rules.proofs.Escapes.{type-outside, sig-outside}
-use Rattle.module_rules.proofs.Determined.{projected-one}
+use Rattle.module_rules.proofs.Determined.{projected-one, lets-normal, seq-one}
 
 -- names
 
@@ -45,6 +49,13 @@ some-none e = cc
 
 same-some : {A : Type 0} {x y : A} → Path (Option A) (Some x) (Some y) → x ≡ y
 same-some e = cc
+
+pub found-one : (g : Env) (l : Name) → Verdict (λ o. find g l ≡ Some o) (NamedRefuses g l)
+found-one g l = go (find g l) refl
+  where
+    go : (r : Option (Sig × Term)) → find g l ≡ r → Verdict (λ o. find g l ≡ Some o) (NamedRefuses g l)
+    go None e = refuses (Unbound l) (NamedRefuses.unbound e) (λ q r. (named-refused r).1) (λ o p. some-none (sym p ∙ e))
+    go (Some o) e = holds o e (λ q p. same-some (sym p ∙ e)) (λ why r. some-none (sym e ∙ (named-refused r).0))
 
 pub one_named : OneNamed
 one_named g l = go (find g l) refl
@@ -243,6 +254,90 @@ pub one_generative : OneGenerative
 one_generative ctx ks s (made f y ts e) ok =
     let p = packed-one (extend ctx ks) (made f y ts e) ok in
     (made Pure (Abs.Ex [] (Sig.Fun Impure ks s y)) [] (ty_lam_over ks (Term.Lam (enc s) (one_field Label.Gen p.0))), GenerativeGives.generative p.1, λ n g. let v = generative-view g in v.2 ∙ ap (λ d. made Pure (Abs.Ex [] (Sig.Fun Impure ks s y)) [] (ty_lam_over ks (Term.Lam (enc s) (one_field Label.Gen d)))) (p.2 v.0 v.1))
+
+-- applications
+
+parts-view : {s : Sig} {o : Effect × Abs × Abs} → PartsGive s o.0 o.1 o.2 → (ks : List Kind) × (t : Sig) × (s ≡ Sig.Fun o.0 ks t o.2) × (o.1 ≡ Abs.Ex ks t)
+parts-view (PartsGive.parts {ks = ks} {s = t}) = (ks, t, refl, refl)
+
+parts-only : {f : Effect} {ks : List Kind} {t : Sig} {y : Abs} (o : Effect × Abs × Abs) → PartsGive (Sig.Fun f ks t y) o.0 o.1 o.2 → o ≡ (f, Abs.Ex ks t, y)
+parts-only _ PartsGive.parts = refl
+
+functor-refused : {s : Sig} {why : ModWhy} → FunctorRefuses s why → ((f : Effect) (ks : List Kind) (t : Sig) (x : Abs) → s ≢ Sig.Fun f ks t x) × (why ≡ NotFunctor)
+functor-refused (FunctorRefuses.no_functor n) = (n, refl)
+
+pub one_parts : OneParts
+one_parts s = go (sig-functor s)
+  where
+    go : Perhaps (λ (p : Effect × List Kind × Sig × Abs). s ≡ Sig.Fun p.0 p.1 p.2 p.3) → Verdict (λ (o : Effect × Abs × Abs). PartsGive s o.0 o.1 o.2) (FunctorRefuses s)
+    go (one p e only) = subst (λ s. Verdict (λ (o : Effect × Abs × Abs). PartsGive s o.0 o.1 o.2) (FunctorRefuses s)) (sym e) (holds (p.0, Abs.Ex p.1 p.2, p.3) PartsGive.parts parts-only (λ why r. (functor-refused r).0 p.0 p.1 p.2 p.3 refl))
+    go (none n) = refuses NotFunctor (FunctorRefuses.no_functor (λ f ks t x. n (f, ks, t, x))) (λ why r. (functor-refused r).1) (λ o g. let v = parts-view {o = o} g in n (o.0, v.0, v.1, o.2) v.2)
+
+abbrev applied : Effect → Abs → List Ty → Term → Term → Term → Module
+applied f w ts d c e = made f w [] (Term.Get (Term.Call (insts d ts) (Term.Call c e)) (result_label f))
+
+apply-view : {ctx : List Kind} {s : Sig} {ts : List Ty} {c d e : Term} {m : Module} → ApplyGives ctx s d ts c e m → (f : Effect) × (ks : List Kind) × (t : Sig) × (y w : Abs) × (s ≡ Sig.Fun f ks t y) × NormalAbsForm ctx (abs_at ts y) w × (m ≡ applied f w ts d c e)
+apply-view (ApplyGives.apply {f = f} {ks = ks} {s = t} {y = y} {w = w} n) = (f, ks, t, y, w, refl, n, refl)
+
+apply-functor : {ctx ks : List Kind} {f : Effect} {t : Sig} {y : Abs} {ts : List Ty} {c d e : Term} {m : Module} → ApplyGives ctx (Sig.Fun f ks t y) d ts c e m → (w : Abs) × NormalAbsForm ctx (abs_at ts y) w × (m ≡ applied f w ts d c e)
+apply-functor (ApplyGives.apply {w = w} n) = (w, n, refl)
+
+pub apply-one : (ctx ks : List Kind) (f : Effect) (t : Sig) (y : Abs) (d : Term) (ts : List Ty) (c e : Term) → WellFormed ctx (Sig.Fun f ks t y) → OfKinds ctx ts ks → One (ApplyGives ctx (Sig.Fun f ks t y) d ts c e)
+apply-one ctx ks f t y d ts c e w k =
+    let r = result-one k (left-functor w).1 in
+    (applied f r.0 ts d c e, ApplyGives.apply r.1, λ n g. let v = apply-functor g in v.2 ∙ ap (λ w. applied f w ts d c e) (r.2 v.0 v.1))
+
+pub one_apply : OneApply
+one_apply ctx s d t e ts c ok m = go (sig-functor s)
+  where
+    go : Perhaps (λ (p : Effect × List Kind × Sig × Abs). s ≡ Sig.Fun p.0 p.1 p.2 p.3) → Verdict (ApplyGives ctx s d ts c e) (FunctorRefuses s)
+    go (one p i only) =
+        let given : PartsGive s p.0 (Abs.Ex p.1 p.2) p.3 = subst (λ s. PartsGive s p.0 (Abs.Ex p.1 p.2) p.3) (sym i) PartsGive.parts in
+        let r = apply-one ctx p.1 p.0 p.2 p.3 d ts c e (subst (λ s. WellFormed ctx s) i ok.0) (match-kinds (m p.0 (Abs.Ex p.1 p.2) p.3 given)) in
+        subst (λ s. Verdict (ApplyGives ctx s d ts c e) (FunctorRefuses s)) (sym i)
+        (holds r.0 r.1 r.2 (λ why q. (functor-refused q).0 p.0 p.1 p.2 p.3 refl))
+    go (none n) = refuses NotFunctor (FunctorRefuses.no_functor (λ f ks t x. n (f, ks, t, x))) (λ why r. (functor-refused r).1) (λ k g. let v = apply-view g in n (v.0, v.1, v.2, v.3) v.5)
+
+-- included modules
+
+abbrev with_lets : SigRow → Module → Module
+with_lets fs (made f y ts e) = made f y ts (field_lets 0 fs e)
+
+include-view : {ctx ks : List Kind} {f : Effect} {s : Sig} {ts : List Ty} {e : Term} {rest m : Module} → IncludeGives ctx (made f (Abs.Ex ks s) ts e) rest m → (fs : SigRow) × (s ≡ Sig.Str fs) × Seq ctx (made f (Abs.Ex ks (Sig.Str fs)) ts e) (with_lets fs rest) m
+include-view (IncludeGives.include {fs = fs} q) = (fs, refl, q)
+
+include-gives : {ctx ks : List Kind} {f : Effect} {fs : SigRow} {ts : List Ty} {e : Term} (rest : Module) {m : Module} → Seq ctx (made f (Abs.Ex ks (Sig.Str fs)) ts e) (with_lets fs rest) m → IncludeGives ctx (made f (Abs.Ex ks (Sig.Str fs)) ts e) rest m
+include-gives (made h y us d) q = IncludeGives.include q
+
+include-refused : {ks : List Kind} {f : Effect} {s : Sig} {ts : List Ty} {e : Term} {why : ModWhy} → IncludeRefuses (made f (Abs.Ex ks s) ts e) why → ((fs : SigRow) → s ≢ Sig.Str fs) × (why ≡ NotStructure)
+include-refused (IncludeRefuses.no_structure n) = (n, refl)
+
+lets-ok : (ctx : List Kind) (fs : SigRow) (rest : Module) → OkRow ctx fs → OkModule ctx rest → OkModule ctx (with_lets fs rest)
+lets-ok ctx fs (made f (Abs.Ex js t) us d) w h = (h.0, h.1, lets-normal ctx 0 fs d w h.2)
+
+pub include-one : (ctx ks : List Kind) (f : Effect) (fs : SigRow) (ts : List Ty) (e : Term) (rest : Module) → OkModule ctx (made f (Abs.Ex ks (Sig.Str fs)) ts e) → OkModule (extend ctx ks) rest → One (IncludeGives ctx (made f (Abs.Ex ks (Sig.Str fs)) ts e) rest)
+include-one ctx ks f fs ts e rest v inner =
+    let q = seq-one ctx ks f (Sig.Str fs) ts e (with_lets fs rest) v (lets-ok (extend ctx ks) fs rest (str-fields (abs-body v.0.0), v.0.1) inner) in
+    (q.0, include-gives rest q.1, λ m g. let u = include-view g in q.2 m (subst (λ gs. Seq ctx (made f (Abs.Ex ks (Sig.Str gs)) ts e) (with_lets gs rest) m) (sym (str-same u.1)) u.2))
+
+-- what is included is a structure, or refused
+pub included-structure : (ks : List Kind) (f : Effect) (s : Sig) (ts : List Ty) (e : Term) → Verdict (λ fs. s ≡ Sig.Str fs) (IncludeRefuses (made f (Abs.Ex ks s) ts e))
+included-structure ks f s ts e = go (sig-structure s)
+  where
+    go : Perhaps (λ fs. s ≡ Sig.Str fs) → Verdict (λ fs. s ≡ Sig.Str fs) (IncludeRefuses (made f (Abs.Ex ks s) ts e))
+    go (one fs i only) = holds fs i only (λ why r. (include-refused r).0 fs i)
+    go (none n) = refuses NotStructure (IncludeRefuses.no_structure n) (λ why r. (include-refused r).1) n
+
+pub one_include : OneInclude
+one_include ctx ks f s ts e rest ok inner = go (sig-structure s)
+  where
+    go : Perhaps (λ fs. s ≡ Sig.Str fs) → Verdict (IncludeGives ctx (made f (Abs.Ex ks s) ts e) rest) (IncludeRefuses (made f (Abs.Ex ks s) ts e))
+    go (one fs i only) =
+        let v : OkModule ctx (made f (Abs.Ex ks (Sig.Str fs)) ts e) = subst (λ s. OkModule ctx (made f (Abs.Ex ks s) ts e)) i ok in
+        let q = include-one ctx ks f fs ts e rest v inner in
+        subst (λ s. Verdict (IncludeGives ctx (made f (Abs.Ex ks s) ts e) rest) (IncludeRefuses (made f (Abs.Ex ks s) ts e))) (sym i)
+        (holds q.0 q.1 q.2 (λ why r. (include-refused r).0 fs refl))
+    go (none n) = refuses NotStructure (IncludeRefuses.no_structure n) (λ why r. (include-refused r).1) (λ m g. let u = include-view g in n u.0 u.1)
 
 -- sealing and single bindings
 

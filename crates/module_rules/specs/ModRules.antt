@@ -14,8 +14,7 @@ use Rattle.omega_terms.specs.Shorthands.{insts, ty_lam_over}
 use Rattle.omega_terms.specs.Coercions.{result_label}
 use Rattle.omega_terms.specs.PartTerms.{one_field, value_term, type_term, sig_term}
 use Rattle.signatures.specs.Signatures.Sig.{Sig, Abs, SigRow, HasField, Module, made}
-use Rattle.signatures.specs.Signatures.SigSubst.{abs_at}
-use Rattle.signatures.specs.Signatures.Alike.{NormalAbsForm}
+use Rattle.signatures.specs.Signatures.Alike.{IsAbsAt}
 use Rattle.signatures.specs.Signatures.Encoding.{enc, enc_abs}
 use Rattle.signatures.specs.Env.{Env, find}
 use Rattle.signatures.specs.Packing.{Packed}
@@ -76,16 +75,19 @@ pub data GenerativeGives (ctx ks : List Kind) (s : Sig) : Module → Module → 
       → Packed (extend ctx ks) (made f y ts e) d
       → GenerativeGives ctx ks s (made f y ts e) (made Pure (Abs.Ex [] (Sig.Fun Impure ks s y)) [] (ty_lam_over ks (Term.Lam (enc s) (one_field Label.Gen d))))
 
--- the parts of a functor's signature
+-- the parts of a functor's signature: its effect, its parameter, and its result under the parameter's hidden types
+pub data PartsGive : Sig → Effect → (param result : Abs) → Type 0 where
+  parts : {f : Effect} {ks : List Kind} {s : Sig} {y : Abs} → PartsGive (Sig.Fun f ks s y) f (Abs.Ex ks s) y
+
 pub data FunctorRefuses : Sig → ModWhy → Type 0 where
   no_functor : {s : Sig}
       → ((f : Effect) (ks : List Kind) (t : Sig) (x : Abs) → s ≢ Sig.Fun f ks t x)
       → FunctorRefuses s NotFunctor
 
--- X1 X2, at the types and by the coercion of a match of X2 against the parameter
+-- X1 X2, at the types and by the coercion of a match of X2 against the parameter; refused where X1 is no functor
 pub data ApplyGives (ctx : List Kind) : (functor : Sig) (term : Term) (types : List Ty) (coercion arg : Term) → Module → Type 0 where
   apply : {f : Effect} {ks : List Kind} {s : Sig} {y w : Abs} {ts : List Ty} {c d e : Term}
-      → NormalAbsForm ctx (abs_at ts y) w
+      → IsAbsAt ctx y ts w
       → ApplyGives ctx (Sig.Fun f ks s y) d ts c e (made f w [] (Term.Get (Term.Call (insts d ts) (Term.Call c e)) (result_label f)))
 
 -- X :> S, at the types and by the coercion of a match of X against S; never refused

@@ -9,11 +9,12 @@ use Rattle.omega_terms.specs.Term.{Term, TermRow}
 use Rattle.signatures.specs.Signatures.Sig.{Sig, Abs, SigRow, Module, made}
 use Rattle.signatures.specs.Env.{Env}
 use Rattle.signatures.specs.Verdict.{Verdict, One}
-use Rattle.sig_laws.specs.Good.{OkModule, Bound}
+use Rattle.signatures.specs.Matching.Subtyping.{Match}
+use Rattle.sig_laws.specs.Good.{OkSig, OkModule, Bound}
 use Rattle.module_rules.specs.PathUse.{TypeOfPath, ValueOfPath, SigOfPath}
 use Rattle.module_rules.specs.Projection.{Projected}
 use Rattle.module_rules.specs.Sequence.{Seq, Collected}
-use Rattle.module_rules.specs.ModRules.{NamedGives, NamedRefuses, ProjectRefuses, TypePathRefuses, ValuePathRefuses, SigPathRefuses, GenerativeGives, SealGives, ValueGives, TypeGives, SignatureGives}
+use Rattle.module_rules.specs.ModRules.{NamedGives, NamedRefuses, ProjectRefuses, TypePathRefuses, ValuePathRefuses, SigPathRefuses, GenerativeGives, PartsGive, FunctorRefuses, ApplyGives, IncludeGives, IncludeRefuses, SealGives, ValueGives, TypeGives, SignatureGives}
 
 abbrev pub OneNamed : Type 0
 OneNamed = (g : Env) (l : Name) → Verdict (NamedGives g l) (NamedRefuses g l)
@@ -32,6 +33,16 @@ OneSigPath = (ctx : List Kind) (m : Module) → OkModule ctx m → Verdict (SigO
 
 abbrev pub OneGenerative : Type 0
 OneGenerative = (ctx ks : List Kind) (s : Sig) (m : Module) → OkModule (extend ctx ks) m → One (GenerativeGives ctx ks s m)
+
+abbrev pub OneParts : Type 0
+OneParts = (s : Sig) → Verdict (λ (o : Effect × Abs × Abs). PartsGive s o.0 o.1 o.2) (FunctorRefuses s)
+
+-- where the functor is one, types and coercion are a match of the argument against its parameter
+abbrev pub OneApply : Type 0
+OneApply = (ctx : List Kind) (s : Sig) (d : Term) (t : Sig) (e : Term) (ts : List Ty) (c : Term) → OkSig ctx s → ((f : Effect) (param result : Abs) → PartsGive s f param result → Match ctx t param ts c) → Verdict (ApplyGives ctx s d ts c e) (FunctorRefuses s)
+
+abbrev pub OneInclude : Type 0
+OneInclude = (ctx ks : List Kind) (f : Effect) (s : Sig) (ts : List Ty) (e : Term) (rest : Module) → OkModule ctx (made f (Abs.Ex ks s) ts e) → OkModule (extend ctx ks) rest → Verdict (IncludeGives ctx (made f (Abs.Ex ks s) ts e) rest) (IncludeRefuses (made f (Abs.Ex ks s) ts e))
 
 abbrev pub OneEnd : Type 0
 OneEnd = (g : Env) (names : List Name) → Bound g names → One (λ (o : SigRow × TermRow). Collected g names o.0 o.1)

@@ -13,8 +13,7 @@ use Rattle.omega_terms.specs.TermSubst.{ren_term, same_index}
 use Rattle.omega_terms.specs.Shorthands.{let_in, opens, past_opened, Packs}
 use Rattle.omega_terms.specs.Instance.{Instance}
 use Rattle.signatures.specs.Signatures.Sig.{Sig, Abs, SigRow, Module, made}
-use Rattle.signatures.specs.Signatures.SigSubst.{sig_at}
-use Rattle.signatures.specs.Signatures.Alike.{NormalSigForm}
+use Rattle.signatures.specs.Signatures.Alike.{IsSigAt}
 use Rattle.signatures.specs.Signatures.Encoding.{enc, enc_abs}
 use Rattle.signatures.specs.Env.{Env, find}
 use Rattle.signatures.specs.Packing.{Packed}
@@ -32,11 +31,12 @@ past_opens ks e = ren_term same_index (lift (past_opened ks)) e
 pub data Seq (ctx : List Kind) : (first rest whole : Module) → Type 0 where
   -- the hidden types of the first are put into the rest
   both_pure : {ks js : List Kind} {s t n : Sig} {ts us ns : List Ty} {e d c : Term}
-      → NormalSigForm ctx (sig_at ts s) n
+      → IsSigAt ctx s ts n
       → NormalForms ctx (map (substitute (puts ts Ty.Var)) us) js ns
       → Instance (extend ctx ks) ctx (puts ts Ty.Var) d c
       → Seq ctx (made Pure (Abs.Ex ks s) ts e) (made Pure (Abs.Ex js t) us d) (made Pure (Abs.Ex (ks ++ js) t) (ts ++ ns) (let_in (enc n) e c))
-  -- the first one is packed and opened again, the rest is packed, and the first one's types with it
+  -- opens(packed(first); X. packs(the first one's types; packed(rest); what both hide)): the first one is packed and opened
+  -- again, the rest is packed, and the first one's types with it
   some_impure : {f h : Effect} {ks js : List Kind} {s t : Sig} {ts us : List Ty} {e d p q r : Term}
       → joined f h ≡ Impure
       → Packed ctx (made f (Abs.Ex ks s) ts e) p

@@ -4,10 +4,11 @@
 // Proved: each rule with a condition or a choice has exactly one conclusion or exactly one refusal.
 #![tactic(auto)]
 
-ghost use Rattle.module_rules.specs.OneOutcome.{OneNamed, OneProjected, OneTypePath, OneValuePath, OneSigPath, OneGenerative, OneEnd, OneSequence, OneSeal, OneValueModule, OneTypeModule, OneSignatureModule};
+ghost use Rattle.module_rules.specs.OneOutcome.{OneNamed, OneProjected, OneTypePath, OneValuePath, OneSigPath, OneGenerative, OneParts, OneApply, OneInclude, OneEnd, OneSequence, OneSeal, OneValueModule, OneTypeModule, OneSignatureModule};
 
-/// Names, projections and paths have exactly one conclusion or exactly one refusal; generative functors, sealing,
-/// single bindings, finished structures and sequences of bindings have exactly one conclusion.
+/// Names, projections, paths, the parts of a functor's signature, applications and includes have exactly one conclusion or
+/// exactly one refusal; generative functors, sealing, single bindings, finished structures and sequences of bindings have
+/// exactly one conclusion.
 pub fn module_rules()
     ensures named { OneNamed }
     ensures projected { OneProjected }
@@ -15,6 +16,9 @@ pub fn module_rules()
     ensures value_path { OneValuePath }
     ensures sig_path { OneSigPath }
     ensures generative { OneGenerative }
+    ensures parts { OneParts }
+    ensures apply { OneApply }
+    ensures include { OneInclude }
     ensures end { OneEnd }
     ensures sequence { OneSequence }
     ensures seal { OneSeal }

@@ -3,15 +3,14 @@ use Rattle.std.specs.Prelude.{ℕ, zero, suc, List, [], ◌∷◌, ◌≡◌, �
 use Rattle.std.proofs.Common.{arith}
 use Rattle.std.proofs.Math.Path.{refl, subst, sym}
 use Rattle.omega_kinds.specs.Kind.{Kind}
-use Rattle.omega_types.specs.Ty.{Ty}
 use Rattle.omega_types.specs.Kinding.{Lookup, HasKind, here, there}
 use Rattle.omega_types.specs.Kinding.HasKind.{k_var}
-use Rattle.omega_types.specs.Binders.{extend, past, lifts, applied, arrow_over}
+use Rattle.omega_types.specs.Binders.{extend, past, arrow_over}
 use Rattle.omega_types.proofs.BinderLaws.{past-maps, applied-kind}
 use Rattle.signatures.specs.Lifting.{lifting, lifted_kinds}
 use Rattle.sig_laws.specs.LiftingLaws.{LiftingKinds, LiftingMaps}
 use Rattle.omega_types.proofs.BinderPuts.{lifts-maps}
-use Rattle.sig_laws.proofs.Encoded.LiftTyping.{by-outer, by-own, past-suc}
+use Rattle.sig_laws.proofs.Encoded.LiftTyping.{lifting-outer, lifting-own, past-suc}
 
 past-map : (f : Kind → Kind) (bs : List Kind) (i : ℕ) → past (map f bs) i ≡ past bs i
 past-map f [] i = refl
@@ -68,9 +67,9 @@ lifting_kinds ctx ks bs i k x = by_side (side (extend ctx ks) bs x)
     by_side : {i : ℕ} {k : Kind} → Side (extend ctx ks) bs i k → HasKind (extend (extend ctx (lifted_kinds ks bs)) ks) (lifting ks bs i) k
     by_side {i} {k} (own y h) =
         subst (λ t. HasKind (extend (extend ctx (lifted_kinds ks bs)) ks) t k)
-        (sym (by-own bs (λ j. applied ks (Ty.Var j)) (λ j. Ty.Var (lifts ks (past bs) j)) i h))
+        (sym (lifting-own ks bs i h))
         (applied-kind ks (k_var (mapped (arrow_over ks) [] ctx bs (λ j l z. elim z [ ]) y)))
     by_side {k = k} (outer {j = j} y) =
         subst (λ t. HasKind (extend (extend ctx (lifted_kinds ks bs)) ks) t k)
-        (sym (by-outer bs (λ j. applied ks (Ty.Var j)) (λ j. Ty.Var (lifts ks (past bs) j)) j))
+        (sym (lifting-outer ks bs j))
         (k_var (lifting_maps ctx ks bs j k y))

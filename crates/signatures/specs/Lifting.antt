@@ -1,10 +1,10 @@
 -- Lifting the hidden types of a functor's result over its parameter, which makes applications to equal types share
 -- their types (applicative functors in Rossberg, Russo, Dreyer, F-ing modules, section 7).
-use Rattle.std.specs.Prelude.{ℕ, zero, suc, List, [], ◌∷◌, map}
+use Rattle.std.specs.Prelude.{ℕ, zero, List, [], ◌∷◌, map}
 use Rattle.omega_kinds.specs.Kind.{Kind}
 use Rattle.omega_kinds.specs.declared.effect.Effect.TheVariants.{Pure}
 use Rattle.omega_types.specs.Ty.{Ty}
-use Rattle.omega_types.specs.Binders.{past, lifts, arrow_over, lam_over, applied}
+use Rattle.omega_types.specs.Binders.{past, lifts, arrow_over, lam_over, applied, puts}
 use Rattle.signatures.specs.Signatures.Sig.{Sig, Abs}
 use Rattle.signatures.specs.Signatures.SigSubst.{rename_sig, substitute_sig}
 use Rattle.signatures.specs.Signatures.Alike.{NormalAbsForm}
@@ -13,16 +13,15 @@ use Rattle.signatures.specs.Signatures.Alike.{NormalAbsForm}
 abbrev pub lifted_kinds : List Kind → List Kind → List Kind
 lifted_kinds ks bs = map (arrow_over ks) bs
 
--- f for the indexes of the binders, g for those from outside
-abbrev pub by_binders : List Kind → (f g : ℕ → Ty) → ℕ → Ty
-by_binders [] f g i = g i
-by_binders (b ∷ bs) f g zero = f zero
-by_binders (b ∷ bs) f g (suc i) = by_binders bs (λ j. f (suc j)) g i
+-- the binders' variables under all of them
+abbrev pub own_vars : List Kind → List Ty
+own_vars [] = []
+own_vars (b ∷ bs) = Ty.Var (past bs zero) ∷ own_vars bs
 
--- From under ks and then bs to under the lifted bs and then ks: a variable of bs becomes its lifted one applied to the
--- variables of ks, each other variable stays.
+-- From under ks and then bs to under the lifted bs and then ks: the lifted variables, applied to those of ks, are put in for
+-- the variables of bs, and each other variable stays.
 abbrev pub lifting : List Kind → List Kind → ℕ → Ty
-lifting ks bs = by_binders bs (λ j. applied ks (Ty.Var j)) (λ i. Ty.Var (lifts ks (past bs) i))
+lifting ks bs = puts (map (applied ks) (own_vars bs)) (λ i. Ty.Var (lifts ks (past bs) i))
 
 -- the functor signature, before its types are in normal form
 abbrev pub lifted : List Kind → Sig → Abs → Abs

@@ -23,12 +23,19 @@ Untaken ks taken number = (number < length ks) × IsNoneOf number taken
 -- Counts ctx ks s taken number p: the untaken variable is rooted at p, and the functor parameters on p mention no
 -- untaken variable
 pub data Counts (ctx ks : List Kind) (s : Sig) (taken : List ℕ) (number : ℕ) (p : SigPath) : Type 0 where
-  counts : Untaken ks taken number → Rooted (extend ctx ks) s (own ks number) p → ((j : ℕ) → Untaken ks taken j → ParamsAvoid (extend ctx ks) s p (own ks j)) → Counts ctx ks s taken number p
+  counts : Untaken ks taken number
+      → Rooted (extend ctx ks) s (own ks number) p
+      → ((j : ℕ) → Untaken ks taken j → ParamsAvoid (extend ctx ks) s p (own ks j))
+      → Counts ctx ks s taken number p
 
 -- the variables one after the other, at each turn the one with the least path that counts
 pub data Taking (ctx ks : List Kind) (s : Sig) : (taken order : List ℕ) → Type 0 where
   done : {taken : List ℕ} → ((j : ℕ) → Untaken ks taken j → ⊥) → Taking ctx ks s taken []
-  next : {taken order : List ℕ} {number : ℕ} {p : SigPath} → Counts ctx ks s taken number p → ((j : ℕ) (q : SigPath) → Counts ctx ks s taken j q → PathBefore q p → ⊥) → Taking ctx ks s (number ∷ taken) order → Taking ctx ks s taken (number ∷ order)
+  next : {taken order : List ℕ} {number : ℕ} {p : SigPath}
+      → Counts ctx ks s taken number p
+      → ((j : ℕ) (q : SigPath) → Counts ctx ks s taken j q → PathBefore q p → ⊥)
+      → Taking ctx ks s (number ∷ taken) order
+      → Taking ctx ks s taken (number ∷ order)
 
 -- the numbers of the variables in the new order
 abbrev pub NewOrder : List Kind → List Kind → Sig → List ℕ → Type 0
@@ -55,12 +62,25 @@ mutual
     typ : {ctx : List Kind} {t : Ty} {k : Kind} → NormSig ctx (Sig.Typ t k) (Sig.Typ t k)
     meta : {ctx : List Kind} {x y : Abs} → Norm ctx x y → NormSig ctx (Sig.Meta x) (Sig.Meta y)
     str : {ctx : List Kind} {fs gs : SigRow} → NormRow ctx fs gs → NormSig ctx (Sig.Str fs) (Sig.Str gs)
-    pure : {ctx ks : List Kind} {s t r q : Sig} → NormSig (extend ctx ks) s t → NormSig (extend ctx ks) r q → NormSig ctx (Sig.Fun Pure ks s (Abs.Ex [] r)) (Sig.Fun Pure ks t (Abs.Ex [] q))
-    impure : {ctx ks : List Kind} {s t : Sig} {x y : Abs} {order : List ℕ} → NormSig (extend ctx ks) s t → NewOrder ctx ks t order → Norm (extend ctx ks) x y → NormSig ctx (Sig.Fun Impure ks s x) (Sig.Fun Impure (reordered ks order) (rename_sig (renumber ks order) t) (rename_abs (renumber ks order) y))
+    pure : {ctx ks : List Kind} {s t r q : Sig}
+        → NormSig (extend ctx ks) s t
+        → NormSig (extend ctx ks) r q
+        → NormSig ctx (Sig.Fun Pure ks s (Abs.Ex [] r)) (Sig.Fun Pure ks t (Abs.Ex [] q))
+    impure : {ctx ks : List Kind} {s t : Sig} {x y : Abs} {order : List ℕ}
+        → NormSig (extend ctx ks) s t
+        → NewOrder ctx ks t order
+        → Norm (extend ctx ks) x y
+        → NormSig ctx (Sig.Fun Impure ks s x) (Sig.Fun Impure (reordered ks order) (rename_sig (renumber ks order) t) (rename_abs (renumber ks order) y))
 
   pub data Norm : List Kind → Abs → Abs → Type 0 where
-    ex : {ctx ks : List Kind} {s t : Sig} {order : List ℕ} → NormSig (extend ctx ks) s t → NewOrder ctx ks t order → Norm ctx (Abs.Ex ks s) (Abs.Ex (reordered ks order) (rename_sig (renumber ks order) t))
+    ex : {ctx ks : List Kind} {s t : Sig} {order : List ℕ}
+        → NormSig (extend ctx ks) s t
+        → NewOrder ctx ks t order
+        → Norm ctx (Abs.Ex ks s) (Abs.Ex (reordered ks order) (rename_sig (renumber ks order) t))
 
   pub data NormRow : List Kind → SigRow → SigRow → Type 0 where
     end : {ctx : List Kind} → NormRow ctx SigRow.End SigRow.End
-    more : {ctx : List Kind} {l : Name} {s t : Sig} {fs gs : SigRow} → NormSig ctx s t → NormRow ctx fs gs → NormRow ctx (SigRow.More l s fs) (SigRow.More l t gs)
+    more : {ctx : List Kind} {l : Name} {s t : Sig} {fs gs : SigRow}
+        → NormSig ctx s t
+        → NormRow ctx fs gs
+        → NormRow ctx (SigRow.More l s fs) (SigRow.More l t gs)

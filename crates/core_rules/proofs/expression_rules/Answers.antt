@@ -1,5 +1,8 @@
 use Rattle.core_rules.proofs.expression_rules.Goals as goal
-use Rattle.core_rules.proofs.ExpVerdicts.{one_function, one_type_function, one_call, one_instance, one_get, one_if, one_operation, one_fix, one_record}
+use Rattle.core_rules.proofs.ExpVerdicts.{one_literal, one_function, one_type_function, one_call, one_instance, one_get, one_if, one_operation, one_fix, one_record}
+
+pub returns-clause-literal : goal.returns-clause-literal
+returns-clause-literal c = one_literal
 
 pub returns-clause-function : goal.returns-clause-function
 returns-clause-function c = one_function

@@ -1,5 +1,8 @@
 use Rattle.core_rules.proofs.type_rules.Goals as goal
-use Rattle.core_rules.proofs.TypeVerdicts.{one_arrow, one_all, one_operator, one_applied, one_record_type}
+use Rattle.core_rules.proofs.TypeVerdicts.{one_base, one_arrow, one_all, one_operator, one_applied, one_record_type}
+
+pub returns-clause-base : goal.returns-clause-base
+returns-clause-base c = one_base
 
 pub returns-clause-arrow : goal.returns-clause-arrow
 returns-clause-arrow c = one_arrow

@@ -4,29 +4,26 @@ use Rattle.std.proofs.Math.Path.{refl}
 use Rattle.omega_kinds.specs.Kind.{Kind}
 use Rattle.omega_kinds.specs.declared.effect.Effect.TheVariants.{Pure, Impure}
 use Rattle.omega_kinds.specs.Name.{Name}
-use Rattle.omega_types.specs.Ty.{Ty, Row}
-use Rattle.omega_terms.specs.Term.{Term, TermRow}
+use Rattle.omega_types.specs.Ty.{Ty}
+use Rattle.omega_terms.specs.Term.{Term}
 use Rattle.signatures.specs.Signatures.Sig.{Abs, Module}
 use Rattle.signatures.specs.Env.{Env}
 use Rattle.fing_syntax.specs.Phrase.{Span, Mod, Bind, BindAt, BindVal, BindTy, BindModule, BindSignature, BindInclude, Binds, SigEx, Decl, Decls, TyEx, TyExs, FieldTyExs, Exp, OpExps, Args, FieldExps}
-use Rattle.core_rules.specs.TypeRules.{ArrowGives, AppliedGives}
-use Rattle.core_rules.specs.ExpRules.{FunctionGives, CallGives, InstanceGives, GetGives, IfGives, OperationGives, FixGives}
-use Rattle.module_rules.specs.PathUse.{TypeOfPath, ValueOfPath, SigOfPath}
-use Rattle.module_rules.specs.Projection.{Projected}
-use Rattle.sig_rules.specs.Refinement.{Refined}
+use Rattle.core_rules.specs.TypeRules.{FieldTy, ArrowGives, AppliedGives}
+use Rattle.core_rules.specs.ExpRules.{FieldExp, FunctionGives, CallGives, InstanceGives, GetGives, IfGives, OperationGives, FixGives}
 use Rattle.elab_rules.specs.Judgments.Meaning.{TyMeans, ArgTysMean, FieldTysMean, ExpMeans, OpsMean, ArgsMean, FieldExpsMean, SigMeans, DeclMeans, DeclsMean, ModMeans, BindMeans, BindsMean}
 use Rattle.elab_rules.specs.Refusals.Task.{Task, Result, Means, a_type, type_args, type_fields, an_exp, operands, args, fields, a_sig, a_decl, decls, a_mod, a_bind, binds}
 use Rattle.elab_rules.specs.Refusals.Rule.{Runs}
 use Rattle.elab_rules.specs.Refusals.Steps.{steps, type_steps, type_args_steps, type_fields_steps, exp_steps, operands_steps, args_steps, fields_steps, sig_steps, decl_steps, decls_steps, mod_steps, bind_steps, binds_steps}
 
 type-runs : {g : Env} {a : TyEx} {t : Ty} {k : Kind} → TyMeans g a t k → Runs (type_steps g a) (t, k)
-type-runs (TyMeans.ty_path p (TypeOfPath.type_of o)) = (_, p, (_, refl, (_, o, refl)))
-type-runs TyMeans.ty_int = refl
-type-runs TyMeans.ty_bool = refl
-type-runs TyMeans.ty_text = refl
+type-runs (TyMeans.ty_path p r) = (_, p, (_, r, refl))
+type-runs (TyMeans.ty_int r) = (_, r, refl)
+type-runs (TyMeans.ty_bool r) = (_, r, refl)
+type-runs (TyMeans.ty_text r) = (_, r, refl)
 type-runs (TyMeans.ty_arrow p q ArrowGives.arrow) = (_, p, (tt, refl, (_, q, (_, ArrowGives.arrow, refl))))
 type-runs (TyMeans.ty_apply p q) = (_, p, (_, q, refl))
-type-runs (TyMeans.ty_fields p) = (_, p, refl)
+type-runs (TyMeans.ty_fields p r) = (_, p, (_, r, refl))
 type-runs (TyMeans.ty_all p r) = (_, p, (_, r, refl))
 type-runs (TyMeans.ty_lam p r) = (_, p, (_, r, refl))
 type-runs (TyMeans.ty_pack p n) = (_, p, (_, n, refl))
@@ -35,22 +32,22 @@ type_args-runs : {g : Env} {t u : Ty} {k j : Kind} {rest : TyExs} (at : Span) �
 type_args-runs at ArgTysMean.no_args = refl
 type_args-runs at (ArgTysMean.next_arg p (AppliedGives.applied n) q) = (_, refl, (_, p, (_, AppliedGives.applied n, (_, q, refl))))
 
-type_fields-runs : {g : Env} {before : List Name} {rest : FieldTyExs} {row : Row} → FieldTysMean g before rest row → Runs (type_fields_steps g before rest) row
+type_fields-runs : {g : Env} {before : List Name} {rest : FieldTyExs} {parts : List FieldTy} → FieldTysMean g before rest parts → Runs (type_fields_steps g before rest) parts
 type_fields-runs FieldTysMean.no_field_tys = refl
 type_fields-runs (FieldTysMean.next_field_ty n p q) = (tt, n, (_, p, (tt, refl, (_, q, refl))))
 
 exp-runs : {g : Env} {a : Exp} {t : Ty} {e : Term} → ExpMeans g a t e → Runs (exp_steps g a) (t, e)
-exp-runs (ExpMeans.exp_path p (ValueOfPath.value_at o)) = (_, p, (_, refl, (_, o, refl)))
-exp-runs ExpMeans.exp_int = refl
-exp-runs ExpMeans.exp_bool = refl
-exp-runs ExpMeans.exp_text = refl
+exp-runs (ExpMeans.exp_path p r) = (_, p, (_, r, refl))
+exp-runs (ExpMeans.exp_int r) = (_, r, refl)
+exp-runs (ExpMeans.exp_bool r) = (_, r, refl)
+exp-runs (ExpMeans.exp_text r) = (_, r, refl)
 exp-runs (ExpMeans.exp_lam p q FunctionGives.function) = (_, p, (tt, refl, (_, q, (_, FunctionGives.function, refl))))
 exp-runs (ExpMeans.exp_ty_lam p r) = (_, p, (_, r, refl))
 exp-runs (ExpMeans.exp_fix p q r FixGives.fix) = (_, p, (tt, refl, (_, q, (tt, refl, (_, r, (_, FixGives.fix, refl))))))
 exp-runs (ExpMeans.exp_if p q r IfGives.if_) = (_, p, (tt, refl, (_, q, (_, r, (_, IfGives.if_, refl)))))
 exp-runs (ExpMeans.exp_ops p q) = (_, p, (_, q, refl))
 exp-runs (ExpMeans.exp_apply p q) = (_, p, (_, q, refl))
-exp-runs (ExpMeans.exp_fields p) = (_, p, refl)
+exp-runs (ExpMeans.exp_fields p r) = (_, p, (_, r, refl))
 exp-runs (ExpMeans.exp_get p (GetGives.get h)) = (_, p, (_, refl, (_, GetGives.get h, refl)))
 exp-runs (ExpMeans.exp_pack f p n m k) = (_, f, (_, p, (_, n, (_, m, (_, k, refl)))))
 
@@ -63,16 +60,16 @@ args-runs at ArgsMean.no_arg = refl
 args-runs at (ArgsMean.next_value p CallGives.call q) = (_, refl, (_, p, (_, CallGives.call, (_, q, refl))))
 args-runs at (ArgsMean.next_type p (InstanceGives.instance n) q) = (_, refl, (_, p, (_, InstanceGives.instance n, (_, q, refl))))
 
-fields-runs : {g : Env} {before : List Name} {rest : FieldExps} {row : Row} {es : TermRow} → FieldExpsMean g before rest row es → Runs (fields_steps g before rest) (row, es)
+fields-runs : {g : Env} {before : List Name} {rest : FieldExps} {parts : List FieldExp} → FieldExpsMean g before rest parts → Runs (fields_steps g before rest) parts
 fields-runs FieldExpsMean.no_field_exps = refl
 fields-runs (FieldExpsMean.next_field_exp n p q) = (tt, n, (_, p, (_, q, refl)))
 
 sig-runs : {g : Env} {a : SigEx} {x : Abs} → SigMeans g a x → Runs (sig_steps g a) x
-sig-runs (SigMeans.sig_path p (SigOfPath.sig_of o)) = (_, p, (_, refl, (_, o, refl)))
+sig-runs (SigMeans.sig_path p r) = (_, p, (_, r, refl))
 sig-runs (SigMeans.sig_decls p) = (_, p, refl)
 sig-runs (SigMeans.sig_generative p q r) = (_, p, (_, q, (_, r, refl)))
 sig-runs (SigMeans.sig_applicative p q l) = (_, p, (_, q, (_, l, refl)))
-sig-runs (SigMeans.sig_refine p q (Refined.refined before after e l n)) = (_, p, (_, q, (_, l, ((before, _, after), (e, refl), (tt, refl, (_, n, refl))))))
+sig-runs (SigMeans.sig_refine {x = Abs.Ex ks s} p q r) = (_, p, (_, q, (_, r, refl)))
 
 decl-runs : {g : Env} {d : Decl} {x : Abs} → DeclMeans g d x → Runs (decl_steps g d) x
 decl-runs (DeclMeans.decl_val p r) = (_, p, (_, r, refl))
@@ -84,13 +81,12 @@ decl-runs (DeclMeans.decl_include p r) = (_, p, (_, r, refl))
 
 decls-runs : {g : Env} {before : List Name} {ds : Decls} {x : Abs} → DeclsMean g before ds x → Runs (decls_steps g before ds) x
 decls-runs DeclsMean.no_decls = refl
-decls-runs (DeclsMean.next_decl p n q) = (_, p, (_, refl, (tt, n, (_, q, (_, refl, refl)))))
+decls-runs (DeclsMean.next_decl p n q r) = (_, p, (_, refl, (tt, n, (_, q, (_, r, refl)))))
 
 mod-runs : {g : Env} {m : Mod} {M : Module} → ModMeans g m M → Runs (mod_steps g m) M
-mod-runs (ModMeans.mod_name f) = (_, f, refl)
+mod-runs (ModMeans.mod_name r) = (_, r, refl)
 mod-runs (ModMeans.mod_struct p) = (_, p, refl)
-mod-runs (ModMeans.mod_project p (Projected.pure h)) = (_, p, (_, refl, (_, h, (_, Projected.pure h, refl))))
-mod-runs (ModMeans.mod_project p (Projected.impure h k)) = (_, p, (_, refl, (_, h, (_, Projected.impure h k, refl))))
+mod-runs (ModMeans.mod_project p r) = (_, p, (_, r, refl))
 mod-runs (ModMeans.mod_applicative p q l) = (_, p, (_, q, (_, l, refl)))
 mod-runs (ModMeans.mod_generative {gen = true} p q e k) = (_, p, (_, q, (_, k, refl)))
 mod-runs (ModMeans.mod_generative {gen = false} {f = Impure} p q e k) = (_, p, (_, q, (_, k, refl)))
@@ -98,7 +94,7 @@ mod-runs (ModMeans.mod_generative {gen = false} {f = Pure} p q e k) = absurd (pu
   where
     pure-not_impure : Pure ≡ Impure → ⊥
     pure-not_impure e = cc
-mod-runs (ModMeans.mod_apply f h m n) = (_, f, (_, refl, (_, h, (_, m, (_, n, refl)))))
+mod-runs (ModMeans.mod_apply f i h m r) = (_, f, (_, i, (_, h, (_, m, (_, r, refl)))))
 mod-runs (ModMeans.mod_seal f p m r) = (_, f, (_, p, (_, m, (_, r, refl))))
 mod-runs (ModMeans.mod_unpack p q n r) = (_, p, (_, q, (_, n, (_, r, refl))))
 

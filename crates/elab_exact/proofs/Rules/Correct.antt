@@ -1,26 +1,21 @@
 -- What the rule of a phrase gives is what the phrase means.
-use Rattle.std.specs.Prelude.{◌∷◌, List, ◌≡◌, Bool, true, false, Some}
-use Rattle.std.proofs.Math.Path.{refl, sym, subst, ap, ◌∙◌}
+use Rattle.std.specs.Prelude.{◌∷◌, List, ◌≡◌, Bool, true, false}
+use Rattle.std.proofs.Math.Path.{refl, sym, subst}
 use Rattle.omega_kinds.specs.Kind.{Kind}
 use Rattle.omega_kinds.specs.declared.effect.Effect.{Effect}
 use Rattle.omega_kinds.specs.declared.effect.Effect.TheVariants.{Pure, Impure}
 use Rattle.omega_kinds.specs.Name.{Name}
 use Rattle.omega_types.specs.Ty.{Ty}
 use Rattle.omega_terms.specs.Term.{Term}
-use Rattle.signatures.specs.Signatures.Sig.{Sig, Abs, SigRow, Module, made}
-use Rattle.signatures.specs.Signatures.Encoding.{enc_abs}
-use Rattle.signatures.specs.Env.{Env, kinds, type_vars, with_module, named_fields}
-use Rattle.signatures.specs.Signatures.FieldOrder.{with_names}
+use Rattle.signatures.specs.Signatures.Sig.{Sig, Abs, Module, made}
+use Rattle.signatures.specs.Env.{Env, with_module}
 use Rattle.fing_syntax.specs.Phrase.{Span, SpanName, Mod, ModAt, ModName, ModStruct, ModProject, ModFunctor, ModApply, ModSeal, ModUnpack, Bind, BindAt, BindVal, BindTy, BindModule, BindSignature, BindInclude, Binds, NoBinds, MoreBinds, SigEx, SigAt, PathSig, SigDecls, SigFun, SigRefine, Decl, DeclAt, DeclVal, DeclTyIs, DeclTyOf, DeclModule, DeclSignature, DeclInclude, Decls, NoDecls, MoreDecls, TyEx, TyAt, PathTy, TyInt, TyBool, TyText, TyArrow, TyApply, TyFields, TyAll, TyLam, TyPack, TyExs, NoTys, MoreTys, FieldTyExs, NoFieldTys, MoreFieldTys, Exp, ExpAt, PathExp, ExpInt, ExpBool, ExpText, ExpLam, ExpTyLam, ExpFix, ExpIf, ExpOps, ExpApply, ExpFields, ExpGet, ExpPack, OpExps, NoOps, MoreOps, ArgExp, ArgTy, Args, NoArgs, MoreArgs, FieldExps, NoFieldExps, MoreFieldExps}
 use Rattle.fing_syntax.specs.Place.{name_of}
-use Rattle.module_rules.specs.PathUse.{TypeOfPath, ValueOfPath, SigOfPath, value_of}
-use Rattle.module_rules.specs.Sequence.{Seq}
-use Rattle.sig_rules.specs.Refinement.{Refined, Leads}
-use Rattle.signatures.specs.Signatures.RecordOrder.{AreNew}
-use Rattle.elab_rules.specs.Operators.{functor_effect, include_name, names_of}
+use Rattle.core_rules.specs.TypeRules.{FieldTy}
+use Rattle.elab_rules.specs.Operators.{functor_effect}
 use Rattle.elab_rules.specs.Judgments.Meaning.{TyMeans, ArgTysMean, FieldTysMean, ExpMeans, OpsMean, ArgsMean, FieldExpsMean, SigMeans, DeclMeans, DeclsMean, ModMeans, BindMeans, BindsMean}
 use Rattle.elab_rules.specs.Refusals.Task.{Task, Means, a_type, type_args, type_fields, an_exp, operands, args, fields, a_sig, a_decl, decls, a_mod, a_bind, binds}
-use Rattle.elab_rules.specs.Refusals.Steps.{steps, type_path, type_steps, type_args_steps, type_fields_steps, value_path, exp_steps, operands_steps, args_steps, fields_steps, sig_path, functor_sig, refined, sig_steps, decl_steps, decls_after, decls_from, decls_steps, projected, generative, functor_of, functor_body, mod_steps, bind_steps, with_lets, after_bind, after_include, binds_steps}
+use Rattle.elab_rules.specs.Refusals.Steps.{steps, type_steps, type_args_steps, type_fields_steps, exp_steps, operands_steps, args_steps, fields_steps, functor_sig, refined, sig_steps, decl_steps, decls_from, decls_steps, generative, functor_of, functor_body, mod_steps, bind_steps, after_bind, after_include, binds_steps}
 use Rattle.elab_exact.proofs.Rules.Generic.{Sound}
 
 pub at-kind : {g : Env} {a : TyEx} {t : Ty} {k j : Kind} → k ≡ j → TyMeans g a t k → TyMeans g a t j
@@ -32,17 +27,14 @@ at-type {g} {a} {e = e} q p = subst (λ t. ExpMeans g a t e) q p
 pub at-sig : {g : Env} {m : Mod} {f : Effect} {ks : List Kind} {s t : Sig} {ts : List Ty} {e : Term} → s ≡ t → ModMeans g m (made f (Abs.Ex ks s) ts e) → ModMeans g m (made f (Abs.Ex ks t) ts e)
 at-sig {g} {m} {f} {ks} {ts = ts} {e = e} q p = subst (λ s. ModMeans g m (made f (Abs.Ex ks s) ts e)) q p
 
-type_path-sound : (g : Env) (at : Span) (m : Mod) (M : Module) → ModMeans g m M → Sound (type_path g at M) (λ o. TyMeans g (TyAt at (PathTy m)) o.0 o.1)
-type_path-sound g at m (made f (Abs.Ex ks s) ts e) p = λ o q n out. TyMeans.ty_path (at-sig q p) (TypeOfPath.type_of out)
-
 type-sound : (g : Env) (a : TyEx) → Sound (type_steps g a) (λ o. TyMeans g a o.0 o.1)
-type-sound g (TyAt at (PathTy m)) = type_path-sound g at m
-type-sound g (TyAt at TyInt) = TyMeans.ty_int
-type-sound g (TyAt at TyBool) = TyMeans.ty_bool
-type-sound g (TyAt at TyText) = TyMeans.ty_text
+type-sound g (TyAt at (PathTy m)) = λ M p o r. TyMeans.ty_path p r
+type-sound g (TyAt at TyInt) = λ o r. TyMeans.ty_int r
+type-sound g (TyAt at TyBool) = λ o r. TyMeans.ty_bool r
+type-sound g (TyAt at TyText) = λ o r. TyMeans.ty_text r
 type-sound g (TyAt at (TyArrow a b)) = λ t p h e u q o r. TyMeans.ty_arrow p q r
 type-sound g (TyAt at (TyApply a rest)) = λ t p u q. TyMeans.ty_apply p q
-type-sound g (TyAt at (TyFields rest)) = λ row p. TyMeans.ty_fields p
+type-sound g (TyAt at (TyFields rest)) = λ parts p row r. TyMeans.ty_fields p r
 type-sound g (TyAt at (TyAll x k b)) = λ t p o r. TyMeans.ty_all p r
 type-sound g (TyAt at (TyLam x k b)) = λ t p o r. TyMeans.ty_lam p r
 type-sound g (TyAt at (TyPack a)) = λ x p y n. TyMeans.ty_pack p n
@@ -51,25 +43,22 @@ type_args-sound : (g : Env) (at : Span) (t : Ty) (k : Kind) (rest : TyExs) → S
 type_args-sound g at t k NoTys = ArgTysMean.no_args
 type_args-sound g at t k (MoreTys a rest) = λ p e u q v n w r. ArgTysMean.next_arg q n r
 
-type_fields-sound : (g : Env) (before : List Name) (rest : FieldTyExs) → Sound (type_fields_steps g before rest) (λ row. FieldTysMean g before rest row)
+type_fields-sound : (g : Env) (before : List Name) (rest : FieldTyExs) → Sound (type_fields_steps g before rest) (FieldTysMean g before rest)
 type_fields-sound g before NoFieldTys = FieldTysMean.no_field_tys
-type_fields-sound g before (MoreFieldTys x a rest) = λ h n t p i e row q. FieldTysMean.next_field_ty n (at-kind e p) q
-
-value_path-sound : (g : Env) (at : Span) (m : Mod) (M : Module) → ModMeans g m M → Sound (value_path g at M) (λ o. ExpMeans g (ExpAt at (PathExp m)) o.0 o.1)
-value_path-sound g at m (made f (Abs.Ex ks s) ts e) p = λ t q n out. subst (λ s. ExpMeans g (ExpAt at (PathExp m)) n (value_of f ks e (enc_abs (Abs.Ex ks s)))) (sym q) (ExpMeans.exp_path (at-sig q p) (ValueOfPath.value_at out))
+type_fields-sound g before (MoreFieldTys x a rest) = λ h n t p i e parts q. subst (λ k. FieldTysMean g before (MoreFieldTys x a rest) (FieldTy.field (name_of x) t.0 k ∷ parts)) (sym e) (FieldTysMean.next_field_ty n (at-kind e p) q)
 
 exp-sound : (g : Env) (a : Exp) → Sound (exp_steps g a) (λ o. ExpMeans g a o.0 o.1)
-exp-sound g (ExpAt at (PathExp m)) = value_path-sound g at m
-exp-sound g (ExpAt at (ExpInt z)) = ExpMeans.exp_int
-exp-sound g (ExpAt at (ExpBool b)) = ExpMeans.exp_bool
-exp-sound g (ExpAt at (ExpText w)) = ExpMeans.exp_text
+exp-sound g (ExpAt at (PathExp m)) = λ M p o r. ExpMeans.exp_path p r
+exp-sound g (ExpAt at (ExpInt z)) = λ o r. ExpMeans.exp_int r
+exp-sound g (ExpAt at (ExpBool b)) = λ o r. ExpMeans.exp_bool r
+exp-sound g (ExpAt at (ExpText w)) = λ o r. ExpMeans.exp_text r
 exp-sound g (ExpAt at (ExpLam x a b)) = λ t p h e u q o r. ExpMeans.exp_lam p q r
 exp-sound g (ExpAt at (ExpTyLam x k b)) = λ t p o r. ExpMeans.exp_ty_lam p r
 exp-sound g (ExpAt at (ExpFix f x a b c)) = λ t p h e u q i f v r o l. ExpMeans.exp_fix p q r l
 exp-sound g (ExpAt at (ExpIf a b c)) = λ t p h e u q v r o f. ExpMeans.exp_if p q r f
 exp-sound g (ExpAt at (ExpOps a rest)) = λ t p u q. ExpMeans.exp_ops p q
 exp-sound g (ExpAt at (ExpApply a rest)) = λ t p u q. ExpMeans.exp_apply p q
-exp-sound g (ExpAt at (ExpFields rest)) = λ o p. ExpMeans.exp_fields p
+exp-sound g (ExpAt at (ExpFields rest)) = λ parts p o r. ExpMeans.exp_fields p r
 exp-sound g (ExpAt at (ExpGet a x)) = λ t p row e o h. ExpMeans.exp_get p h
 exp-sound g (ExpAt at (ExpPack x a)) = λ o f y p z n m k d j. ExpMeans.exp_pack f p n k j
 
@@ -82,22 +71,19 @@ args-sound g at t e NoArgs = ArgsMean.no_arg
 args-sound g at t e (MoreArgs (ArgExp b) rest) = λ p i u q o f v r. ArgsMean.next_value q f r
 args-sound g at t e (MoreArgs (ArgTy a place) rest) = λ p i u q o f w r. ArgsMean.next_type q f r
 
-fields-sound : (g : Env) (before : List Name) (rest : FieldExps) → Sound (fields_steps g before rest) (λ o. FieldExpsMean g before rest o.0 o.1)
+fields-sound : (g : Env) (before : List Name) (rest : FieldExps) → Sound (fields_steps g before rest) (FieldExpsMean g before rest)
 fields-sound g before NoFieldExps = FieldExpsMean.no_field_exps
-fields-sound g before (MoreFieldExps x a rest) = λ h n t p o q. FieldExpsMean.next_field_exp n p q
-
-sig_path-sound : (g : Env) (at : Span) (m : Mod) (M : Module) → ModMeans g m M → Sound (sig_path g at M) (SigMeans g (SigAt at (PathSig m)))
-sig_path-sound g at m (made f (Abs.Ex ks s) ts e) p = λ x q y out. SigMeans.sig_path (at-sig q p) (SigOfPath.sig_of out)
+fields-sound g before (MoreFieldExps x a rest) = λ h n t p parts q. FieldExpsMean.next_field_exp n p q
 
 functor_sig-sound : (g : Env) (at : Span) (x : SpanName) (a b : SigEx) (pure : Bool) (y : Abs) → SigMeans g a y → Sound (functor_sig g pure x b y) (SigMeans g (SigAt at (SigFun pure x a b)))
 functor_sig-sound g at x a b false (Abs.Ex ks s) p = λ y q z r. SigMeans.sig_generative p q r
 functor_sig-sound g at x a b true (Abs.Ex ks s) p = λ y q z l. SigMeans.sig_applicative p q l
 
 refined-sound : (g : Env) (at : Span) (a : SigEx) (z : SpanName) (path : List SpanName) (b : TyEx) (x : Abs) → SigMeans g a x → (u : Ty × Kind) → TyMeans g b u.0 u.1 → Sound (refined g z path b x u) (SigMeans g (SigAt at (SigRefine a z path b)))
-refined-sound g at a z path b (Abs.Ex ks s) p u q = λ r l o e h i n f. SigMeans.sig_refine p (at-kind i q) (Refined.refined o.0 o.2 e.0 (subst (λ r. Leads s (names_of (z ∷ path)) r) e.1 l) f)
+refined-sound g at a z path b (Abs.Ex ks s) p u q = λ y r. SigMeans.sig_refine p q r
 
 sig-sound : (g : Env) (a : SigEx) → Sound (sig_steps g a) (SigMeans g a)
-sig-sound g (SigAt at (PathSig m)) = sig_path-sound g at m
+sig-sound g (SigAt at (PathSig m)) = λ M p x r. SigMeans.sig_path p r
 sig-sound g (SigAt at (SigDecls ds)) = λ x p. SigMeans.sig_decls p
 sig-sound g (SigAt at (SigFun pure x a b)) = functor_sig-sound g at x a b pure
 sig-sound g (SigAt at (SigRefine a z path b)) = refined-sound g at a z path b
@@ -110,24 +96,18 @@ decl-sound g (DeclAt at (DeclModule x a)) = λ y p z r. DeclMeans.decl_module p 
 decl-sound g (DeclAt at (DeclSignature x a)) = λ y p z r. DeclMeans.decl_signature p r
 decl-sound g (DeclAt at (DeclInclude a)) = λ y p z r. DeclMeans.decl_include p r
 
-decls_after-sound : (g : Env) (before : List Name) (d : Decl) (ds : Decls) (ks : List Kind) (fs : SigRow) → DeclMeans g d (Abs.Ex ks (Sig.Str fs)) → AreNew fs before → (y : Abs) → DeclsMean (named_fields (type_vars g ks) fs) (with_names fs before) ds y → Sound (decls_after ks fs y) (DeclsMean g before (MoreDecls d ds))
-decls_after-sound g before d ds ks fs p n (Abs.Ex js t) q = λ gs e. DeclsMean.next_decl p n (subst (λ t. DeclsMean (named_fields (type_vars g ks) fs) (with_names fs before) ds (Abs.Ex js t)) e q)
-
 decls_from-sound : (g : Env) (before : List Name) (d : Decl) (ds : Decls) (x : Abs) → DeclMeans g d x → Sound (decls_from g before d ds x) (DeclsMean g before (MoreDecls d ds))
-decls_from-sound g before d ds (Abs.Ex ks s) p = λ fs e u n y q. decls_after-sound g before d ds ks fs (subst (λ s. DeclMeans g d (Abs.Ex ks s)) e p) n y q
+decls_from-sound g before d ds (Abs.Ex ks s) p = λ fs e u n y q z r. DeclsMean.next_decl (subst (λ s. DeclMeans g d (Abs.Ex ks s)) e p) n q r
 
 decls-sound : (g : Env) (before : List Name) (ds : Decls) → Sound (decls_steps g before ds) (DeclsMean g before ds)
 decls-sound g before NoDecls = DeclsMean.no_decls
 decls-sound g before (MoreDecls d ds) = decls_from-sound g before d ds
 
-projected-sound : (g : Env) (at : Span) (m : Mod) (x : SpanName) (M : Module) → ModMeans g m M → Sound (projected g x M) (ModMeans g (ModAt at (ModProject m x)))
-projected-sound g at m x (made f (Abs.Ex ks s) ts e) p = λ fs q t h N j. ModMeans.mod_project (at-sig q p) j
-
 generative-sound : {g : Env} {at : Span} {gen : Bool} {x : SpanName} {a : SigEx} {b : Mod} {ks : List Kind} {s : Sig} {f : Effect} {y : Abs} {ts : List Ty} {e : Term} → SigMeans g a (Abs.Ex ks s) → ModMeans (with_module g ks (name_of x) s) b (made f y ts e) → functor_effect gen f ≡ Impure → Sound (generative g ks s (made f y ts e)) (ModMeans g (ModAt at (ModFunctor gen x a b)))
-generative-sound p q i = λ d k. ModMeans.mod_generative p q i k
+generative-sound p q i = λ N r. ModMeans.mod_generative p q i r
 
 functor_of-sound : (g : Env) (at : Span) (x : SpanName) (a : SigEx) (b : Mod) (ks : List Kind) (s : Sig) → SigMeans g a (Abs.Ex ks s) → (gen : Bool) (M : Module) → ModMeans (with_module g ks (name_of x) s) b M → Sound (functor_of g ks s gen M) (ModMeans g (ModAt at (ModFunctor gen x a b)))
-functor_of-sound g at x a b ks s p false (made Pure y ts e) q = λ z l. ModMeans.mod_applicative p q l
+functor_of-sound g at x a b ks s p false (made Pure y ts e) q = λ N r. ModMeans.mod_applicative p q r
 functor_of-sound g at x a b ks s p false (made Impure y ts e) q = generative-sound p q refl
 functor_of-sound g at x a b ks s p true (made f y ts e) q = generative-sound p q refl
 
@@ -135,11 +115,11 @@ functor_body-sound : (g : Env) (at : Span) (gen : Bool) (x : SpanName) (a : SigE
 functor_body-sound g at gen x a b (Abs.Ex ks s) p = functor_of-sound g at x a b ks s p gen
 
 mod-sound : (g : Env) (m : Mod) → Sound (mod_steps g m) (ModMeans g m)
-mod-sound g (ModAt at (ModName x)) = λ o f. ModMeans.mod_name f
+mod-sound g (ModAt at (ModName x)) = λ M r. ModMeans.mod_name r
 mod-sound g (ModAt at (ModStruct bs)) = λ M p. ModMeans.mod_struct p
-mod-sound g (ModAt at (ModProject m x)) = projected-sound g at m x
+mod-sound g (ModAt at (ModProject m x)) = λ M p N r. ModMeans.mod_project p r
 mod-sound g (ModAt at (ModFunctor gen x a b)) = functor_body-sound g at gen x a b
-mod-sound g (ModAt at (ModApply x z)) = λ o f p e q h m k w n. ModMeans.mod_apply (f ∙ ap (λ s. Some (s, o.1)) e) h k n
+mod-sound g (ModAt at (ModApply x z)) = λ o f p e q h m k M r. ModMeans.mod_apply f e h k r
 mod-sound g (ModAt at (ModSeal x a)) = λ o f y p m k M r. ModMeans.mod_seal f p k r
 mod-sound g (ModAt at (ModUnpack b a)) = λ t p x q y n M r. ModMeans.mod_unpack p q n r
 
@@ -153,11 +133,8 @@ bind-sound g (BindAt at (BindInclude m)) = λ b u. absurd b
 after_bind-sound : (g : Env) (before : List Name) (b : Bind) (bs : Binds) (x : Name) (M : Module) → BindMeans g b x M → Sound (after_bind g before bs x M) (BindsMean g before (MoreBinds b bs))
 after_bind-sound g before b bs x (made f (Abs.Ex ks s) ts e) p = λ M q N j. BindsMean.next_bind p q j
 
-lets-sound : {g : Env} {before : List Name} {at : Span} {m : Mod} {bs : Binds} {f : Effect} {ks : List Kind} {fs : SigRow} {ts : List Ty} {e : Term} → ModMeans g m (made f (Abs.Ex ks (Sig.Str fs)) ts e) → (M : Module) → BindsMean (named_fields (with_module g ks include_name (Sig.Str fs)) fs) (with_names fs before) bs M → (N : Module) → Seq (kinds g) (made f (Abs.Ex ks (Sig.Str fs)) ts e) (with_lets fs M) N → BindsMean g before (MoreBinds (BindAt at (BindInclude m)) bs) N
-lets-sound p (made h y us d) q N j = BindsMean.next_include p q j
-
 after_include-sound : (g : Env) (before : List Name) (at : Span) (m : Mod) (bs : Binds) (M : Module) → ModMeans g m M → Sound (after_include g before m bs M) (BindsMean g before (MoreBinds (BindAt at (BindInclude m)) bs))
-after_include-sound g before at m bs (made f (Abs.Ex ks s) ts e) p = λ fs i M q N j. lets-sound (at-sig i p) M q N j
+after_include-sound g before at m bs (made f (Abs.Ex ks s) ts e) p = λ fs i M q N r. BindsMean.next_include (at-sig i p) q r
 
 binds-sound : (g : Env) (before : List Name) (bs : Binds) → Sound (binds_steps g before bs) (BindsMean g before bs)
 binds-sound g before NoBinds = λ o c. BindsMean.no_binds c

@@ -1,39 +1,31 @@
 -- Elaboration: what each phrase means in an environment (Rossberg, Russo, Dreyer, F-ing modules, sections 4, 6 and 7).
 -- Types in signatures and in terms are normal. Premises stand in the order in which they are tried; the conclusion of a
 -- rule over premises that are elaborated is a relation of the rule's own.
-use Rattle.std.specs.Prelude.{ℤ, List, [], ◌∷◌, ◌++◌, ◌≡◌, Bool, true, false, Some}
+use Rattle.std.specs.Prelude.{ℤ, List, [], ◌∷◌, ◌≡◌, Bool, true, false, Some}
 use Rattle.omega_kinds.specs.Kind.{Kind}
-use Rattle.omega_kinds.specs.declared.label.Label.{Label}
 use Rattle.omega_kinds.specs.declared.effect.Effect.{Effect}
 use Rattle.omega_kinds.specs.declared.effect.Effect.TheVariants.{Pure, Impure}
 use Rattle.omega_kinds.specs.Name.{Name}
 use Rattle.omega_types.specs.Ty.{Ty, Row}
-use Rattle.omega_types.specs.Binders.{extend}
 use Rattle.omega_terms.specs.Term.{Term, TermRow}
-use Rattle.omega_terms.specs.Shorthands.{insts, ty_lam_over, Packs}
-use Rattle.omega_terms.specs.Coercions.{result_label}
-use Rattle.omega_terms.specs.PartTerms.{one_field}
 use Rattle.signatures.specs.Signatures.Sig.{Sig, Abs, SigRow, Module, made}
-use Rattle.signatures.specs.Signatures.SigSubst.{abs_at, raise_sig_row}
-use Rattle.signatures.specs.Signatures.Alike.{NormalAbsForm}
-use Rattle.signatures.specs.Signatures.Encoding.{enc, enc_abs}
 use Rattle.signatures.specs.Env.{Env, Value, kinds, find, type_vars, with_module, named_fields}
 use Rattle.signatures.specs.Matching.Subtyping.{Match}
-use Rattle.signatures.specs.Lifting.{Lift, lifted_types}
+use Rattle.signatures.specs.Lifting.{Lift}
 use Rattle.signatures.specs.QuantifierOrder.{Norm}
-use Rattle.signatures.specs.Packing.{Packed}
-use Rattle.signatures.specs.Signatures.FieldOrder.{merge, with_name, with_names}
+use Rattle.signatures.specs.Signatures.FieldOrder.{with_name, with_names}
 use Rattle.fing_syntax.specs.Phrase.{Span, SpanName, Mod, ModAt, ModName, ModStruct, ModProject, ModFunctor, ModApply, ModSeal, ModUnpack, Bind, BindAt, BindVal, BindTy, BindModule, BindSignature, BindInclude, Binds, NoBinds, MoreBinds, SigEx, SigAt, PathSig, SigDecls, SigFun, SigRefine, Decl, DeclAt, DeclVal, DeclTyIs, DeclTyOf, DeclModule, DeclSignature, DeclInclude, Decls, NoDecls, MoreDecls, TyEx, TyAt, PathTy, TyInt, TyBool, TyText, TyArrow, TyApply, TyFields, TyAll, TyLam, TyPack, TyExs, NoTys, MoreTys, FieldTyExs, NoFieldTys, MoreFieldTys, Exp, ExpAt, PathExp, ExpInt, ExpBool, ExpText, ExpLam, ExpTyLam, ExpFix, ExpIf, ExpOps, ExpApply, ExpFields, ExpGet, ExpPack, Op, OpExps, NoOps, MoreOps, ArgExp, ArgTy, Args, NoArgs, MoreArgs, FieldExps, NoFieldExps, MoreFieldExps}
 use Rattle.fing_syntax.specs.Place.{name_of}
-use Rattle.signatures.specs.Signatures.RecordOrder.{insert_part, insert_term, IsNew, AreNew}
-use Rattle.core_rules.specs.TypeRules.{ArrowGives, AllGives, OperatorGives, AppliedGives}
-use Rattle.core_rules.specs.ExpRules.{FunctionGives, TypeFunctionGives, CallGives, InstanceGives, GetGives, IfGives, OperationGives, FixGives}
-use Rattle.sig_rules.specs.SigRules.{ValueGives, TypeGives, AbstractGives, ModuleGives, SignatureGives, IncludeGives, GenerativeGives as GenerativeSigGives}
-use Rattle.module_rules.specs.ModRules.{SealGives, ValueGives as ValueModule, TypeGives as TypeModule, SignatureGives as SignatureModule}
-use Rattle.packages.specs.Package.{PackTypeGives, UnpackGives}
+use Rattle.signatures.specs.Signatures.RecordOrder.{IsNew, AreNew}
+use Rattle.core_rules.specs.TypeRules.{Base, BaseGives, FieldTy, RecordTypeGives, ArrowGives, AllGives, OperatorGives, AppliedGives}
+use Rattle.core_rules.specs.ExpRules.{Literal, LiteralGives, FieldExp, RecordGives, FunctionGives, TypeFunctionGives, CallGives, InstanceGives, GetGives, IfGives, OperationGives, FixGives}
+use Rattle.sig_rules.specs.SigRules.{ValueGives, TypeGives, AbstractGives, ModuleGives, SignatureGives, IncludeGives, DeclarationsGive, GenerativeGives as GenerativeSigGives}
+use Rattle.module_rules.specs.ModRules.{NamedGives, GenerativeGives, PartsGive, ApplyGives, IncludeGives as IncludeModule, SealGives, ValueGives as ValueModule, TypeGives as TypeModule, SignatureGives as SignatureModule}
+use Rattle.applicative_functors.specs.PureFunctor.{PureFunctorGives}
+use Rattle.packages.specs.Package.{PackTypeGives, PackGives, UnpackGives}
 use Rattle.module_rules.specs.PathUse.{TypeOfPath, ValueOfPath, SigOfPath}
 use Rattle.module_rules.specs.Projection.{Projected}
-use Rattle.module_rules.specs.Sequence.{Seq, field_lets, Collected}
+use Rattle.module_rules.specs.Sequence.{Seq, Collected}
 use Rattle.sig_rules.specs.Refinement.{Refined}
 use Rattle.elab_rules.specs.Operators.{omega_op, names_of, include_name, with_type, functor_effect}
 
@@ -44,9 +36,9 @@ mutual
         → ModMeans g m M
         → TypeOfPath (kinds g) M t k
         → TyMeans g (TyAt at (PathTy m)) t k
-    ty_int : {g : Env} {at : Span} → TyMeans g (TyAt at TyInt) Ty.Int Kind.Star
-    ty_bool : {g : Env} {at : Span} → TyMeans g (TyAt at TyBool) Ty.Bool Kind.Star
-    ty_text : {g : Env} {at : Span} → TyMeans g (TyAt at TyText) Ty.Text Kind.Star
+    ty_int : {g : Env} {at : Span} {t : Ty} {k : Kind} → BaseGives Base.Int t k → TyMeans g (TyAt at TyInt) t k
+    ty_bool : {g : Env} {at : Span} {t : Ty} {k : Kind} → BaseGives Base.Bool t k → TyMeans g (TyAt at TyBool) t k
+    ty_text : {g : Env} {at : Span} {t : Ty} {k : Kind} → BaseGives Base.Text t k → TyMeans g (TyAt at TyText) t k
     ty_arrow : {g : Env} {at : Span} {a b : TyEx} {t u v : Ty} {k j l : Kind}
         → TyMeans g a t k
         → TyMeans g b u j
@@ -56,8 +48,9 @@ mutual
         → TyMeans g a t k
         → ArgTysMean g t k rest u j
         → TyMeans g (TyAt at (TyApply a rest)) u j
-    ty_fields : {g : Env} {at : Span} {fields : FieldTyExs} {row : Row}
-        → FieldTysMean g [] fields row
+    ty_fields : {g : Env} {at : Span} {fields : FieldTyExs} {parts : List FieldTy} {row : Row}
+        → FieldTysMean g [] fields parts
+        → RecordTypeGives [] parts row
         → TyMeans g (TyAt at (TyFields fields)) (Ty.Fields row) Kind.Star
     ty_all : {g : Env} {at : Span} {a : SpanName} {k j l : Kind} {b : TyEx} {t v : Ty}
         → TyMeans (with_type g k (name_of a)) b t j
@@ -83,13 +76,13 @@ mutual
         → ArgTysMean g t k (MoreTys a rest) w l
 
   -- the fields of a record type, after those of the names before
-  pub data FieldTysMean : Env → List Name → FieldTyExs → Row → Type 0 where
-    no_field_tys : {g : Env} {before : List Name} → FieldTysMean g before NoFieldTys Row.End
-    next_field_ty : {g : Env} {before : List Name} {x : SpanName} {a : TyEx} {rest : FieldTyExs} {t : Ty} {row : Row}
+  pub data FieldTysMean : Env → List Name → FieldTyExs → List FieldTy → Type 0 where
+    no_field_tys : {g : Env} {before : List Name} → FieldTysMean g before NoFieldTys []
+    next_field_ty : {g : Env} {before : List Name} {x : SpanName} {a : TyEx} {rest : FieldTyExs} {t : Ty} {parts : List FieldTy}
         → IsNew (name_of x) before
         → TyMeans g a t Kind.Star
-        → FieldTysMean g (name_of x ∷ before) rest row
-        → FieldTysMean g before (MoreFieldTys x a rest) (insert_part (Label.Name (name_of x)) t row)
+        → FieldTysMean g (name_of x ∷ before) rest parts
+        → FieldTysMean g before (MoreFieldTys x a rest) (FieldTy.field (name_of x) t Kind.Star ∷ parts)
 
   -- ExpMeans g E t e: the expression E has the type t and means the term e
   pub data ExpMeans : Env → Exp → Ty → Term → Type 0 where
@@ -97,9 +90,9 @@ mutual
         → ModMeans g m M
         → ValueOfPath (kinds g) M t e
         → ExpMeans g (ExpAt at (PathExp m)) t e
-    exp_int : {g : Env} {at : Span} {z : ℤ} → ExpMeans g (ExpAt at (ExpInt z)) Ty.Int (Term.Int z)
-    exp_bool : {g : Env} {at : Span} {b : Bool} → ExpMeans g (ExpAt at (ExpBool b)) Ty.Bool (Term.Bool b)
-    exp_text : {g : Env} {at : Span} {bytes : Name} → ExpMeans g (ExpAt at (ExpText bytes)) Ty.Text (Term.Text bytes)
+    exp_int : {g : Env} {at : Span} {z : ℤ} {t : Ty} {e : Term} → LiteralGives (Literal.Int z) t e → ExpMeans g (ExpAt at (ExpInt z)) t e
+    exp_bool : {g : Env} {at : Span} {b : Bool} {t : Ty} {e : Term} → LiteralGives (Literal.Bool b) t e → ExpMeans g (ExpAt at (ExpBool b)) t e
+    exp_text : {g : Env} {at : Span} {bytes : Name} {t : Ty} {e : Term} → LiteralGives (Literal.Text bytes) t e → ExpMeans g (ExpAt at (ExpText bytes)) t e
     exp_lam : {g : Env} {at : Span} {x : SpanName} {a : TyEx} {b : Exp} {t u v : Ty} {k : Kind} {e d : Term}
         → TyMeans g a t k
         → ExpMeans (Value (name_of x) t ∷ g) b u e
@@ -129,20 +122,21 @@ mutual
         → ExpMeans g a t d
         → ArgsMean g t d rest u e
         → ExpMeans g (ExpAt at (ExpApply a rest)) u e
-    exp_fields : {g : Env} {at : Span} {fields : FieldExps} {row : Row} {es : TermRow}
-        → FieldExpsMean g [] fields row es
+    exp_fields : {g : Env} {at : Span} {fields : FieldExps} {parts : List FieldExp} {row : Row} {es : TermRow}
+        → FieldExpsMean g [] fields parts
+        → RecordGives [] parts row es
         → ExpMeans g (ExpAt at (ExpFields fields)) (Ty.Fields row) (Term.Fields es)
     exp_get : {g : Env} {at : Span} {a : Exp} {x : SpanName} {t u : Ty} {d e : Term}
         → ExpMeans g a t d
         → GetGives t d (name_of x) u e
         → ExpMeans g (ExpAt at (ExpGet a x)) u e
-    exp_pack : {g : Env} {at : Span} {x : SpanName} {a : SigEx} {s : Sig} {y z : Abs} {ts : List Ty} {d e f : Term}
+    exp_pack : {g : Env} {at : Span} {x : SpanName} {a : SigEx} {s : Sig} {y z : Abs} {ts : List Ty} {t : Ty} {d e f : Term}
         → find g (name_of x) ≡ Some (s, e)
         → SigMeans g a y
         → Norm (kinds g) y z
         → Match (kinds g) s z ts f
-        → Packs (kinds g) ts (Term.Call f e) (enc_abs z) d
-        → ExpMeans g (ExpAt at (ExpPack x a)) (enc_abs z) d
+        → PackGives (kinds g) e z ts f t d
+        → ExpMeans g (ExpAt at (ExpPack x a)) t d
 
   -- a chain of operators after a first operand
   pub data OpsMean : Env → Ty → Term → OpExps → Ty → Term → Type 0 where
@@ -168,13 +162,13 @@ mutual
         → ArgsMean g t c (MoreArgs (ArgTy a at) rest) w e
 
   -- the fields of a record, after those of the names before
-  pub data FieldExpsMean : Env → List Name → FieldExps → Row → TermRow → Type 0 where
-    no_field_exps : {g : Env} {before : List Name} → FieldExpsMean g before NoFieldExps Row.End TermRow.End
-    next_field_exp : {g : Env} {before : List Name} {x : SpanName} {a : Exp} {rest : FieldExps} {t : Ty} {e : Term} {row : Row} {es : TermRow}
+  pub data FieldExpsMean : Env → List Name → FieldExps → List FieldExp → Type 0 where
+    no_field_exps : {g : Env} {before : List Name} → FieldExpsMean g before NoFieldExps []
+    next_field_exp : {g : Env} {before : List Name} {x : SpanName} {a : Exp} {rest : FieldExps} {t : Ty} {e : Term} {parts : List FieldExp}
         → IsNew (name_of x) before
         → ExpMeans g a t e
-        → FieldExpsMean g (name_of x ∷ before) rest row es
-        → FieldExpsMean g before (MoreFieldExps x a rest) (insert_part (Label.Name (name_of x)) t row) (insert_term (Label.Name (name_of x)) e es)
+        → FieldExpsMean g (name_of x ∷ before) rest parts
+        → FieldExpsMean g before (MoreFieldExps x a rest) (FieldExp.field (name_of x) t e ∷ parts)
 
   -- SigMeans g S x: the signature phrase S means x
   pub data SigMeans : Env → SigEx → Abs → Type 0 where
@@ -230,17 +224,18 @@ mutual
   -- declarations after those of the labels before, each in the scope of those before it
   pub data DeclsMean : Env → List Name → Decls → Abs → Type 0 where
     no_decls : {g : Env} {before : List Name} → DeclsMean g before NoDecls (Abs.Ex [] (Sig.Str SigRow.End))
-    next_decl : {g : Env} {before : List Name} {d : Decl} {ds : Decls} {ks js : List Kind} {fs gs : SigRow}
+    next_decl : {g : Env} {before : List Name} {d : Decl} {ds : Decls} {ks : List Kind} {fs : SigRow} {rest whole : Abs}
         → DeclMeans g d (Abs.Ex ks (Sig.Str fs))
         → AreNew fs before
-        → DeclsMean (named_fields (type_vars g ks) fs) (with_names fs before) ds (Abs.Ex js (Sig.Str gs))
-        → DeclsMean g before (MoreDecls d ds) (Abs.Ex (ks ++ js) (Sig.Str (merge (raise_sig_row js fs) gs)))
+        → DeclsMean (named_fields (type_vars g ks) fs) (with_names fs before) ds rest
+        → DeclarationsGive (Abs.Ex ks (Sig.Str fs)) rest whole
+        → DeclsMean g before (MoreDecls d ds) whole
 
   -- ModMeans g M m: the module phrase M means m, which has an effect, a signature, hidden types and a term
   pub data ModMeans : Env → Mod → Module → Type 0 where
-    mod_name : {g : Env} {at : Span} {x : SpanName} {s : Sig} {e : Term}
-        → find g (name_of x) ≡ Some (s, e)
-        → ModMeans g (ModAt at (ModName x)) (made Pure (Abs.Ex [] s) [] e)
+    mod_name : {g : Env} {at : Span} {x : SpanName} {M : Module}
+        → NamedGives g (name_of x) M
+        → ModMeans g (ModAt at (ModName x)) M
     mod_struct : {g : Env} {at : Span} {bs : Binds} {M : Module}
         → BindsMean g [] bs M
         → ModMeans g (ModAt at (ModStruct bs)) M
@@ -249,24 +244,25 @@ mutual
         → Projected (kinds g) M (name_of x) N
         → ModMeans g (ModAt at (ModProject m x)) N
     -- an applicative functor: the hidden types of the body are lifted over the parameter
-    mod_applicative : {g : Env} {at : Span} {x : SpanName} {a : SigEx} {b : Mod} {ks : List Kind} {s : Sig} {y z : Abs} {ts : List Ty} {e : Term}
+    mod_applicative : {g : Env} {at : Span} {x : SpanName} {a : SigEx} {b : Mod} {ks : List Kind} {s : Sig} {y : Abs} {ts : List Ty} {e : Term} {M : Module}
         → SigMeans g a (Abs.Ex ks s)
         → ModMeans (with_module g ks (name_of x) s) b (made Pure y ts e)
-        → Lift (kinds g) ks s y z
-        → ModMeans g (ModAt at (ModFunctor false x a b)) (made Pure z (lifted_types ks ts) (ty_lam_over ks (Term.Lam (enc s) (one_field Label.App e))))
+        → PureFunctorGives (kinds g) ks s (made Pure y ts e) M
+        → ModMeans g (ModAt at (ModFunctor false x a b)) M
     -- a generative functor, by its keyword or because its body is impure
-    mod_generative : {g : Env} {at : Span} {gen : Bool} {x : SpanName} {a : SigEx} {b : Mod} {ks : List Kind} {s : Sig} {f : Effect} {y : Abs} {ts : List Ty} {d e : Term}
+    mod_generative : {g : Env} {at : Span} {gen : Bool} {x : SpanName} {a : SigEx} {b : Mod} {ks : List Kind} {s : Sig} {f : Effect} {y : Abs} {ts : List Ty} {e : Term} {M : Module}
         → SigMeans g a (Abs.Ex ks s)
         → ModMeans (with_module g ks (name_of x) s) b (made f y ts e)
         → functor_effect gen f ≡ Impure
-        → Packed (extend (kinds g) ks) (made f y ts e) d
-        → ModMeans g (ModAt at (ModFunctor gen x a b)) (made Pure (Abs.Ex [] (Sig.Fun Impure ks s y)) [] (ty_lam_over ks (Term.Lam (enc s) (one_field Label.Gen d))))
-    mod_apply : {g : Env} {at : Span} {x z : SpanName} {f : Effect} {ks : List Kind} {s t : Sig} {y w : Abs} {ts : List Ty} {c d e : Term}
-        → find g (name_of x) ≡ Some (Sig.Fun f ks s y, d)
+        → GenerativeGives (kinds g) ks s (made f y ts e) M
+        → ModMeans g (ModAt at (ModFunctor gen x a b)) M
+    mod_apply : {g : Env} {at : Span} {x z : SpanName} {s t : Sig} {f : Effect} {param result : Abs} {ts : List Ty} {c d e : Term} {M : Module}
+        → find g (name_of x) ≡ Some (s, d)
+        → PartsGive s f param result
         → find g (name_of z) ≡ Some (t, e)
-        → Match (kinds g) t (Abs.Ex ks s) ts c
-        → NormalAbsForm (kinds g) (abs_at ts y) w
-        → ModMeans g (ModAt at (ModApply x z)) (made f w [] (Term.Get (Term.Call (insts d ts) (Term.Call c e)) (result_label f)))
+        → Match (kinds g) t param ts c
+        → ApplyGives (kinds g) s d ts c e M
+        → ModMeans g (ModAt at (ModApply x z)) M
     mod_seal : {g : Env} {at : Span} {x : SpanName} {a : SigEx} {s : Sig} {y : Abs} {ts : List Ty} {e f : Term} {M : Module}
         → find g (name_of x) ≡ Some (s, e)
         → SigMeans g a y
@@ -309,8 +305,8 @@ mutual
         → Seq (kinds g) (made f (Abs.Ex ks s) ts e) rest whole
         → BindsMean g before (MoreBinds b bs) whole
     -- the included module has a hidden name, and its fields are bound by lets
-    next_include : {g : Env} {before : List Name} {at : Span} {m : Mod} {bs : Binds} {f h : Effect} {ks : List Kind} {fs : SigRow} {ts us : List Ty} {e d : Term} {y : Abs} {whole : Module}
+    next_include : {g : Env} {before : List Name} {at : Span} {m : Mod} {bs : Binds} {f : Effect} {ks : List Kind} {fs : SigRow} {ts : List Ty} {e : Term} {rest whole : Module}
         → ModMeans g m (made f (Abs.Ex ks (Sig.Str fs)) ts e)
-        → BindsMean (named_fields (with_module g ks include_name (Sig.Str fs)) fs) (with_names fs before) bs (made h y us d)
-        → Seq (kinds g) (made f (Abs.Ex ks (Sig.Str fs)) ts e) (made h y us (field_lets 0 fs d)) whole
+        → BindsMean (named_fields (with_module g ks include_name (Sig.Str fs)) fs) (with_names fs before) bs rest
+        → IncludeModule (kinds g) (made f (Abs.Ex ks (Sig.Str fs)) ts e) rest whole
         → BindsMean g before (MoreBinds (BindAt at (BindInclude m)) bs) whole

@@ -5,6 +5,7 @@ use Rattle.signatures.specs.Matching.MatchRefusal.{MatchRefusal}
 use Rattle.fing_syntax.specs.Phrase.{Span}
 use Rattle.core_rules.specs.CoreWhy.{CoreWhy}
 use Rattle.sig_rules.specs.SigWhy.{SigWhy}
+use Rattle.module_rules.specs.ModWhy.{ModWhy}
 use Rattle.packages.specs.Package.{UnpackWhy}
 use Rattle.fing_refusals.specs.Refusal.{Refusal, Refuse, ElabWhy}
 
@@ -35,6 +36,15 @@ of_sig (SigWhy.NoPart l) = ElabWhy.NoPart l
 of_sig (SigWhy.Duplicate l) = ElabWhy.Duplicate l
 of_sig (SigWhy.KindDiffer k j) = ElabWhy.KindDiffer k j
 of_sig SigWhy.NotStructure = ElabWhy.NotStructure
+
+-- why a rule of modules is refused
+abbrev pub of_mod : ModWhy → ElabWhy
+of_mod (ModWhy.Unbound l) = ElabWhy.Unbound l
+of_mod (ModWhy.NoPart l) = ElabWhy.NoPart l
+of_mod ModWhy.NotStructure = ElabWhy.NotStructure
+of_mod ModWhy.NotFunctor = ElabWhy.NotFunctor
+of_mod ModWhy.WrongPath = ElabWhy.WrongPath
+of_mod ModWhy.Escapes = ElabWhy.Escapes
 
 -- why unpacking is refused
 abbrev pub of_unpack : UnpackWhy → ElabWhy

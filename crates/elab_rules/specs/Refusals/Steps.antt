@@ -1,45 +1,47 @@
 -- The steps of each rule in the order in which they are tried, each condition with its refusal. A condition that comes
 -- before a later premise is a step of its own; the rule's own relations come when all premises are done.
-use Rattle.std.specs.Prelude.{List, [], ◌∷◌, ◌++◌, ◌≡◌, map, Bool, true, false, Some}
+use Rattle.std.specs.Prelude.{List, [], ◌∷◌, ◌≡◌, Bool, true, false, Some}
 use Rattle.omega_kinds.specs.Kind.{Kind}
-use Rattle.omega_kinds.specs.declared.label.Label.{Label}
 use Rattle.omega_kinds.specs.declared.effect.Effect.{Effect}
 use Rattle.omega_kinds.specs.declared.effect.Effect.TheVariants.{Pure, Impure}
 use Rattle.omega_kinds.specs.Name.{Name}
 use Rattle.omega_types.specs.Ty.{Ty, Row}
-use Rattle.omega_types.specs.Binders.{extend, unders, raise, front}
 use Rattle.omega_terms.specs.Term.{Term, TermRow}
-use Rattle.omega_terms.specs.Shorthands.{insts, ty_lam_over, Packs}
-use Rattle.omega_terms.specs.Coercions.{result_label}
-use Rattle.omega_terms.specs.PartTerms.{one_field}
-use Rattle.signatures.specs.Signatures.Sig.{Sig, Abs, SigRow, HasField, Module, made}
-use Rattle.signatures.specs.Explicit.SigPath.{Item}
-use Rattle.signatures.specs.Signatures.SigSubst.{abs_at, raise_sig_row, substitute_sig}
-use Rattle.signatures.specs.Signatures.Alike.{NormalSigForm, NormalAbsForm}
-use Rattle.signatures.specs.Signatures.Encoding.{enc, enc_abs}
+use Rattle.signatures.specs.Signatures.Sig.{Sig, Abs, SigRow, Module, made}
+use Rattle.signatures.specs.Explicit.SigPath.{SigPath}
 use Rattle.signatures.specs.Env.{Env, Value, kinds, find, type_vars, with_module, named_fields}
-use Rattle.signatures.specs.Lifting.{Lift, lifted_types}
+use Rattle.signatures.specs.Lifting.{Lift}
 use Rattle.signatures.specs.QuantifierOrder.{Norm}
-use Rattle.signatures.specs.Packing.{Packed}
-use Rattle.signatures.specs.Signatures.FieldOrder.{merge, with_name, with_names}
+use Rattle.signatures.specs.Signatures.FieldOrder.{with_name, with_names}
 use Rattle.fing_syntax.specs.Phrase.{Span, SpanName, Mod, ModAt, ModName, ModStruct, ModProject, ModFunctor, ModApply, ModSeal, ModUnpack, Bind, BindAt, BindVal, BindTy, BindModule, BindSignature, BindInclude, Binds, NoBinds, MoreBinds, SigEx, SigAt, PathSig, SigDecls, SigFun, SigRefine, Decl, DeclAt, DeclVal, DeclTyIs, DeclTyOf, DeclModule, DeclSignature, DeclInclude, Decls, NoDecls, MoreDecls, TyEx, TyAt, PathTy, TyInt, TyBool, TyText, TyArrow, TyApply, TyFields, TyAll, TyLam, TyPack, TyExs, NoTys, MoreTys, FieldTyExs, NoFieldTys, MoreFieldTys, Exp, ExpAt, PathExp, ExpInt, ExpBool, ExpText, ExpLam, ExpTyLam, ExpFix, ExpIf, ExpOps, ExpApply, ExpFields, ExpGet, ExpPack, OpExps, NoOps, MoreOps, ArgExp, ArgTy, Args, NoArgs, MoreArgs, FieldExps, NoFieldExps, MoreFieldExps}
 use Rattle.fing_syntax.specs.Place.{name_of, name_span, mod_span, sig_span, ty_span, exp_span, path_span, decl_span, up_to}
-use Rattle.signatures.specs.Signatures.RecordOrder.{insert_part, insert_term, IsNew, AreNew, FirstOld}
-use Rattle.core_rules.specs.TypeRules.{ArrowGives, ArrowRefuses, AllGives, AllRefuses, OperatorGives, AppliedGives, AppliedRefuses}
-use Rattle.core_rules.specs.ExpRules.{FunctionGives, FunctionRefuses, TypeFunctionGives, CallGives, CallRefuses, InstanceGives, InstanceRefuses, GetGives, GetRefuses, IfGives, IfRefuses, OperationGives, OperationRefuses, FixGives, FixRefuses}
-use Rattle.sig_rules.specs.SigRules.{ValueGives, ValueRefuses, TypeGives, AbstractGives, ModuleGives, SignatureGives, IncludeGives, IncludeRefuses, GenerativeGives as GenerativeSigGives}
-use Rattle.module_rules.specs.ModRules.{SealGives, ValueGives as ValueModule, TypeGives as TypeModule, SignatureGives as SignatureModule}
-use Rattle.packages.specs.Package.{PackTypeGives, UnpackGives, UnpackRefuses}
-use Rattle.elab_rules.specs.Refusals.Refusal.{of_core, of_sig, of_unpack}
-use Rattle.module_rules.specs.PathUse.{Outside, SigOutside, value_of}
+use Rattle.signatures.specs.Signatures.RecordOrder.{IsNew, AreNew}
+use Rattle.core_rules.specs.TypeRules.{Base, BaseGives, FieldTy, RecordTypeGives, RecordTypeRefuses, ArrowGives, ArrowRefuses, AllGives, AllRefuses, OperatorGives, AppliedGives, AppliedRefuses}
+use Rattle.core_rules.specs.ExpRules.{Literal, LiteralGives, FieldExp, RecordGives, RecordRefuses, FunctionGives, FunctionRefuses, TypeFunctionGives, CallGives, CallRefuses, InstanceGives, InstanceRefuses, GetGives, GetRefuses, IfGives, IfRefuses, OperationGives, OperationRefuses, FixGives, FixRefuses}
+use Rattle.sig_rules.specs.SigRules.{ValueGives, ValueRefuses, TypeGives, AbstractGives, ModuleGives, SignatureGives, IncludeGives, IncludeRefuses, DistinctRefuses, DeclarationsGive, WhereRefuses, GenerativeGives as GenerativeSigGives}
+use Rattle.module_rules.specs.ModRules.{NamedGives, NamedRefuses, ProjectRefuses, TypePathRefuses, ValuePathRefuses, SigPathRefuses, GenerativeGives, PartsGive, FunctorRefuses, ApplyGives, IncludeGives as IncludeModule, IncludeRefuses as IncludeModuleRefuses, SealGives, ValueGives as ValueModule, TypeGives as TypeModule, SignatureGives as SignatureModule}
+use Rattle.applicative_functors.specs.PureFunctor.{PureFunctorGives}
+use Rattle.packages.specs.Package.{PackTypeGives, PackGives, UnpackGives, UnpackRefuses}
+use Rattle.elab_rules.specs.Refusals.Refusal.{of_core, of_sig, of_mod, of_unpack}
+use Rattle.module_rules.specs.PathUse.{TypeOfPath, ValueOfPath, SigOfPath}
 use Rattle.module_rules.specs.Projection.{Projected}
-use Rattle.module_rules.specs.Sequence.{Seq, field_lets, Collected}
-use Rattle.sig_rules.specs.Refinement.{Leads, LeavesAt, own_part}
+use Rattle.module_rules.specs.Sequence.{Seq, Collected}
+use Rattle.sig_rules.specs.SigWhy.{SigWhy}
+use Rattle.sig_rules.specs.Refinement.{Refined, LeavesAt}
 use Rattle.elab_rules.specs.Operators.{omega_op, names_of, include_name, with_type}
-use Rattle.fing_refusals.specs.Refusal.{Refusal, WrongPath, Escapes, NotOperator, KindDiffer, Differ, DuplicateField, NotArrow, NotAll, NotRecord, Unbound, NotStructure, NotFunctor, NoPart, NotAbstract, Duplicate}
+use Rattle.fing_refusals.specs.Refusal.{NotOperator, KindDiffer, Differ, DuplicateField, NotArrow, NotAll, NotRecord, NotStructure}
 use Rattle.elab_rules.specs.Refusals.Refusal.{refuse}
 use Rattle.elab_rules.specs.Refusals.Task.{Task, Result, a_type, type_args, type_fields, an_exp, operands, args, fields, a_sig, a_decl, decls, a_mod, a_bind, binds}
 use Rattle.elab_rules.specs.Refusals.Rule.{Rule, some, test, the, stop, by_rule, matched}
+
+-- where the refusal of a fixed type stands: at the name that leads nowhere, at the path to a part that is no hidden type,
+-- at the type of another kind
+pub data WhereAt (s : Sig) (z : SpanName) (path : List SpanName) (b : TyEx) : SigWhy → Span → Type 0 where
+  at_name : {x : SpanName}
+      → LeavesAt name_of s (z ∷ path) x
+      → WhereAt s z path b (SigWhy.NoPart (name_of x)) (name_span x)
+  at_path : {p : SigPath} → WhereAt s z path b (SigWhy.NotAbstract p) (path_span z path)
+  at_type : {k j : Kind} → WhereAt s z path b (SigWhy.KindDiffer k j) (ty_span b)
 
 -- the kind is that of types of values
 abbrev pub star : {A : Type 0} → Env → TyEx → Kind → (Unit {0} → Rule A) → Rule A
@@ -47,25 +49,24 @@ star g a k go = test (k ≡ Kind.Star) (refuse g (ty_span a) (KindDiffer k Kind.
 
 -- the name is bound
 abbrev pub found : {A : Type 0} → Env → SpanName → (Sig × Term → Rule A) → Rule A
-found g x go = some (λ o. find g (name_of x) ≡ Some o) (refuse g (name_span x) (Unbound (name_of x))) go
-
--- the fields of a structure
-abbrev pub structure_of : {A : Type 0} → Refusal → Sig → (SigRow → Rule A) → Rule A
-structure_of r s go = some (λ fs. s ≡ Sig.Str fs) r go
+found g x go = by_rule of_mod g (name_span x) (λ o. find g (name_of x) ≡ Some o) (NamedRefuses g (name_of x)) go
 
 -- types
 
-abbrev pub type_path : Env → Span → Module → Rule (Ty × Kind)
-type_path g at (made f (Abs.Ex ks s) ts e) =
-    some (λ (p : Ty × Kind). s ≡ Sig.Typ p.0 p.1) (refuse g at WrongPath) λ p.
-    some (λ t. Outside (kinds g) ks p.0 p.1 t) (refuse g at Escapes) λ t.
-    Rule.gives (t, p.1)
-
 abbrev pub type_steps : Env → TyEx → Rule (Ty × Kind)
-type_steps g (TyAt at (PathTy m)) = Rule.need g (a_mod m) λ M. type_path g at M
-type_steps g (TyAt at TyInt) = Rule.gives (Ty.Int, Kind.Star)
-type_steps g (TyAt at TyBool) = Rule.gives (Ty.Bool, Kind.Star)
-type_steps g (TyAt at TyText) = Rule.gives (Ty.Text, Kind.Star)
+type_steps g (TyAt at (PathTy m)) =
+    Rule.need g (a_mod m) λ M.
+    by_rule of_mod g at (λ (o : Ty × Kind). TypeOfPath (kinds g) M o.0 o.1) (TypePathRefuses (kinds g) M) λ o.
+    Rule.gives o
+type_steps g (TyAt at TyInt) =
+    the (λ (o : Ty × Kind). BaseGives Base.Int o.0 o.1) λ o.
+    Rule.gives o
+type_steps g (TyAt at TyBool) =
+    the (λ (o : Ty × Kind). BaseGives Base.Bool o.0 o.1) λ o.
+    Rule.gives o
+type_steps g (TyAt at TyText) =
+    the (λ (o : Ty × Kind). BaseGives Base.Text o.0 o.1) λ o.
+    Rule.gives o
 type_steps g (TyAt at (TyArrow a b)) =
     Rule.need g (a_type a) λ t.
     star g a t.1 λ h.
@@ -77,7 +78,8 @@ type_steps g (TyAt at (TyApply a rest)) =
     Rule.need g (type_args (ty_span a) t.0 t.1 rest) λ u.
     Rule.gives u
 type_steps g (TyAt at (TyFields rest)) =
-    Rule.need g (type_fields [] rest) λ row.
+    Rule.need g (type_fields [] rest) λ parts.
+    by_rule of_core g at (RecordTypeGives [] parts) (RecordTypeRefuses [] parts) λ row.
     Rule.gives (Ty.Fields row, Kind.Star)
 type_steps g (TyAt at (TyAll x k b)) =
     Rule.need (with_type g k (name_of x)) (a_type b) λ t.
@@ -101,28 +103,31 @@ type_args_steps g at t k (MoreTys a rest) =
     Rule.need g (type_args (up_to at (ty_span a)) v.0 v.1 rest) λ w.
     Rule.gives w
 
-abbrev pub type_fields_steps : Env → List Name → FieldTyExs → Rule Row
-type_fields_steps g before NoFieldTys = Rule.gives Row.End
+abbrev pub type_fields_steps : Env → List Name → FieldTyExs → Rule (List FieldTy)
+type_fields_steps g before NoFieldTys = Rule.gives []
 type_fields_steps g before (MoreFieldTys x a rest) =
     test (IsNew (name_of x) before) (refuse g (name_span x) (DuplicateField (name_of x))) λ n.
     Rule.need g (a_type a) λ t.
     star g a t.1 λ h.
-    Rule.need g (type_fields (name_of x ∷ before) rest) λ row.
-    Rule.gives (insert_part (Label.Name (name_of x)) t.0 row)
+    Rule.need g (type_fields (name_of x ∷ before) rest) λ parts.
+    Rule.gives (FieldTy.field (name_of x) t.0 t.1 ∷ parts)
 
 -- expressions
 
-abbrev pub value_path : Env → Span → Module → Rule (Ty × Term)
-value_path g at (made f (Abs.Ex ks s) ts e) =
-    some (λ t. s ≡ Sig.Val t) (refuse g at WrongPath) λ t.
-    some (λ n. Outside (kinds g) ks t Kind.Star n) (refuse g at Escapes) λ n.
-    Rule.gives (n, value_of f ks e (enc_abs (Abs.Ex ks s)))
-
 abbrev pub exp_steps : Env → Exp → Rule (Ty × Term)
-exp_steps g (ExpAt at (PathExp m)) = Rule.need g (a_mod m) λ M. value_path g at M
-exp_steps g (ExpAt at (ExpInt z)) = Rule.gives (Ty.Int, Term.Int z)
-exp_steps g (ExpAt at (ExpBool b)) = Rule.gives (Ty.Bool, Term.Bool b)
-exp_steps g (ExpAt at (ExpText w)) = Rule.gives (Ty.Text, Term.Text w)
+exp_steps g (ExpAt at (PathExp m)) =
+    Rule.need g (a_mod m) λ M.
+    by_rule of_mod g at (λ (o : Ty × Term). ValueOfPath (kinds g) M o.0 o.1) (ValuePathRefuses (kinds g) M) λ o.
+    Rule.gives o
+exp_steps g (ExpAt at (ExpInt z)) =
+    the (λ (o : Ty × Term). LiteralGives (Literal.Int z) o.0 o.1) λ o.
+    Rule.gives o
+exp_steps g (ExpAt at (ExpBool b)) =
+    the (λ (o : Ty × Term). LiteralGives (Literal.Bool b) o.0 o.1) λ o.
+    Rule.gives o
+exp_steps g (ExpAt at (ExpText w)) =
+    the (λ (o : Ty × Term). LiteralGives (Literal.Text w) o.0 o.1) λ o.
+    Rule.gives o
 exp_steps g (ExpAt at (ExpLam x a b)) =
     Rule.need g (a_type a) λ t.
     star g a t.1 λ h.
@@ -157,7 +162,8 @@ exp_steps g (ExpAt at (ExpApply a rest)) =
     Rule.need g (args (exp_span a) t.0 t.1 rest) λ u.
     Rule.gives u
 exp_steps g (ExpAt at (ExpFields rest)) =
-    Rule.need g (fields [] rest) λ o.
+    Rule.need g (fields [] rest) λ parts.
+    by_rule of_core g at (λ (o : Row × TermRow). RecordGives [] parts o.0 o.1) (RecordRefuses [] parts) λ o.
     Rule.gives (Ty.Fields o.0, Term.Fields o.1)
 exp_steps g (ExpAt at (ExpGet a x)) =
     Rule.need g (an_exp a) λ t.
@@ -169,8 +175,8 @@ exp_steps g (ExpAt at (ExpPack x a)) =
     Rule.need g (a_sig a) λ y.
     the (Norm (kinds g) y) λ z.
     matched g (sig_span a) o.0 z λ m.
-    the (λ d. Packs (kinds g) m.0 (Term.Call m.1 o.1) (enc_abs z) d) λ d.
-    Rule.gives (enc_abs z, d)
+    the (λ (p : Ty × Term). PackGives (kinds g) o.1 z m.0 m.1 p.0 p.1) λ p.
+    Rule.gives p
 
 abbrev pub operands_steps : Env → Span → Ty → Term → OpExps → Rule (Ty × Term)
 operands_steps g at t e NoOps = Rule.gives (t, e)
@@ -196,21 +202,15 @@ args_steps g at t e (MoreArgs (ArgTy a place) rest) =
     Rule.need g (args (up_to at place) o.0 o.1 rest) λ w.
     Rule.gives w
 
-abbrev pub fields_steps : Env → List Name → FieldExps → Rule (Row × TermRow)
-fields_steps g before NoFieldExps = Rule.gives (Row.End, TermRow.End)
+abbrev pub fields_steps : Env → List Name → FieldExps → Rule (List FieldExp)
+fields_steps g before NoFieldExps = Rule.gives []
 fields_steps g before (MoreFieldExps x a rest) =
     test (IsNew (name_of x) before) (refuse g (name_span x) (DuplicateField (name_of x))) λ n.
     Rule.need g (an_exp a) λ t.
-    Rule.need g (fields (name_of x ∷ before) rest) λ o.
-    Rule.gives (insert_part (Label.Name (name_of x)) t.0 o.0, insert_term (Label.Name (name_of x)) t.1 o.1)
+    Rule.need g (fields (name_of x ∷ before) rest) λ parts.
+    Rule.gives (FieldExp.field (name_of x) t.0 t.1 ∷ parts)
 
 -- signatures and declarations
-
-abbrev pub sig_path : Env → Span → Module → Rule Abs
-sig_path g at (made f (Abs.Ex ks s) ts e) =
-    some (λ x. s ≡ Sig.Meta x) (refuse g at WrongPath) λ x.
-    some (λ y. SigOutside (kinds g) ks x y) (refuse g at Escapes) λ y.
-    Rule.gives y
 
 abbrev pub functor_sig : Env → Bool → SpanName → SigEx → Abs → Rule Abs
 functor_sig g false x b (Abs.Ex ks s) =
@@ -224,14 +224,15 @@ functor_sig g true x b (Abs.Ex ks s) =
 
 abbrev pub refined : Env → SpanName → List SpanName → TyEx → Abs → Ty × Kind → Rule Abs
 refined g z path b (Abs.Ex ks s) u =
-    Rule.ask (λ q. Leads s (names_of (z ∷ path)) q) (λ r. (x : SpanName) × LeavesAt name_of s (z ∷ path) x × (r ≡ refuse g (name_span x) (NoPart (name_of x)))) λ q.
-    some (λ (o : List Kind × Kind × List Kind). (ks ≡ o.0 ++ (o.1 ∷ o.2)) × (q ≡ own_part o.1 o.2)) (refuse g (path_span z path) (NotAbstract (map Item.Part (names_of (z ∷ path))))) λ o.
-    test (u.1 ≡ o.1) (refuse g (ty_span b) (KindDiffer u.1 o.1)) λ h.
-    the (λ n. NormalSigForm (extend (kinds g) (o.0 ++ o.2)) (substitute_sig (unders o.2 (front (raise o.0 u.0) Ty.Var)) s) n) λ n.
-    Rule.gives (Abs.Ex (o.0 ++ o.2) n)
+    Rule.ask (Refined (kinds g) (Abs.Ex ks s) (names_of (z ∷ path)) u.0 u.1)
+    (λ q. (why : SigWhy) × WhereRefuses (Abs.Ex ks s) (names_of (z ∷ path)) u.0 u.1 why × ((at : Span) × WhereAt s z path b why at × (q ≡ refuse g at (of_sig why)))) λ y.
+    Rule.gives y
 
 abbrev pub sig_steps : Env → SigEx → Rule Abs
-sig_steps g (SigAt at (PathSig m)) = Rule.need g (a_mod m) λ M. sig_path g at M
+sig_steps g (SigAt at (PathSig m)) =
+    Rule.need g (a_mod m) λ M.
+    by_rule of_mod g at (SigOfPath (kinds g) M) (SigPathRefuses (kinds g) M) λ x.
+    Rule.gives x
 sig_steps g (SigAt at (SigDecls ds)) =
     Rule.need g (decls [] ds) λ x.
     Rule.gives x
@@ -266,17 +267,13 @@ decl_steps g (DeclAt at (DeclInclude a)) =
     by_rule of_sig g (sig_span a) (IncludeGives y) (IncludeRefuses y) λ z.
     Rule.gives z
 
-abbrev pub decls_after : List Kind → SigRow → Abs → Rule Abs
-decls_after ks fs (Abs.Ex js t) =
-    the (λ gs. t ≡ Sig.Str gs) λ gs.
-    Rule.gives (Abs.Ex (ks ++ js) (Sig.Str (merge (raise_sig_row js fs) gs)))
-
 abbrev pub decls_from : Env → List Name → Decl → Decls → Abs → Rule Abs
 decls_from g before d ds (Abs.Ex ks s) =
     the (λ fs. s ≡ Sig.Str fs) λ fs.
-    Rule.ask {B = Unit {0}} (λ u. AreNew fs before) (λ r. (l : Name) × FirstOld fs before l × (r ≡ refuse g (decl_span d) (Duplicate l))) λ u.
+    by_rule of_sig g (decl_span d) (λ (u : Unit {0}). AreNew fs before) (DistinctRefuses before fs) λ u.
     Rule.need (named_fields (type_vars g ks) fs) (decls (with_names fs before) ds) λ y.
-    decls_after ks fs y
+    the (DeclarationsGive (Abs.Ex ks (Sig.Str fs)) y) λ z.
+    Rule.gives z
 
 abbrev pub decls_steps : Env → List Name → Decls → Rule Abs
 decls_steps g before NoDecls = Rule.gives (Abs.Ex [] (Sig.Str SigRow.End))
@@ -284,22 +281,15 @@ decls_steps g before (MoreDecls d ds) = Rule.need g (a_decl d) λ x. decls_from 
 
 -- modules and bindings
 
-abbrev pub projected : Env → SpanName → Module → Rule Module
-projected g x (made f (Abs.Ex ks s) ts e) =
-    structure_of (refuse g (name_span x) NotStructure) s λ fs.
-    some (λ t. HasField fs (name_of x) t) (refuse g (name_span x) (NoPart (name_of x))) λ t.
-    the (Projected (kinds g) (made f (Abs.Ex ks (Sig.Str fs)) ts e) (name_of x)) λ N.
-    Rule.gives N
-
 abbrev pub generative : Env → List Kind → Sig → Module → Rule Module
-generative g ks s (made f y ts e) =
-    the (Packed (extend (kinds g) ks) (made f y ts e)) λ d.
-    Rule.gives (made Pure (Abs.Ex [] (Sig.Fun Impure ks s y)) [] (ty_lam_over ks (Term.Lam (enc s) (one_field Label.Gen d))))
+generative g ks s M =
+    the (GenerativeGives (kinds g) ks s M) λ N.
+    Rule.gives N
 
 abbrev pub functor_of : Env → List Kind → Sig → Bool → Module → Rule Module
 functor_of g ks s false (made Pure y ts e) =
-    the (Lift (kinds g) ks s y) λ z.
-    Rule.gives (made Pure z (lifted_types ks ts) (ty_lam_over ks (Term.Lam (enc s) (one_field Label.App e))))
+    the (PureFunctorGives (kinds g) ks s (made Pure y ts e)) λ N.
+    Rule.gives N
 functor_of g ks s false (made Impure y ts e) = generative g ks s (made Impure y ts e)
 functor_of g ks s true M = generative g ks s M
 
@@ -308,20 +298,23 @@ functor_body g gen x b (Abs.Ex ks s) = Rule.need (with_module g ks (name_of x) s
 
 abbrev pub mod_steps : Env → Mod → Rule Module
 mod_steps g (ModAt at (ModName x)) =
-    found g x λ o.
-    Rule.gives (made Pure (Abs.Ex [] o.0) [] o.1)
+    by_rule of_mod g (name_span x) (NamedGives g (name_of x)) (NamedRefuses g (name_of x)) λ M.
+    Rule.gives M
 mod_steps g (ModAt at (ModStruct bs)) =
     Rule.need g (binds [] bs) λ M.
     Rule.gives M
-mod_steps g (ModAt at (ModProject m x)) = Rule.need g (a_mod m) λ M. projected g x M
+mod_steps g (ModAt at (ModProject m x)) =
+    Rule.need g (a_mod m) λ M.
+    by_rule of_mod g (name_span x) (Projected (kinds g) M (name_of x)) (ProjectRefuses M (name_of x)) λ N.
+    Rule.gives N
 mod_steps g (ModAt at (ModFunctor gen x a b)) = Rule.need g (a_sig a) λ y. functor_body g gen x b y
 mod_steps g (ModAt at (ModApply x z)) =
     found g x λ o.
-    some (λ (p : Effect × List Kind × Sig × Abs). o.0 ≡ Sig.Fun p.0 p.1 p.2 p.3) (refuse g (name_span x) NotFunctor) λ p.
+    by_rule of_mod g (name_span x) (λ (p : Effect × Abs × Abs). PartsGive o.0 p.0 p.1 p.2) (FunctorRefuses o.0) λ p.
     found g z λ q.
-    matched g (name_span z) q.0 (Abs.Ex p.1 p.2) λ m.
-    the (NormalAbsForm (kinds g) (abs_at m.0 p.3)) λ w.
-    Rule.gives (made p.0 w [] (Term.Get (Term.Call (insts o.1 m.0) (Term.Call m.1 q.1)) (result_label p.0)))
+    matched g (name_span z) q.0 p.1 λ m.
+    the (ApplyGives (kinds g) o.0 o.1 m.0 m.1 q.1) λ M.
+    Rule.gives M
 mod_steps g (ModAt at (ModSeal x a)) =
     found g x λ o.
     Rule.need g (a_sig a) λ y.
@@ -354,9 +347,6 @@ bind_steps g (BindAt at (BindModule x m)) =
 -- an include is no single binding
 bind_steps g (BindAt at (BindInclude m)) = stop (refuse g at NotStructure)
 
-abbrev pub with_lets : SigRow → Module → Module
-with_lets fs (made f y ts e) = made f y ts (field_lets 0 fs e)
-
 abbrev pub after_bind : Env → List Name → Binds → Name → Module → Rule Module
 after_bind g before bs x (made f (Abs.Ex ks s) ts e) =
     Rule.need (with_module g ks x s) (binds (with_name x before) bs) λ M.
@@ -365,9 +355,9 @@ after_bind g before bs x (made f (Abs.Ex ks s) ts e) =
 
 abbrev pub after_include : Env → List Name → Mod → Binds → Module → Rule Module
 after_include g before m bs (made f (Abs.Ex ks s) ts e) =
-    structure_of (refuse g (mod_span m) NotStructure) s λ fs.
+    by_rule of_mod g (mod_span m) (λ fs. s ≡ Sig.Str fs) (IncludeModuleRefuses (made f (Abs.Ex ks s) ts e)) λ fs.
     Rule.need (named_fields (with_module g ks include_name (Sig.Str fs)) fs) (binds (with_names fs before) bs) λ M.
-    the (Seq (kinds g) (made f (Abs.Ex ks (Sig.Str fs)) ts e) (with_lets fs M)) λ N.
+    the (IncludeModule (kinds g) (made f (Abs.Ex ks (Sig.Str fs)) ts e) M) λ N.
     Rule.gives N
 
 abbrev pub binds_steps : Env → List Name → Binds → Rule Module

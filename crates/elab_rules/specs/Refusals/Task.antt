@@ -2,11 +2,13 @@
 use Rattle.std.specs.Prelude.{List}
 use Rattle.omega_kinds.specs.Kind.{Kind}
 use Rattle.omega_kinds.specs.Name.{Name}
-use Rattle.omega_types.specs.Ty.{Ty, Row}
-use Rattle.omega_terms.specs.Term.{Term, TermRow}
+use Rattle.omega_types.specs.Ty.{Ty}
+use Rattle.omega_terms.specs.Term.{Term}
 use Rattle.signatures.specs.Signatures.Sig.{Abs, Module}
 use Rattle.signatures.specs.Env.{Env}
 use Rattle.fing_syntax.specs.Phrase.{Span, TyEx, TyExs, FieldTyExs, Exp, OpExps, Args, FieldExps, SigEx, Decl, Decls, Mod, Bind, Binds}
+use Rattle.core_rules.specs.TypeRules.{FieldTy}
+use Rattle.core_rules.specs.ExpRules.{FieldExp}
 use Rattle.elab_rules.specs.Judgments.Meaning.{TyMeans, ArgTysMean, FieldTysMean, ExpMeans, OpsMean, ArgsMean, FieldExpsMean, SigMeans, DeclMeans, DeclsMean, ModMeans, BindMeans, BindsMean}
 
 pub data Task : Type 0 where
@@ -30,11 +32,11 @@ pub data Task : Type 0 where
 abbrev pub Result : Task → Type 0
 Result (a_type a) = Ty × Kind
 Result (type_args at t k rest) = Ty × Kind
-Result (type_fields before rest) = Row
+Result (type_fields before rest) = List FieldTy
 Result (an_exp a) = Ty × Term
 Result (operands at t e rest) = Ty × Term
 Result (args at t e rest) = Ty × Term
-Result (fields before rest) = Row × TermRow
+Result (fields before rest) = List FieldExp
 Result (a_sig a) = Abs
 Result (a_decl d) = Abs
 Result (decls before ds) = Abs
@@ -50,7 +52,7 @@ Means g (type_fields before rest) o = FieldTysMean g before rest o
 Means g (an_exp a) o = ExpMeans g a o.0 o.1
 Means g (operands at t e rest) o = OpsMean g t e rest o.0 o.1
 Means g (args at t e rest) o = ArgsMean g t e rest o.0 o.1
-Means g (fields before rest) o = FieldExpsMean g before rest o.0 o.1
+Means g (fields before rest) o = FieldExpsMean g before rest o
 Means g (a_sig a) o = SigMeans g a o
 Means g (a_decl d) o = DeclMeans g d o
 Means g (decls before ds) o = DeclsMean g before ds o

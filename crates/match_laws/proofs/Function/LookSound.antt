@@ -24,7 +24,7 @@ use Rattle.omega_types.proofs.BinderPuts.NormalTypes.{none, next}
 use Rattle.sig_laws.proofs.Algebra.Instances.{at-substitutes, under-at-substitutes}
 use Rattle.sig_laws.proofs.Algebra.SizeLaws.{size-substitute, size_abs-rename, size-alike, field-size}
 use Rattle.sig_laws.proofs.Formed.WellFormedLaws.{well_formed-kinds, explicit-body}
-use Rattle.signatures.specs.Matching.LookUp.{Found, FoundAt, found_at, FoundAfter}
+use Rattle.signatures.specs.Matching.LookUp.{Found, PutFirst, FoundAt, found_at, FoundAfter}
 use Rattle.signatures.specs.Matching.MatchRefusal.{MatchRefusal, RefusesMatch}
 use Rattle.omega_kinds.proofs.NameLaws.{dec_name}
 use Rattle.match_laws.specs.MatchFunction.{MatchOutcome, Lookings, all_found, stopped_at, MatchFn, this_or, find_field, any_type, any_types, look_end, look_field, lam_found, look_result, look, go_on, look_along, look_all}
@@ -156,14 +156,14 @@ go_on-ok : {ctx : List Kind} {s : Sig} {ks : List Kind} {r : Sig} {before : List
     → LookOk ctx s p n o
     → ((t : Ty) → FoundAt ctx s ks r before t → LookingsOk ctx s ks r (before ++ (t ∷ [])) (f t))
     → LookingsOk ctx s ks r before (go_on (length before) p o f)
-go_on-ok rest f w v lt root h nf (look_found {t = t} d) k = let g = found_at rest root h nf d in lookings-more g (k t g)
+go_on-ok rest f w v lt root h nf (look_found {t = t} d) k = let g = found_at root (PutFirst.put rest h nf) d in lookings-more g (k t g)
 go_on-ok {ctx} {s} {ks} {r} {before} {p} {n} rest f w v lt root h nf (look_none never) k = stop_ok (append-nothing before) FoundAfter.none refl lt root stop
   where
     root-of : {p : SigPath} → LeastRoot ctx ks r (length before) p → RootPath ctx ks r (length before) p
     root-of (least x y) = x
 
     stop : (t : Ty) → FoundAt ctx s ks r before t → ⊥
-    stop t (found_at {p = q} {n = m} others k2 g nq d) =
+    stop t (found_at {p = q} {n = m} k2 (PutFirst.put others g nq) d) =
         let z = root-agreed before others rest refl refl g h lt (root-of root) nq nf in
         never t (found-agree z.5.2 (subst (λ x. Found ctx s x m t) (least-unique lt k2 root) d))
 

@@ -19,7 +19,7 @@ use Rattle.sig_laws.proofs.Algebra.EtaLaws.{operator_kind}
 use Rattle.omega_types.proofs.BinderPuts.{NormalTypes, lam_over-normal, types-kinds, unders-substitutes}
 use Rattle.omega_types.proofs.BinderPuts.NormalTypes.{none, next}
 use Rattle.sig_laws.proofs.Algebra.Instances.{kinds-length, at-substitutes}
-use Rattle.signatures.specs.Matching.LookUp.{Found, FoundAt, found_at, FoundAfter, Looked}
+use Rattle.signatures.specs.Matching.LookUp.{Found, PutFirst, FoundAt, found_at, FoundAfter, Looked}
 use Rattle.match_laws.proofs.OneMatch.Views.{field-unique}
 use Rattle.sig_laws.proofs.Formed.Conditions.{match-kinds}
 use Rattle.match_laws.proofs.OneMatch.Unique.{append-one}
@@ -62,7 +62,7 @@ kinds-split (b ∷ before) rest [] k more h e = absurd (omega (arith, e))
 kinds-split (b ∷ before) rest (j ∷ first) k more (OfKinds.next h hs) e = kinds-split before rest first k more hs (omega (arith, e))
 
 pub found_at-normal : {ctx ks : List Kind} {s r : Sig} {t : Ty} (before : List Ty) (first : List Kind) (k : Kind) (more : List Kind) → GoodLeft ctx s → GoodAbs ctx (Abs.Ex ks r) → ks ≡ first ++ (k ∷ more) → length before ≡ length first → FoundAt ctx s ks r before t → Normal ctx t k
-found_at-normal {ctx} {ks} {s} {r} {t} before first k more w v e l (found_at {p = p} {n = n} rest root h nr f) =
+found_at-normal {ctx} {ks} {s} {r} {t} before first k more w v e l (found_at {p = p} {n = n} root (PutFirst.put rest h nr) f) =
     let q = kinds-split before rest first k more (subst (OfKinds ctx (before ++ rest)) e h) l in
     let z = root-agreed before rest rest refl refl h h lt (root-of root) nr nr in
     let d = found-normal f (agree-part z.5.2) w (good-at v h nr) in

@@ -18,7 +18,7 @@ use Rattle.signatures.specs.Matching.Subtyping.{Sub, SubResult, Match}
 use Rattle.sig_laws.proofs.Algebra.BinderLaws.{lam_over-append}
 use Rattle.sig_laws.proofs.Algebra.AlikeLaws.{form_sig-unique}
 use Rattle.omega_types.proofs.BinderPuts.{NormalTypes, types-kinds}
-use Rattle.signatures.specs.Matching.LookUp.{Found, FoundAt, found_at, FoundAfter, Looked}
+use Rattle.signatures.specs.Matching.LookUp.{Found, PutFirst, FoundAt, found_at, FoundAfter, Looked}
 use Rattle.match_laws.specs.RootSearch.{least_root}
 use Rattle.match_laws.proofs.OneMatch.Views.{match-view, fields-at, field-unique}
 use Rattle.match_laws.proofs.OneMatch.Agree.{carry, Agree, Agreed, agreed, same_params, type_shown}
@@ -90,7 +90,7 @@ agree-part (Agree.field h g a) = PartAt.field h (agree-part a)
 agree-part (Agree.result a) = PartAt.result (agree-part a)
 
 pub found_at-unique : {ctx ks : List Kind} {s r : Sig} {t u : Ty} (before : List Ty) → GoodLeft ctx s → GoodAbs ctx (Abs.Ex ks r) → length before < length ks → FoundAt ctx s ks r before t → FoundAt ctx s ks r before u → t ≡ u
-found_at-unique {ctx} {ks} {s} {r} {t} {u} before w v lt (found_at {p = p} {n = n} rest l h nr f) (found_at {p = q} {n = m} others k g nq d) =
+found_at-unique {ctx} {ks} {s} {r} {t} {u} before w v lt (found_at {p = p} {n = n} l (PutFirst.put rest h nr) f) (found_at {p = q} {n = m} k (PutFirst.put others g nq) d) =
     let z = root-agreed before rest others refl refl h g lt (root-of l) nr nq in
     found-unique (found-agree z.5.2 f) w (good-at v g nq) u (subst (λ x. Found ctx s x m u) (sym (least-unique lt l k)) d)
   where
@@ -111,7 +111,7 @@ looked-after {ctx} {ks} {s} {t} {r} {ts} before (a ∷ more) v e n nr d =
     at_path {p} (least x y) =
         let z = root-agreed before (a ∷ more) (a ∷ more) e e (types-kinds n) (types-kinds n) lt x nr nr in
         let g = type_shown z.0 before more e n z.3 z.5.3 in
-        found_at (a ∷ more) (least x y) (subst (λ x. OfKinds ctx x ks) e (types-kinds n)) (subst (λ x. NormalSigForm ctx (sig_at x t) r) e nr)
+        found_at (least x y) (PutFirst.put (a ∷ more) (subst (λ x. OfKinds ctx x ks) e (types-kinds n)) (subst (λ x. NormalSigForm ctx (sig_at x t) r) e nr))
         (subst (Found ctx s p r) g (sub-found (agree-part z.5.2) d))
 
     go : (p : SigPath) × (least_root ctx ks t (length before) ≡ Some p) × LeastRoot ctx ks t (length before) p → FoundAt ctx s ks t before a

@@ -1,5 +1,5 @@
 use Rattle.module_rules.proofs.module_rules.Goals as goal
-use Rattle.module_rules.proofs.Verdicts.{one_named, one_projected, one_type_path, one_value_path, one_sig_path, one_generative, one_seal, one_value_module, one_type_module, one_signature_module}
+use Rattle.module_rules.proofs.Verdicts.{one_named, one_projected, one_type_path, one_value_path, one_sig_path, one_generative, one_parts, one_apply, one_include, one_seal, one_value_module, one_type_module, one_signature_module}
 use Rattle.module_rules.proofs.Determined.{collected-one, seq-one}
 
 pub returns-clause-named : goal.returns-clause-named
@@ -19,6 +19,15 @@ returns-clause-sig_path c = one_sig_path
 
 pub returns-clause-generative : goal.returns-clause-generative
 returns-clause-generative c = one_generative
+
+pub returns-clause-parts : goal.returns-clause-parts
+returns-clause-parts c = one_parts
+
+pub returns-clause-apply : goal.returns-clause-apply
+returns-clause-apply c = one_apply
+
+pub returns-clause-include : goal.returns-clause-include
+returns-clause-include c = one_include
 
 pub returns-clause-end : goal.returns-clause-end
 returns-clause-end c = collected-one

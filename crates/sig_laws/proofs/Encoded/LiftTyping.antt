@@ -1,7 +1,7 @@
 -- A lifted signature at the lifted types: the functor signature of the parameter and of the result at the types.
-use Rattle.std.specs.Prelude.{ℕ, zero, suc, ◌<◌, List, [], ◌∷◌, length, ◌≡◌}
+use Rattle.std.specs.Prelude.{ℕ, zero, suc, ◌<◌, List, [], ◌∷◌, length, map, ◌≡◌, ◌⊎◌}
 use Rattle.std.proofs.Math.Path.{refl, sym, ◌∙◌, ap, ap₂, fun_ext, subst}
-use Rattle.std.proofs.Common.{arith}
+use Rattle.std.proofs.Common.{arith, inl, inr}
 use Rattle.omega_kinds.specs.Kind.{Kind}
 use Rattle.omega_kinds.specs.declared.label.Label.{Label}
 use Rattle.omega_kinds.specs.declared.effect.Effect.TheVariants.{Pure}
@@ -13,7 +13,7 @@ use Rattle.omega_types.specs.Conversion.{Conv}
 use Rattle.omega_types.specs.Conversion.Conv.{c_refl}
 use Rattle.omega_types.specs.Normality.{Normal}
 use Rattle.omega_types.specs.Normaliser.{normal}
-use Rattle.omega_types.specs.Binders.{extend, past, lifts, unders, all_over, lam_over, applied, puts}
+use Rattle.omega_types.specs.Binders.{extend, past, lifts, unders, all_over, lam_over, applied, front, puts}
 use Rattle.omega_types.proofs.Algebra.{substitute-rename, substitute-substitute, substitute-id}
 use Rattle.omega_types.proofs.Preservation.{Convertible, normal-kind, conv-kinds, substitute-convertible}
 use Rattle.omega_types.proofs.LawProofs.{normal_of_normal}
@@ -24,7 +24,9 @@ use Rattle.signatures.specs.Signatures.Sig.{Sig, Abs}
 use Rattle.signatures.specs.Signatures.SigSubst.{rename_sig, substitute_sig}
 use Rattle.signatures.specs.Signatures.Alike.{AlikeAbs}
 use Rattle.signatures.specs.Signatures.Encoding.{one_part, enc}
-use Rattle.signatures.specs.Lifting.{by_binders, lifting, lifted_kinds, lifted_types, Lift}
+use Rattle.signatures.specs.Lifting.{own_vars, lifting, lifted_kinds, lifted_types, Lift}
+use Rattle.sig_laws.proofs.Algebra.BinderLaws.{past-length}
+use Rattle.sig_laws.proofs.Algebra.Own.{split_index}
 use Rattle.sig_laws.proofs.Encoded.EncodingTyping.{Shape, shape-rename, shape-substitute, shape-alike, shape_abs-alike, enc-form, Good, GoodAbs, good-normal}
 use Rattle.omega_types.proofs.Inverse.{same-normal}
 use Rattle.sig_laws.proofs.Encoded.EncodingLaws.{enc-rename, enc-substitute}
@@ -34,14 +36,28 @@ pub past-suc : (bs : List Kind) (i : ℕ) → past bs (suc i) ≡ suc (past bs i
 past-suc [] i = refl
 past-suc (b ∷ bs) i = past-suc bs (suc i)
 
-pub by-outer : (bs : List Kind) (f g : ℕ → Ty) (i : ℕ) → by_binders bs f g (past bs i) ≡ g i
-by-outer [] f g i = refl
-by-outer (b ∷ bs) f g i = ap (by_binders (b ∷ bs) f g) (past-suc bs i) ∙ by-outer bs (λ j. f (suc j)) g i
+own-fit : (f : Ty → Ty) (bs : List Kind) → Fits (map f (own_vars bs)) bs
+own-fit f [] = Fits.none
+own-fit f (b ∷ bs) = Fits.next (own-fit f bs)
 
-pub by-own : (bs : List Kind) (f g : ℕ → Ty) (i : ℕ) → i < length bs → by_binders bs f g i ≡ f i
-by-own [] f g i h = absurd (omega (arith, h))
-by-own (b ∷ bs) f g zero h = refl
-by-own (b ∷ bs) f g (suc i) h = by-own bs (λ j. f (suc j)) g i (omega (arith, h))
+own-put : (f : Ty → Ty) (bs : List Kind) (s : ℕ → Ty) (i : ℕ) → i < length bs → puts (map f (own_vars bs)) s i ≡ f (Ty.Var i)
+own-put f [] s i h = absurd (omega (arith, h))
+own-put f (b ∷ bs) s i h = go (own-put f bs (front (f (Ty.Var (past bs zero))) s) i) (split_index bs i)
+  where
+    go : (i < length bs → puts (map f (own_vars bs)) (front (f (Ty.Var (past bs zero))) s) i ≡ f (Ty.Var i)) → (i < length bs) ⊎ ((j : ℕ) × (i ≡ past bs j)) → puts (map f (own_vars bs)) (front (f (Ty.Var (past bs zero))) s) i ≡ f (Ty.Var i)
+    go inner (inl g) = inner g
+    go inner (inr (j, e)) =
+        let p = past-length bs j in
+        let q = past-length bs zero in
+        let same : i ≡ past bs zero = omega (arith, e, p, q, h) in
+        subst (λ n. puts (map f (own_vars bs)) (front (f (Ty.Var (past bs zero))) s) n ≡ f (Ty.Var n)) (sym same) (puts-past (own-fit f bs) (front (f (Ty.Var (past bs zero))) s) zero)
+
+-- the lifting on each index
+pub lifting-outer : (ks bs : List Kind) (i : ℕ) → lifting ks bs (past bs i) ≡ Ty.Var (lifts ks (past bs) i)
+lifting-outer ks bs i = puts-past (own-fit (applied ks) bs) (λ i. Ty.Var (lifts ks (past bs) i)) i
+
+pub lifting-own : (ks bs : List Kind) (i : ℕ) → i < length bs → lifting ks bs i ≡ applied ks (Ty.Var i)
+lifting-own ks bs i h = own-put (applied ks) bs (λ i. Ty.Var (lifts ks (past bs) i)) i h
 
 fits-lifted : {ts : List Ty} {bs : List Kind} (ks : List Kind) → Fits ts bs → Fits (lifted_types ks ts) bs
 fits-lifted ks Fits.none = Fits.none
@@ -69,14 +85,14 @@ lifting-given {ts} {bs} ctx ks n i k x = go x (placed bs x)
     go : {i : ℕ} → Lookup (extend (extend ctx ks) bs) i k → Placed (extend ctx ks) bs k i → Conv (extend ctx ks) (substitute (unders ks (puts (lifted_types ks ts) Ty.Var)) (lifting ks bs i)) (puts ts Ty.Var i) k
     go z (Placed.outer {i = j} y) =
         let e : substitute (unders ks (puts (lifted_types ks ts) Ty.Var)) (lifting ks bs (past bs j)) ≡ Ty.Var j =
-        ap (substitute (unders ks (puts (lifted_types ks ts) Ty.Var))) (by-outer bs (λ j. applied ks (Ty.Var j)) (λ i. Ty.Var (lifts ks (past bs) i)) j) ∙
+        ap (substitute (unders ks (puts (lifted_types ks ts) Ty.Var))) (lifting-outer ks bs j) ∙
         ap (λ f. f j) (others-stay ks (types-fit n)) in
         subst (λ u. Conv (extend ctx ks) u (puts ts Ty.Var (past bs j)) k) (sym e)
         (subst (λ u. Conv (extend ctx ks) (Ty.Var j) u k) (sym (puts-past (types-fit n) Ty.Var j)) (c_refl (k_var y)))
     go z (Placed.own {i = j} h) =
         let l = fits-length (types-fit n) in
         let e : substitute (unders ks (puts (lifted_types ks ts) Ty.Var)) (lifting ks bs j) ≡ applied ks (lam_over ks (puts ts Ty.Var j)) =
-        ap (substitute (unders ks (puts (lifted_types ks ts) Ty.Var))) (by-own bs (λ j. applied ks (Ty.Var j)) (λ i. Ty.Var (lifts ks (past bs) i)) j h) ∙
+        ap (substitute (unders ks (puts (lifted_types ks ts) Ty.Var))) (lifting-own ks bs j h) ∙
         (substitute-applied (puts (lifted_types ks ts) Ty.Var) ks (Ty.Var j) ∙
         ap (applied ks) (puts-map (lam_over ks) Ty.Var Ty.Var zero ts (λ m g. absurd (omega (arith, g))) j (omega (arith, h, l)))) in
         subst (λ u. Conv (extend ctx ks) u (puts ts Ty.Var j) k) (sym e) (applied-lam_over ctx ks (types-substitute n j k z))

@@ -11,7 +11,10 @@ use Rattle.signatures.specs.Explicit.SigPath.{SigPath, PathBefore, PartAt, Param
 
 -- Rooted ctx s i p: the part at p is the type variable i, applied to exactly the variables of the functors on p
 pub data Rooted (ctx : List Kind) (s : Sig) (i : ℕ) (p : SigPath) : Type 0 where
-  at : {bs : List Kind} {t : Ty} {k : Kind} → PartAt s p bs (Sig.Typ t k) → Conv (extend ctx bs) t (applied bs (Ty.Var i)) k → Rooted ctx s i p
+  at : {bs : List Kind} {t : Ty} {k : Kind}
+      → PartAt s p bs (Sig.Typ t k)
+      → Conv (extend ctx bs) t (applied bs (Ty.Var i)) k
+      → Rooted ctx s i p
 
 -- no functor parameter on the path mentions the type variable i
 abbrev pub ParamsAvoid : List Kind → Sig → SigPath → ℕ → Type 0
@@ -20,8 +23,13 @@ ParamsAvoid ctx s p i = (ds ks : List Kind) (t : Sig) → ParamOn s p ds ks t �
 -- RootPath ctx ks s number p: the signature that hides ks in s hides a variable of this number; it is rooted at p, and the
 -- functor parameters on p mention, of the hidden variables, only those before it
 pub data RootPath (ctx ks : List Kind) (s : Sig) (number : ℕ) (p : SigPath) : Type 0 where
-  root_path : number < length ks → Rooted (extend ctx ks) s (own ks number) p → ((j : ℕ) → number ≤ j → j < length ks → ParamsAvoid (extend ctx ks) s p (own ks j)) → RootPath ctx ks s number p
+  root_path : number < length ks
+      → Rooted (extend ctx ks) s (own ks number) p
+      → ((j : ℕ) → number ≤ j → j < length ks → ParamsAvoid (extend ctx ks) s p (own ks j))
+      → RootPath ctx ks s number p
 
 -- the least root path of a variable
 pub data LeastRoot (ctx ks : List Kind) (s : Sig) (number : ℕ) (p : SigPath) : Type 0 where
-  least : RootPath ctx ks s number p → ((q : SigPath) → RootPath ctx ks s number q → PathBefore q p → ⊥) → LeastRoot ctx ks s number p
+  least : RootPath ctx ks s number p
+      → ((q : SigPath) → RootPath ctx ks s number q → PathBefore q p → ⊥)
+      → LeastRoot ctx ks s number p

@@ -8,8 +8,8 @@ use Rattle.omega_types.specs.Ty.{Ty}
 use Rattle.omega_types.specs.Binders.{extend, lam_over, OfKinds}
 use Rattle.omega_terms.specs.Term.{Term}
 use Rattle.signatures.specs.Signatures.Sig.{Sig, Abs, SigRow, HasField}
-use Rattle.signatures.specs.Signatures.SigSubst.{raise_abs, sig_at, sig_at_under}
-use Rattle.signatures.specs.Signatures.Alike.{NormalSigForm}
+use Rattle.signatures.specs.Signatures.SigSubst.{raise_abs, sig_at_under}
+use Rattle.signatures.specs.Signatures.Alike.{NormalSigForm, IsSigAt}
 use Rattle.signatures.specs.Explicit.SigPath.{SigPath, Item}
 use Rattle.signatures.specs.Explicit.RootPath.{LeastRoot}
 use Rattle.signatures.specs.Matching.Subtyping.{Match}
@@ -30,13 +30,19 @@ pub data Found : List Kind → Sig → SigPath → Sig → Ty → Type 0 where
       → Found (extend ctx js) y p r t
       → Found ctx (Sig.Fun Pure ks a (Abs.Ex [] s)) (Item.Res ∷ p) (Sig.Fun Pure js b (Abs.Ex [] r)) (lam_over js t)
 
--- FoundAt ctx s ks r before t: t is found for the variable after those that have the types before; these types are put
--- in, and any types for that variable and those after it, since no parameter on the path mentions these
+-- n is the right side with these types put in for its first variables, and any types for the others
+pub data PutFirst (ctx ks : List Kind) (r : Sig) (ts : List Ty) (n : Sig) : Type 0 where
+  put : (others : List Ty)
+      → OfKinds ctx (ts ++ others) ks
+      → IsSigAt ctx r (ts ++ others) n
+      → PutFirst ctx ks r ts n
+
+-- FoundAt ctx s ks r before t: t is found for the variable after those that have the types before; no parameter on its
+-- least root path mentions that variable or those after it, so that any types may stand for them
 pub data FoundAt (ctx : List Kind) (s : Sig) (ks : List Kind) (r : Sig) (before : List Ty) (t : Ty) : Type 0 where
-  found_at : {p : SigPath} {n : Sig} (rest : List Ty)
+  found_at : {p : SigPath} {n : Sig}
       → LeastRoot ctx ks r (length before) p
-      → OfKinds ctx (before ++ rest) ks
-      → NormalSigForm ctx (sig_at (before ++ rest) r) n
+      → PutFirst ctx ks r before n
       → Found ctx s p n t
       → FoundAt ctx s ks r before t
 

@@ -8,8 +8,8 @@ use Rattle.omega_types.specs.Ty.{Ty}
 use Rattle.omega_types.specs.Binders.{extend}
 use Rattle.omega_terms.specs.Term.{Term}
 use Rattle.signatures.specs.Signatures.Sig.{Sig, Abs, SigRow, HasField, NoField}
-use Rattle.signatures.specs.Signatures.SigSubst.{raise_abs, sig_at, abs_at_under}
-use Rattle.signatures.specs.Signatures.Alike.{NormalSigForm, NormalAbsForm}
+use Rattle.signatures.specs.Signatures.SigSubst.{raise_abs, abs_at_under}
+use Rattle.signatures.specs.Signatures.Alike.{NormalAbsForm, IsSigAt}
 use Rattle.signatures.specs.Explicit.SigPath.{SigPath, Item}
 use Rattle.signatures.specs.Explicit.RootPath.{LeastRoot}
 use Rattle.signatures.specs.Matching.Subtyping.{Sub, SubAbs, Match}
@@ -63,7 +63,7 @@ mutual
     inside : {ctx ks : List Kind} {s r n : Sig} {ts : List Ty} {refusal : MatchRefusal}
         → Looked ctx s ks r ts
         → length ts ≡ length ks
-        → NormalSigForm ctx (sig_at ts r) n
+        → IsSigAt ctx r ts n
         → RefusesSub ctx s n refusal
         → RefusesMatch ctx s (Abs.Ex ks r) refusal
 

@@ -9,6 +9,7 @@ use Rattle.omega_types.specs.Normality.{Normal}
 use Rattle.omega_types.specs.Normalises.{NormalForm}
 use Rattle.omega_types.specs.Binders.{extend}
 use Rattle.signatures.specs.Signatures.Sig.{Sig, Abs, SigRow}
+use Rattle.signatures.specs.Signatures.SigSubst.{sig_at, abs_at}
 
 -- a relation between types of a kind in a context
 abbrev pub Between : Type 1
@@ -21,7 +22,10 @@ mutual
     typ : {ctx : List Kind} {t u : Ty} {k : Kind} → R ctx t k u → AlikeSig R ctx (Sig.Typ t k) (Sig.Typ u k)
     meta : {ctx : List Kind} {x y : Abs} → AlikeAbs R ctx x y → AlikeSig R ctx (Sig.Meta x) (Sig.Meta y)
     str : {ctx : List Kind} {fs gs : SigRow} → AlikeRow R ctx fs gs → AlikeSig R ctx (Sig.Str fs) (Sig.Str gs)
-    fun : {ctx ks : List Kind} {e : Effect} {s t : Sig} {x y : Abs} → AlikeSig R (extend ctx ks) s t → AlikeAbs R (extend ctx ks) x y → AlikeSig R ctx (Sig.Fun e ks s x) (Sig.Fun e ks t y)
+    fun : {ctx ks : List Kind} {e : Effect} {s t : Sig} {x y : Abs}
+        → AlikeSig R (extend ctx ks) s t
+        → AlikeAbs R (extend ctx ks) x y
+        → AlikeSig R ctx (Sig.Fun e ks s x) (Sig.Fun e ks t y)
 
   pub data AlikeAbs (R : Between) : List Kind → Abs → Abs → Type 0 where
     ex : {ctx ks : List Kind} {s t : Sig} → AlikeSig R (extend ctx ks) s t → AlikeAbs R ctx (Abs.Ex ks s) (Abs.Ex ks t)
@@ -46,6 +50,13 @@ NormalSigForm = AlikeSig NormalForm
 
 abbrev pub NormalAbsForm : List Kind → Abs → Abs → Type 0
 NormalAbsForm = AlikeAbs NormalForm
+
+-- n is s at the types ts: they are put in for its variables
+abbrev pub IsSigAt : List Kind → Sig → List Ty → Sig → Type 0
+IsSigAt ctx s ts n = NormalSigForm ctx (sig_at ts s) n
+
+abbrev pub IsAbsAt : List Kind → Abs → List Ty → Abs → Type 0
+IsAbsAt ctx x ts y = NormalAbsForm ctx (abs_at ts x) y
 
 -- every type inside is normal where it stands
 abbrev mutual
