@@ -14,13 +14,13 @@ use Rattle.fing_parser.proofs.Front.{Got, Stopped, sound, stopped}
 abbrev pub Ends : ℕ → List Symbol → List Token → Type 0
 Ends f ss ts = ((vs : Values ss) × (rest : List Token) × (run f ss ts ≡ got vs rest)) ⊎ ((left : List Token) × (run f ss ts ≡ stop left))
 
-lead_rule : {n : Class} (r : Rule n) → lead (rhs r) ≤ rank n
+pub lead_rule : {n : Class} (r : Rule n) → lead (rhs r) ≤ rank n
 lead_rule {n} r = leb-true _ _ (and-left (leb (lead (rhs r)) (rank n)) _ (leads_ok r))
 
-length_rule : {n : Class} (r : Rule n) → length (rhs r) ≤ 11
+pub length_rule : {n : Class} (r : Rule n) → length (rhs r) ≤ 11
 length_rule {n} r = leb-true _ _ (and-left (leb (length (rhs r)) 11) (not (all_empty (rhs r)) || can_be_empty n) (and-right (leb (lead (rhs r)) (rank n)) _ (leads_ok r)))
 
-empty_rule : {n : Class} (r : Rule n) → all_empty (rhs r) ≡ true → can_be_empty n ≡ true
+pub empty_rule : {n : Class} (r : Rule n) → all_empty (rhs r) ≡ true → can_be_empty n ≡ true
 empty_rule {n} r e = go (all_empty (rhs r)) e (and-right (leb (length (rhs r)) 11) (not (all_empty (rhs r)) || can_be_empty n) (and-right (leb (lead (rhs r)) (rank n)) _ (leads_ok r)))
   where
     go : (b : Bool) → b ≡ true → not b || can_be_empty n ≡ true → can_be_empty n ≡ true
@@ -47,14 +47,14 @@ lead_small (phrase n ∷ ss) = go (can_be_empty n) (lead_small ss)
     go true h = omega (arith, leb-true _ _ (ranks_ok n))
     go false h = omega (arith, leb-true _ _ (ranks_ok n))
 
-lead_above : (n : Class) (ss : List Symbol) → suc (rank n) ≤ lead (phrase n ∷ ss)
+pub lead_above : (n : Class) (ss : List Symbol) → suc (rank n) ≤ lead (phrase n ∷ ss)
 lead_above n ss = go (can_be_empty n)
   where
     go : (b : Bool) → suc (rank n) ≤ cond b (max (suc (rank n)) (lead ss)) (suc (rank n))
     go true = omega arith
     go false = omega arith
 
-lead_rest : (n : Class) (ss : List Symbol) → can_be_empty n ≡ true → lead ss ≤ lead (phrase n ∷ ss)
+pub lead_rest : (n : Class) (ss : List Symbol) → can_be_empty n ≡ true → lead ss ≤ lead (phrase n ∷ ss)
 lead_rest n ss e = go (can_be_empty n) e
   where
     go : (b : Bool) → b ≡ true → lead ss ≤ cond b (max (suc (rank n)) (lead ss)) (suc (rank n))
@@ -81,7 +81,7 @@ into_rule : {n : Class} (r : Rule n) (ss : List Symbol) (k : ℕ) → need (rhs 
 unfolding need
 into_rule {n} r ss k = omega (arith, lead_rule r, length_rule r, lead_above n ss)
 
-token_behind : (k : _) (ss : List Symbol) (n : ℕ) → need ss n < need (token k ∷ ss) (suc n)
+pub token_behind : (k : _) (ss : List Symbol) (n : ℕ) → need ss n < need (token k ∷ ss) (suc n)
 unfolding need
 token_behind k ss n = omega (arith, lead_small ss)
 

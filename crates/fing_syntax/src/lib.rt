@@ -1,4 +1,16 @@
-// Phrases of the module language as plain trees with their places in the source.
-// Stands on omega_kinds.
-// Nothing is proved here: the trees are cited by the rules of elaboration.
+// The phrases of the module language: trees with the place of each node, derived forms replaced already.
+// Stands on fing_text (places) and omega_kinds (names and kinds).
+// Each node is a struct with its place and what it is, and contracts see it as the plain phrase of specs/Phrase.antt.
+// Proved: that a plain phrase can be given back from its code, that each part is smaller than its phrase,
+// and that any phrase can be let go.
 #![tactic(auto)]
+
+pub mod leaf;
+pub mod program;
+pub mod tree;
+
+pub use leaf::{Op, SpanName};
+pub use program::Program;
+pub use tree::{
+    Arg, Bind, BindWhat, Decl, DeclWhat, Exp, ExpWhat, Mod, ModWhat, SigEx, SigWhat, TyEx, TyWhat,
+};
