@@ -33,7 +33,7 @@ row-each : (ctx : List Kind) (r : Row) → normal_row ctx r ≡ each (normal ctx
 row-each ctx Row.End = refl
 row-each ctx (Row.More l t r) = ap (Row.More l (normal ctx t)) (row-each ctx r)
 
-nf_is : {ctx : List Kind} {t : Ty} {k : Kind} → HasKind ctx t k → Conv ctx t (normal ctx t) k
+pub nf_is : {ctx : List Kind} {t : Ty} {k : Kind} → HasKind ctx t k → Conv ctx t (normal ctx t) k
 nf_is h = (normal-gives h).1
 
 nf_int : (ctx : List Kind) → normal ctx Ty.Int ≡ Ty.Int
@@ -57,7 +57,7 @@ nf_all h = refl
 nf_ex : {ctx : List Kind} {k : Kind} {b : Ty} → HasKind (k ∷ ctx) b Kind.Star → normal ctx (Ty.Ex k b) ≡ Ty.Ex k (normal (k ∷ ctx) b)
 nf_ex h = refl
 
-nf_shifted : {ctx : List Kind} {t : Ty} (k : Kind) → HasKind ctx t Kind.Star → normal (k ∷ ctx) (shift t) ≡ shift (normal ctx t)
+pub nf_shifted : {ctx : List Kind} {t : Ty} (k : Kind) → HasKind ctx t Kind.Star → normal (k ∷ ctx) (shift t) ≡ shift (normal ctx t)
 nf_shifted {ctx} {t} k h = normal_of_rename ctx (k ∷ ctx) suc t Kind.Star (maps-suc k ctx) h
 
 put_kind : {ctx : List Kind} {a b : Ty} {k j : Kind} → HasKind ctx a k → HasKind (k ∷ ctx) b j → HasKind ctx (put a b) j
@@ -71,19 +71,19 @@ each_part : {r : Row} {l : Label} {t : Ty} (f : Ty → Ty) → HasPart r l t →
 each_part f HasPart.here = HasPart.here
 each_part f (HasPart.there d p) = HasPart.there d (each_part f p)
 
-shift_one : (s t : Ty) → shift s ≡ shift t → s ≡ t
+pub shift_one : (s t : Ty) → shift s ≡ shift t → s ≡ t
 shift_one s t p = sym (put_shift Ty.Int s) ∙ (ap (put Ty.Int) p ∙ put_shift Ty.Int t)
 
 arrow_left : {a b c d : Ty} → Ty.Arrow a b ≡ Ty.Arrow c d → a ≡ c
 arrow_left p = cc
 
-arrow_right : {a b c d : Ty} → Ty.Arrow a b ≡ Ty.Arrow c d → b ≡ d
+pub arrow_right : {a b c d : Ty} → Ty.Arrow a b ≡ Ty.Arrow c d → b ≡ d
 arrow_right p = cc
 
-all_body : {j k : Kind} {b c : Ty} → Ty.All j b ≡ Ty.All k c → b ≡ c
+pub all_body : {j k : Kind} {b c : Ty} → Ty.All j b ≡ Ty.All k c → b ≡ c
 all_body p = cc
 
-fields_row : {r q : Row} → Ty.Fields r ≡ Ty.Fields q → r ≡ q
+pub fields_row : {r q : Row} → Ty.Fields r ≡ Ty.Fields q → r ≡ q
 fields_row p = cc
 
 first_part : {l m : Label} {t u : Ty} {r q : Row} → Row.More l t r ≡ Row.More m u q → t ≡ u
@@ -98,7 +98,7 @@ part_same f p (HasPart.there d h) = part_same f (other_parts p) h
 
 -- ---- what is synthesised is a type
 
-synth_cast : {ctx : List Kind} {vars : List Ty} {e : Term} {t u : Ty} → t ≡ u → Synth ctx vars e t → Synth ctx vars e u
+pub synth_cast : {ctx : List Kind} {vars : List Ty} {e : Term} {t u : Ty} → t ≡ u → Synth ctx vars e t → Synth ctx vars e u
 synth_cast {ctx} {vars} {e} p h = subst (λ x. Synth ctx vars e x) p h
 
 pack_type : {ctx : List Kind} {vars : List Ty} {k : Kind} {e : Term} {t u b : Ty} → HasKind ctx u Kind.Star → normal ctx u ≡ Ty.Ex k b → HasKind ctx t k → HasType ctx vars e (normal ctx (put t b)) → HasType ctx vars (Term.Pack t e u) (normal ctx u)
@@ -138,10 +138,10 @@ mutual
 
 -- ---- only the normal forms of the variables' types count
 
-abbrev SameVars : List Kind → List Ty → List Ty → Type 0
+abbrev pub SameVars : List Kind → List Ty → List Ty → Type 0
 SameVars ctx from to = (n : ℕ) (t : Ty) → At from n t → (u : Ty) × At to n u × (normal ctx t ≡ normal ctx u)
 
-same_cons : {ctx : List Kind} {from to : List Ty} {t u : Ty} → normal ctx t ≡ normal ctx u → SameVars ctx from to → SameVars ctx (t ∷ from) (u ∷ to)
+pub same_cons : {ctx : List Kind} {from to : List Ty} {t u : Ty} → normal ctx t ≡ normal ctx u → SameVars ctx from to → SameVars ctx (t ∷ from) (u ∷ to)
 same_cons {u = u} p f zero t At.here = (u, At.here, p)
 same_cons p f (suc n) t (At.there h) = let r = f n t h in (r.0, At.there r.1, r.2)
 
@@ -152,7 +152,7 @@ same_shift {ctx} from to k g i f n t h =
     (shift r.0, at-shift r.1, sym (ap (normal (k ∷ ctx)) a.is) ∙ (nf_shifted k (g n a.ty a.at) ∙ (ap shift r.2 ∙ sym (nf_shifted k (i n r.0 r.1)))))
 
 mutual
-  revar : {ctx : List Kind} {from : List Ty} {e : Term} {t : Ty} (to : List Ty) → GoodVars ctx from → GoodVars ctx to → SameVars ctx from to → Synth ctx from e t → Synth ctx to e t
+  pub revar : {ctx : List Kind} {from : List Ty} {e : Term} {t : Ty} (to : List Ty) → GoodVars ctx from → GoodVars ctx to → SameVars ctx from to → Synth ctx from e t → Synth ctx to e t
   revar to g i f (Synth.var h) = let r = f _ _ h in synth_cast (sym r.2) (Synth.var r.1)
   revar to g i f Synth.int = Synth.int
   revar to g i f Synth.bool = Synth.bool
@@ -180,10 +180,10 @@ mutual
 
 -- ---- each type's normal form is synthesised
 
-nf_nf : {ctx : List Kind} {t : Ty} → HasKind ctx t Kind.Star → normal ctx (normal ctx t) ≡ normal ctx t
+pub nf_nf : {ctx : List Kind} {t : Ty} → HasKind ctx t Kind.Star → normal ctx (normal ctx t) ≡ normal ctx t
 nf_nf h = sym (same-normal (nf_is h))
 
-nf_kind : {ctx : List Kind} {t : Ty} → HasKind ctx t Kind.Star → HasKind ctx (normal ctx t) Kind.Star
+pub nf_kind : {ctx : List Kind} {t : Ty} → HasKind ctx t Kind.Star → HasKind ctx (normal ctx t) Kind.Star
 nf_kind h = (conv-kinds (nf_is h)).1
 
 nf_put : {ctx : List Kind} {k : Kind} {a b : Ty} → HasKind ctx a k → HasKind (k ∷ ctx) b Kind.Star → normal ctx (put a b) ≡ normal ctx (put a (normal (k ∷ ctx) b))
@@ -194,7 +194,7 @@ nf_result ctx Op.Less = sym (nf_bool ctx)
 nf_result ctx Op.Equal = sym (nf_bool ctx)
 nf_result ctx _ = sym (nf_int ctx)
 
-same_refl : (ctx : List Kind) (vars : List Ty) → SameVars ctx vars vars
+pub same_refl : (ctx : List Kind) (vars : List Ty) → SameVars ctx vars vars
 same_refl ctx vars n t h = (t, h, refl)
 
 pack_synth : {ctx : List Kind} {vars : List Ty} {k : Kind} {e : Term} {t u b : Ty} → Conv ctx u (Ty.Ex k b) Kind.Star → HasKind ctx t k → Synth ctx vars e (normal ctx (put t b)) → Synth ctx vars (Term.Pack t e u) (normal ctx u)

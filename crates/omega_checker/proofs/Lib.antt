@@ -1,0 +1,5 @@
+pub mod Trees
+pub mod ForCode
+pub mod FieldLoop
+pub mod Inverted
+pub mod Exact

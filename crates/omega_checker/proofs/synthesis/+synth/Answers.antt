@@ -1,0 +1,37 @@
+use Rattle.std.proofs.Common.{Some, None, sym, ap, ap₂, ◌∙◌, reverse}
+use Rattle.omega_types.specs.Scope.{scope_of}
+use Rattle.omega_terms.specs.Fields.{term_row}
+use Rattle.omega_terms.proofs.OneIndex.{left-smaller}
+use Rattle.omega_checker.specs.Found.{synth_in, synth_row}
+use Rattle.omega_checker.proofs.FieldLoop.{found-more, found-none, found-all, labels-more, next-follows, none-is, record-type}
+use Rattle.omega_checker.proofs.synthesis.+synth.Goals as goal
+
+pub synth_fields-loop-field-preserved : goal.synth_fields-loop-field-preserved
+synth_fields-loop-field-preserved t c =
+    let i = c.loop-field.invariant in
+    let at = ap₂ (λ k v. synth_in k (reverse v) c.field-item.result.1) i.same_kinds i.same_vars in
+    let ty = c.in_ok-share-2.ensures ∙ c.plain.ensures in
+    record {
+      same_kinds = c.in_ok-ty.ensures.kinds ∙ i.same_kinds;
+      same_vars = c.in_ok-ty.ensures.vars ∙ i.same_vars;
+      found = found-more (scope_of c.args.kinds.now.items) (reverse c.args.vars.now.items) c.loop-field.field-index c.items-field-items.result.now c.loop-field.types c.push.new.self c.field-item.result c.in_ok-share.field-0 c.in_ok-share-2.field-0 _ i.found c.loop-field-test.true c.field-item.is c.in_ok-share.ensures (ap Some ty ∙ (sym c.in-Some.is ∙ (c.in_ok-ty.ensures.found ∙ at))) c.in_ok-push.ensures.ok;
+      labels = labels-more c.loop-field.field-index c.items-field-items.result.now c.loop-field.types c.push.new.self c.field-item.result c.in_ok-share.field-0 c.in_ok-share-2.field-0 i.labels c.loop-field-test.true c.field-item.is c.in_ok-share.ensures c.in_ok-push.ensures.ok;
+      size = left-smaller _ _;
+    }
+
+pub synth_fields-push-requires : goal.synth_fields-push-requires
+synth_fields-push-requires t c =
+    next-follows c.loop-field.types c.items-field-items.result.now c.loop-field.field-index c.field-item.result c.in_ok-share.field-0 c.loop-field.invariant.labels c.loop-field-test.true c.field-item.is c.in_ok-share.ensures c.items-field-items.ensures.rising
+
+pub synth_fields-returns-in_default-clause-found : goal.synth_fields-returns-in_default-clause-found
+synth_fields-returns-in_default-clause-found t c =
+    let i = c.loop-field.invariant in
+    let at = ap₂ (λ k v. synth_in k (reverse v) c.field-item.result.1) i.same_kinds i.same_vars in
+    let none = none-is c.in_ok-ty.field-0 c.in_default.not-Some ∙ (c.in_ok-ty.ensures.found ∙ at) in
+    let whole = found-none (scope_of c.args.kinds.now.items) (reverse c.args.vars.now.items) c.loop-field.field-index c.items-field-items.result.now c.loop-field.types c.field-item.result _ i.found c.loop-field-test.true c.field-item.is none in
+    record-type None _ c.items-field-items.result.now c.args.fields.now c.items-field-items.ensures.rising c.items-field-items.ensures.value (whole ∙ ap (λ f. synth_row (scope_of c.args.kinds.now.items) (reverse c.args.vars.now.items) (term_row f)) c.items-field-items.ensures.value)
+
+pub synth_fields-returns-clause-found : goal.synth_fields-returns-clause-found
+synth_fields-returns-clause-found t c =
+    let whole = found-all (scope_of c.args.kinds.now.items) (reverse c.args.vars.now.items) c.loop-field.field-index c.items-field-items.result.now c.loop-field.types _ c.loop-field.invariant.found c.loop-field-test.false in
+    ap Some c.in_ok-make.ensures ∙ record-type _ _ c.items-field-items.result.now c.args.fields.now c.items-field-items.ensures.rising c.items-field-items.ensures.value (whole ∙ ap (λ f. synth_row (scope_of c.args.kinds.now.items) (reverse c.args.vars.now.items) (term_row f)) c.items-field-items.ensures.value)

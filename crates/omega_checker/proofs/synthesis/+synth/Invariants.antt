@@ -1,0 +1,38 @@
+use Rattle.std.proofs.Common.{◌≡◌, ◌≤◌, ◌+◌, ◌*◌, drop, map, reverse, take}
+use Rattle.std.specs.Option.{option_map}
+use Rattle.omega_types.specs.Scope.{scope_of}
+use Rattle.omega_terms.specs.Fields.{term_row}
+use Rattle.omega_terms.specs.Size.{term_size, pairs_size}
+use Rattle.omega_checker.specs.Found.{synth_row}
+use Rattle.omega_checker.proofs.FieldLoop.{row_after}
+use Rattle.omega_checker.proofs.synthesis.+synth.Given as goal
+
+abbrev pub decreases-synth : goal.decreases-synth
+decreases-synth l = 2 * term_size l.term.now
+
+abbrev pub decreases-synth_function : goal.decreases-synth_function
+decreases-synth_function l = 2 * term_size l.body.now + 1
+
+abbrev pub decreases-synth_type_function : goal.decreases-synth_type_function
+decreases-synth_type_function l = 2 * term_size l.body.now + 1
+
+abbrev pub decreases-synth_opened : goal.decreases-synth_opened
+decreases-synth_opened l = 2 * term_size l.body.now + 1
+
+abbrev pub decreases-synth_fix : goal.decreases-synth_fix
+decreases-synth_fix l = 2 * term_size l.body.now + 1
+
+abbrev pub decreases-synth_fields : goal.decreases-synth_fields
+decreases-synth_fields l = 2 * pairs_size l.fields.now + 1
+
+abbrev pub invariant-synth_fields-loop-field : goal.invariant-synth_fields-loop-field
+invariant-synth_fields-loop-field l =
+    let scope = scope_of l.initial.kinds.items in
+    let vars = l.initial.vars.items in
+    record {
+      same_kinds : scope_of l.kinds.items ≡ scope;
+      same_vars : l.vars.items ≡ vars;
+      found : option_map (row_after l.types) (synth_row scope (reverse vars) (term_row (drop l.field-index l.field-items))) ≡ synth_row scope (reverse vars) (term_row l.field-items);
+      labels : map (λ x. x.0) l.types ≡ map (λ x. x.0) (take l.field-index l.field-items);
+      size : pairs_size (drop l.field-index l.field-items) ≤ pairs_size l.field-items;
+    }

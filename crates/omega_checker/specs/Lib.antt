@@ -1,0 +1,3 @@
+pub mod SameTy
+pub mod Found
+pub mod Judgment

@@ -1,0 +1,312 @@
+// The typing rule of each form, from the types of its parts.
+ghost use Rattle.std.specs.Prelude.{◌≡◌, zero, IfOk, reverse, slice_get};
+ghost use Rattle.std.specs.Option.{option_map};
+ghost use Rattle.std.specs.Ordering.{is_eq};
+ghost use Rattle.omega_kinds.specs.LabelOrder.{label_cmp};
+ghost use Rattle.omega_kinds.specs.View.{kind_tree};
+ghost use Rattle.omega_types.specs.Fields.{row};
+ghost use Rattle.omega_types.specs.KindIn.{kind_in};
+ghost use Rattle.omega_types.specs.Scope.{scope_of};
+ghost use Rattle.omega_types.specs.Ty.{Ty as TyTree};
+ghost use Rattle.omega_types.specs.View.{ty_of};
+ghost use Rattle.type_normal.specs.Mentioned.{is_mentioned};
+ghost use Rattle.omega_terms.specs.Typing.{shift_all, result_type};
+ghost use Rattle.omega_checker.specs.Found.{normal_at as normal_at_of, put_normal as put_normal_of, call_type, inst_type, part_at as part_at_of, get_type, if_same as if_same_of, pack_type, lowered as lowered_of, if_type, op_type, fix_type};
+ghost use Rattle.omega_checker.specs.SameTy.{same_ty};
+
+use omega_kinds::{Kind, Label, Mem, compare, same_kind};
+use omega_terms::Op;
+use omega_types::{Ty, TyFields, TyNode, kind_of};
+use std::alloc::Global;
+use type_normal::{NormalTy, as_normal, hsubst, lower, mentions, normal, plain, raise, same};
+
+// The kind of a type, and none where it has none.
+fn find_kind(alloc: Global, ctx: &[Kind], ty: &Ty) -> Result<Option<Kind>, Mem>
+    ensures { IfOk result (λ o. option_map kind_tree o ≡ kind_in (scope_of ctx.now) ty.now) }
+{
+    kind_of(alloc, ctx, ty)
+}
+
+/// The normal form of a type, and none where it has not the kind. `Err` is want of memory.
+pub(crate) fn normal_at(
+    alloc: Global,
+    ctx: &[Kind],
+    ty: &Ty,
+    kind: &Kind,
+) -> Result<Option<NormalTy>, Mem>
+    ensures { IfOk result (λ o. o ≡ normal_at_of (scope_of ctx.now) ty.now (kind_tree kind.now)) }
+{
+    match find_kind(alloc, ctx, ty)? {
+        Some(found) => {
+            if same_kind(&found, kind) {
+                Ok(Some(normal(alloc, ctx, ty, kind)?))
+            } else {
+                Ok(None)
+            }
+        }
+        None => Ok(None),
+    }
+}
+
+/// Whether two normal types are the same tree.
+pub(crate) fn agree(left: &NormalTy, right: &NormalTy) -> bool
+    ensures { result ≡ same_ty left.now right.now }
+{
+    same(left, right)
+}
+
+/// A type by its outermost form. `Err` is want of memory.
+pub(crate) fn make(alloc: Global, node: TyNode) -> Result<NormalTy, Mem>
+    ensures { IfOk result (λ t. t ≡ ty_of node) }
+{
+    Ok(as_normal(Ty::make(alloc, node)?))
+}
+
+/// A part of a normal type. `Err` is want of memory.
+pub(crate) fn part(ty: &Ty) -> Result<NormalTy, Mem>
+    ensures { IfOk result (λ t. t ≡ ty.now) }
+{
+    Ok(as_normal(ty.share()?))
+}
+
+/// The type of a term variable, whose list has the innermost last, and none where no variable has that index.
+pub(crate) fn variable(vars: &[NormalTy], index: u64) -> Result<Option<NormalTy>, Mem>
+    ensures { IfOk result (λ o. o ≡ slice_get (reverse vars.now) index) }
+{
+    if index < vars.len() as u64 {
+        Ok(Some(vars[vars.len() - 1 - index as usize].share()?))
+    } else {
+        Ok(None)
+    }
+}
+
+/// The types of the term variables under one more type variable. `Err` is want of memory.
+pub(crate) fn raised(alloc: Global, vars: &[NormalTy]) -> Result<Vec<NormalTy>, Mem>
+    ensures { IfOk result (λ v. reverse v.items ≡ shift_all (reverse vars.now)) }
+{
+    let mut above = Vec::new(alloc);
+    for ty in vars {
+        above.push(raise(alloc, ty, 1, 0)?)?;
+    }
+    Ok(above)
+}
+
+/// The type of a call.
+pub(crate) fn called(
+    function: Option<NormalTy>,
+    arg: Option<NormalTy>,
+) -> Result<Option<NormalTy>, Mem>
+    ensures { IfOk result (λ o. o ≡ call_type function arg) }
+{
+    let (Some(function), Some(arg)) = (function, arg) else {
+        return Ok(None);
+    };
+    if let TyNode::Arrow(from, to) = plain(&function).node() {
+        if agree(&part(from)?, &arg) {
+            return Ok(Some(part(to)?));
+        }
+    }
+    Ok(None)
+}
+
+// The body of a binder with a type put in for its variable.
+fn put_normal(
+    alloc: Global,
+    kind: &Kind,
+    body: &Ty,
+    arg: Option<NormalTy>,
+) -> Result<Option<NormalTy>, Mem>
+    ensures { IfOk result (λ o. o ≡ put_normal_of (kind_tree kind.now) body.now arg) }
+{
+    match arg {
+        Some(arg) => Ok(Some(hsubst(alloc, &part(body)?, 0, &arg, kind)?)),
+        None => Ok(None),
+    }
+}
+
+/// The type of an instance of a term at a type.
+pub(crate) fn instantiated(
+    alloc: Global,
+    ctx: &[Kind],
+    term: Option<NormalTy>,
+    ty: &Ty,
+) -> Result<Option<NormalTy>, Mem>
+    ensures { IfOk result (λ o. o ≡ inst_type (scope_of ctx.now) term ty.now) }
+{
+    let Some(term) = term else {
+        return Ok(None);
+    };
+    if let TyNode::All(kind, body) = plain(&term).node() {
+        let arg = normal_at(alloc, ctx, ty, kind)?;
+        return put_normal(alloc, kind, body, arg);
+    }
+    Ok(None)
+}
+
+// The type at a label of a record.
+fn part_at(fields: &TyFields, label: &Label) -> Result<Option<NormalTy>, Mem>
+    ensures { IfOk result (λ o. o ≡ part_at_of (row fields.now) label.now) }
+{
+    for field in fields.items() {
+        if is_at(&field.0, label) {
+            return Ok(Some(part(&field.1)?));
+        }
+    }
+    Ok(None)
+}
+
+// Whether a label is the one that is looked for.
+fn is_at(label: &Label, wanted: &Label) -> bool
+    ensures { result ≡ is_eq (label_cmp label.now wanted.now) }
+{
+    compare(label, wanted).is_eq()
+}
+
+/// The type of a field.
+pub(crate) fn field_type(whole: Option<NormalTy>, label: &Label) -> Result<Option<NormalTy>, Mem>
+    ensures { IfOk result (λ o. o ≡ get_type whole label.now) }
+{
+    let Some(whole) = whole else {
+        return Ok(None);
+    };
+    if let TyNode::Fields(fields) = plain(&whole).node() {
+        return part_at(fields, label);
+    }
+    Ok(None)
+}
+
+// The type, where the two others agree.
+fn if_same(ty: NormalTy, wanted: Option<NormalTy>, found: Option<NormalTy>) -> Option<NormalTy>
+    ensures { result ≡ if_same_of ty wanted found }
+{
+    match (wanted, found) {
+        (Some(wanted), Some(found)) => {
+            if agree(&wanted, &found) {
+                Some(ty)
+            } else {
+                None
+            }
+        }
+        _ => None,
+    }
+}
+
+/// The type of a package: the target, where the body has the type that it asks for.
+pub(crate) fn packed(
+    alloc: Global,
+    ctx: &[Kind],
+    hidden: &Ty,
+    target: Option<NormalTy>,
+    body: Option<NormalTy>,
+) -> Result<Option<NormalTy>, Mem>
+    ensures { IfOk result (λ o. o ≡ pack_type (scope_of ctx.now) hidden.now target body) }
+{
+    let Some(target) = target else {
+        return Ok(None);
+    };
+    if let TyNode::Ex(kind, inner) = plain(&target).node() {
+        let hidden = normal_at(alloc, ctx, hidden, kind)?;
+        let wanted = put_normal(alloc, kind, inner, hidden)?;
+        return Ok(if_same(target.share()?, wanted, body));
+    }
+    Ok(None)
+}
+
+/// The type outside of a type variable, where it does not mention the variable.
+pub(crate) fn lowered(alloc: Global, ty: Option<NormalTy>) -> Result<Option<NormalTy>, Mem>
+    ensures { IfOk result (λ o. o ≡ lowered_of ty) }
+{
+    match ty {
+        Some(ty) => {
+            if has_variable(&ty) {
+                Ok(None)
+            } else {
+                Ok(Some(lower(alloc, &ty, 1)?))
+            }
+        }
+        None => Ok(None),
+    }
+}
+
+// Whether the innermost type variable is free in the type.
+fn has_variable(ty: &NormalTy) -> bool
+    ensures { result ≡ is_mentioned zero ty.now }
+{
+    mentions(ty, 0)
+}
+
+/// The type of a choice.
+pub(crate) fn chosen(
+    alloc: Global,
+    test: Option<NormalTy>,
+    yes: Option<NormalTy>,
+    no: Option<NormalTy>,
+) -> Result<Option<NormalTy>, Mem>
+    ensures { IfOk result (λ o. o ≡ if_type test yes no) }
+{
+    let (Some(test), Some(yes), Some(no)) = (test, yes, no) else {
+        return Ok(None);
+    };
+    let truth = make(alloc, TyNode::Bool)?;
+    if agree(&test, &truth) && agree(&yes, &no) {
+        return Ok(Some(yes));
+    }
+    Ok(None)
+}
+
+/// The type of an operator on two numbers.
+pub(crate) fn computed(
+    alloc: Global,
+    op: Op,
+    left: Option<NormalTy>,
+    right: Option<NormalTy>,
+) -> Result<Option<NormalTy>, Mem>
+    ensures { IfOk result (λ o. o ≡ op_type op left right) }
+{
+    let (Some(left), Some(right)) = (left, right) else {
+        return Ok(None);
+    };
+    let number = make(alloc, TyNode::Int)?;
+    if agree(&left, &number) && agree(&right, &number) {
+        return Ok(Some(result_type(alloc, op)?));
+    }
+    Ok(None)
+}
+
+// The type of an operator's result.
+fn result_type(alloc: Global, op: Op) -> Result<NormalTy, Mem>
+    ensures { IfOk result (λ t. t ≡ result_type op) }
+{
+    match op {
+        Op::Less | Op::Equal => make(alloc, TyNode::Bool),
+        Op::Add | Op::Sub | Op::Mul | Op::Div | Op::Rem => make(alloc, TyNode::Int),
+    }
+}
+
+/// The type of a function.
+pub(crate) fn arrow(alloc: Global, from: &NormalTy, to: &NormalTy) -> Result<NormalTy, Mem>
+    ensures { IfOk result (λ t. t ≡ TyTree.Arrow from.now to.now) }
+{
+    make(
+        alloc,
+        TyNode::Arrow(plain(from).share()?, plain(to).share()?),
+    )
+}
+
+/// The type of a function that calls itself, where its body has the type that it says.
+pub(crate) fn fixed(
+    alloc: Global,
+    from: &NormalTy,
+    to: &NormalTy,
+    body: Option<NormalTy>,
+) -> Result<Option<NormalTy>, Mem>
+    ensures { IfOk result (λ o. o ≡ fix_type from.now to.now body) }
+{
+    let Some(body) = body else {
+        return Ok(None);
+    };
+    if agree(to, &body) {
+        return Ok(Some(arrow(alloc, from, to)?));
+    }
+    Ok(None)
+}

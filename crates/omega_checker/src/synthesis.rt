@@ -1,0 +1,216 @@
+// The normal type of a term.
+ghost use Rattle.std.specs.Prelude.{◌≡◌, ◌∷◌, [], IfOk, OnOk, reverse, if◌then◌else◌, None};
+ghost use Rattle.std.specs.Option.{option_map};
+ghost use Rattle.omega_kinds.specs.View.{kind_tree};
+ghost use Rattle.omega_types.specs.Scope.{scope_of};
+ghost use Rattle.omega_types.specs.Ty.{Ty as TyTree};
+ghost use Rattle.omega_terms.specs.Fields.{term_row};
+ghost use Rattle.omega_terms.specs.Typing.{shift_all};
+ghost use Rattle.omega_checker.specs.Found.{synth_in, synth_row, and_then, of_package, lowered as lowered_of, fix_type, labels_differ};
+
+use crate::forms::{
+    arrow, called, chosen, computed, field_type, fixed, instantiated, lowered, make, normal_at,
+    packed, part, raised, variable,
+};
+use omega_kinds::{Kind, Mem};
+use omega_terms::{Term, TermFields, TermNode};
+use omega_types::{TyFields, TyNode};
+use std::alloc::Global;
+use type_normal::{NormalTy, plain};
+
+/// The normal type of a term in the empty context, and none where it has no type. `Err` is want of memory.
+pub(crate) fn synthesise(alloc: Global, term: &Term) -> Result<Option<NormalTy>, Mem>
+    ensures { IfOk result (λ o. o ≡ synth_in [] [] term.now) }
+{
+    let mut kinds = Vec::new(alloc);
+    let mut vars = Vec::new(alloc);
+    synth(alloc, &mut kinds, &mut vars, term)
+}
+
+// The normal type of a term where variables of these kinds and types are in scope, the innermost last.
+#[cycle(synth)]
+fn synth(
+    alloc: Global,
+    kinds: &mut Vec<Kind>,
+    vars: &mut Vec<NormalTy>,
+    term: &Term,
+) -> Result<Option<NormalTy>, Mem>
+    ensures kinds { OnOk result (scope_of kinds.new.items ≡ scope_of kinds.old.items) }
+    ensures vars { OnOk result (vars.new.items ≡ vars.old.items) }
+    ensures found { IfOk result (λ o. o ≡ synth_in (scope_of kinds.old.items) (reverse vars.old.items) term.now) }
+{
+    match term.node() {
+        TermNode::Var(index) => variable(vars, *index),
+        TermNode::Int(_) => Ok(Some(make(alloc, TyNode::Int)?)),
+        TermNode::Bool(_) => Ok(Some(make(alloc, TyNode::Bool)?)),
+        TermNode::Text(_) => Ok(Some(make(alloc, TyNode::Text)?)),
+        TermNode::Lam(t, e) => {
+            let from = normal_at(alloc, kinds, t, &Kind::Star)?;
+            synth_function(alloc, kinds, vars, from, e)
+        }
+        TermNode::Call(f, a) => {
+            let function = synth(alloc, kinds, vars, f)?;
+            let arg = synth(alloc, kinds, vars, a)?;
+            called(function, arg)
+        }
+        TermNode::TyLam(k, e) => synth_type_function(alloc, kinds, vars, k, e),
+        TermNode::Inst(e, t) => {
+            let body = synth(alloc, kinds, vars, e)?;
+            instantiated(alloc, kinds, body, t)
+        }
+        TermNode::Fields(fields) => synth_fields(alloc, kinds, vars, fields),
+        TermNode::Get(e, l) => {
+            let whole = synth(alloc, kinds, vars, e)?;
+            field_type(whole, l)
+        }
+        TermNode::Pack(t, e, u) => {
+            let target = normal_at(alloc, kinds, u, &Kind::Star)?;
+            let body = synth(alloc, kinds, vars, e)?;
+            packed(alloc, kinds, t, target, body)
+        }
+        TermNode::Unpack(p, e) => {
+            let package = synth(alloc, kinds, vars, p)?;
+            synth_opened(alloc, kinds, vars, package, e)
+        }
+        TermNode::If(a, b, c) => {
+            let test = synth(alloc, kinds, vars, a)?;
+            let yes = synth(alloc, kinds, vars, b)?;
+            let no = synth(alloc, kinds, vars, c)?;
+            chosen(alloc, test, yes, no)
+        }
+        TermNode::Arith(op, a, b) => {
+            let left = synth(alloc, kinds, vars, a)?;
+            let right = synth(alloc, kinds, vars, b)?;
+            computed(alloc, *op, left, right)
+        }
+        TermNode::Fix(t, u, e) => {
+            let from = normal_at(alloc, kinds, t, &Kind::Star)?;
+            let to = normal_at(alloc, kinds, u, &Kind::Star)?;
+            synth_fix(alloc, kinds, vars, from, to, e)
+        }
+    }
+}
+
+// The type of a function, from that of its argument.
+#[cycle(synth)]
+fn synth_function(
+    alloc: Global,
+    kinds: &mut Vec<Kind>,
+    vars: &mut Vec<NormalTy>,
+    from: Option<NormalTy>,
+    body: &Term,
+) -> Result<Option<NormalTy>, Mem>
+    ensures kinds { OnOk result (scope_of kinds.new.items ≡ scope_of kinds.old.items) }
+    ensures vars { OnOk result (vars.new.items ≡ vars.old.items) }
+    ensures found { IfOk result (λ o. o ≡ and_then from (λ n. option_map (TyTree.Arrow n) (synth_in (scope_of kinds.old.items) (n ∷ reverse vars.old.items) body.now))) }
+{
+    let Some(from) = from else {
+        return Ok(None);
+    };
+    vars.push(from.share()?)?;
+    let to = synth(alloc, kinds, vars, body)?;
+    vars.pop();
+    match to {
+        Some(to) => Ok(Some(arrow(alloc, &from, &to)?)),
+        None => Ok(None),
+    }
+}
+
+// The type of a function from types.
+#[cycle(synth)]
+fn synth_type_function(
+    alloc: Global,
+    kinds: &mut Vec<Kind>,
+    vars: &mut Vec<NormalTy>,
+    kind: &Kind,
+    body: &Term,
+) -> Result<Option<NormalTy>, Mem>
+    ensures kinds { OnOk result (scope_of kinds.new.items ≡ scope_of kinds.old.items) }
+    ensures vars { OnOk result (vars.new.items ≡ vars.old.items) }
+    ensures found { IfOk result (λ o. o ≡ option_map (TyTree.All (kind_tree kind.now)) (synth_in (kind_tree kind.now ∷ scope_of kinds.old.items) (shift_all (reverse vars.old.items)) body.now)) }
+{
+    let mut above = raised(alloc, vars)?;
+    kinds.push(kind.share()?)?;
+    let found = synth(alloc, kinds, &mut above, body)?;
+    kinds.pop();
+    match found {
+        Some(ty) => Ok(Some(make(alloc, TyNode::All(kind.share()?, plain(&ty).share()?))?)),
+        None => Ok(None),
+    }
+}
+
+// The type of an opened package, from that of the package.
+#[cycle(synth)]
+fn synth_opened(
+    alloc: Global,
+    kinds: &mut Vec<Kind>,
+    vars: &mut Vec<NormalTy>,
+    opened: Option<NormalTy>,
+    body: &Term,
+) -> Result<Option<NormalTy>, Mem>
+    ensures kinds { OnOk result (scope_of kinds.new.items ≡ scope_of kinds.old.items) }
+    ensures vars { OnOk result (vars.new.items ≡ vars.old.items) }
+    ensures found { IfOk result (λ o. o ≡ and_then opened (λ s. of_package s (λ k b. lowered_of (synth_in (k ∷ scope_of kinds.old.items) (b ∷ shift_all (reverse vars.old.items)) body.now)))) }
+{
+    let Some(package) = opened else {
+        return Ok(None);
+    };
+    let TyNode::Ex(kind, inner) = plain(&package).node() else {
+        return Ok(None);
+    };
+    let mut above = raised(alloc, vars)?;
+    above.push(part(inner)?)?;
+    kinds.push(kind.share()?)?;
+    let found = synth(alloc, kinds, &mut above, body)?;
+    kinds.pop();
+    lowered(alloc, found)
+}
+
+// The type of a function that calls itself, from those that it says: in its body stand the function and its argument.
+#[cycle(synth)]
+fn synth_fix(
+    alloc: Global,
+    kinds: &mut Vec<Kind>,
+    vars: &mut Vec<NormalTy>,
+    from: Option<NormalTy>,
+    to: Option<NormalTy>,
+    body: &Term,
+) -> Result<Option<NormalTy>, Mem>
+    ensures kinds { OnOk result (scope_of kinds.new.items ≡ scope_of kinds.old.items) }
+    ensures vars { OnOk result (vars.new.items ≡ vars.old.items) }
+    ensures found { IfOk result (λ o. o ≡ and_then from (λ n. and_then to (λ m. fix_type n m (synth_in (scope_of kinds.old.items) (n ∷ (TyTree.Arrow n m ∷ reverse vars.old.items)) body.now)))) }
+{
+    let (Some(from), Some(to)) = (from, to) else {
+        return Ok(None);
+    };
+    let arg = from.share()?;
+    let whole = arrow(alloc, &from, &to)?;
+    vars.push(whole)?;
+    vars.push(arg)?;
+    let found = synth(alloc, kinds, vars, body)?;
+    vars.pop();
+    vars.pop();
+    fixed(alloc, &from, &to, found)
+}
+
+// The type of a record. Fields rise, so their labels differ.
+#[cycle(synth)]
+fn synth_fields(
+    alloc: Global,
+    kinds: &mut Vec<Kind>,
+    vars: &mut Vec<NormalTy>,
+    fields: &TermFields,
+) -> Result<Option<NormalTy>, Mem>
+    ensures kinds { OnOk result (scope_of kinds.new.items ≡ scope_of kinds.old.items) }
+    ensures vars { OnOk result (vars.new.items ≡ vars.old.items) }
+    ensures found { IfOk result (λ o. o ≡ (if labels_differ (term_row fields.now) then option_map TyTree.Fields (synth_row (scope_of kinds.old.items) (reverse vars.old.items) (term_row fields.now)) else None)) }
+{
+    let mut types = TyFields::new(alloc);
+    for field in fields.items() {
+        let Some(ty) = synth(alloc, kinds, vars, &field.1)? else {
+            return Ok(None);
+        };
+        types.push((field.0.share()?, plain(&ty).share()?))?;
+    }
+    Ok(Some(make(alloc, TyNode::Fields(types))?))
+}
