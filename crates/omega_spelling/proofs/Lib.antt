@@ -1,0 +1,14 @@
+pub mod Steps
+pub mod Numbers
+pub mod Labels
+pub mod Types
+pub mod Refusing
+pub mod Depth
+pub mod Quoted
+pub mod Terms
+pub mod Texts
+pub mod TermDepth
+pub mod Narrow
+pub mod Wholes
+pub mod Zeroed
+pub mod Answering
