@@ -11,6 +11,8 @@ mod labels;
 mod left;
 mod numbers;
 mod terms;
+#[cfg(test)]
+mod tests;
 mod texts;
 mod types;
 mod whole;
