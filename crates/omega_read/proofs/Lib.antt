@@ -1,0 +1,9 @@
+pub mod Fronts
+pub mod Unfold
+pub mod Runs
+pub mod Record
+pub mod Scans
+pub mod Lines
+pub mod Items
+pub mod TextBytes
+pub mod Wholes

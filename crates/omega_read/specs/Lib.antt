@@ -1,0 +1,5 @@
+pub mod Gives
+pub mod Onto
+pub mod Chars
+pub mod Scan
+pub mod ReadAs
