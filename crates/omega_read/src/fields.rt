@@ -23,6 +23,6 @@ pub fn term_may_follow(fields: &TermFields, label: &Label) -> bool
 {
     match fields.items().last() {
         None => true,
-        Some(last) => compare(&last.0, label).is_lt(),
+        Some(latest) => compare(&latest.0, label).is_lt(),
     }
 }
