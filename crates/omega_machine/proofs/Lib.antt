@@ -1,0 +1,9 @@
+pub mod TermAlgebra
+pub mod Puts
+pub mod Canonical
+pub mod FieldSearch
+pub mod Numbers
+pub mod Reduced
+pub mod Plugs
+pub mod Moved
+pub mod Refocused

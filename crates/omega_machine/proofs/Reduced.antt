@@ -1,0 +1,74 @@
+-- What the code puts in is what the step gives.
+use Rattle.std.proofs.Common.{◌≡◌, refl, sym, ap, ap₂, ◌∙◌, subst, Bool as Truth, true, false, ℤ}
+use Rattle.omega_types.specs.Ty.{Ty}
+use Rattle.omega_types.specs.declared.tree.Ty.{Ty as TyHandle}
+use Rattle.omega_kinds.specs.declared.kind.Kind.{Kind as KindHandle}
+use Rattle.omega_kinds.specs.declared.label.Label.{Label}
+use Rattle.omega_terms.specs.declared.tree.Term.{Term as TermHandle}
+use Rattle.omega_terms.specs.declared.tree.TermNode.{TermNode}
+use Rattle.omega_terms.specs.declared.tree.TermNode.TheVariants as node
+use Rattle.omega_terms.specs.declared.op.Op.{Op}
+use Rattle.omega_terms.specs.Fields.{TermPairs, term_row}
+use Rattle.omega_terms.specs.Term.{Term, TermRow}
+use Rattle.omega_terms.specs.TermSubst.{put_term, put_type, shift_term}
+use Rattle.omega_terms.specs.Steps.{IsValue, AreValues, HasField, Step, Faults, Answer, Fault, compute}
+use Rattle.omega_terms.specs.View.{term_of}
+use Rattle.omega_machine.specs.Moves.{IsTyped}
+use Rattle.omega_machine.proofs.Puts.{put-arg, put-ty, put-both, put-fix}
+use Rattle.omega_machine.proofs.Canonical.{fields-values, body-value, value-at, has-field}
+
+-- the term that a node of a known form makes
+pub is-form : (n m : TermNode) (e : Term) → n ≡ m → term_of n ≡ e → e ≡ term_of m
+is-form n m e p q = sym q ∙ ap term_of p
+
+pub lam-step : (n : TermNode) (t : TyHandle) (b : TermHandle) (f a e : Term) → n ≡ node.Lam t b → term_of n ≡ f → IsValue a → e ≡ put_term b 0 a → Step (Term.Call f a) e
+lam-step n t b f a e p q v h =
+    subst (λ x. Step (Term.Call x a) e) (sym (is-form n (node.Lam t b) f p q)) (subst (Step (Term.Call (Term.Lam t b) a)) (sym (h ∙ put-arg a b)) (Step.call_lam v))
+
+pub fix-step : (n : TermNode) (t u : TyHandle) (b : TermHandle) (f a shifted filled e : Term) → n ≡ node.Fix t u b → term_of n ≡ f → IsValue a → shifted ≡ shift_term a 0 1 → filled ≡ put_term b 0 shifted → e ≡ put_term filled 0 f → Step (Term.Call f a) e
+fix-step n t u b f a shifted filled e p q v s g h =
+    let is = is-form n (node.Fix t u b) f p q in
+    let put = h ∙ (ap₂ (λ x y. put_term x 0 y) (g ∙ ap (put_term b 0) s) is ∙ put-fix a (Term.Fix t u b) b) in
+    subst (λ x. Step (Term.Call x a) e) (sym is) (subst (Step (Term.Call (Term.Fix t u b) a)) (sym put) (Step.call_fix v))
+
+pub inst-step : (n : TermNode) (k : KindHandle) (b : TermHandle) (f : Term) (t : Ty) (e : Term) → n ≡ node.TyLam k b → term_of n ≡ f → e ≡ put_type b 0 t → Step (Term.Inst f t) e
+inst-step n k b f t e p q h =
+    subst (λ x. Step (Term.Inst x t) e) (sym (is-form n (node.TyLam k b) f p q)) (subst (Step (Term.Inst (term_of (node.TyLam k b)) t)) (sym (h ∙ put-ty t b)) Step.inst_ty_lam)
+
+pub open-step : (n : TermNode) (t u : TyHandle) (v : TermHandle) (d b filled e : Term) → n ≡ node.Pack t v u → term_of n ≡ d → IsValue d → filled ≡ put_type b 0 t → e ≡ put_term filled 0 v → Step (Term.Unpack d b) e
+open-step n t u v d b filled e p q w g h =
+    let is = is-form n (node.Pack t v u) d p q in
+    subst (λ x. Step (Term.Unpack x b) e) (sym is) (subst (Step (Term.Unpack (Term.Pack t v u) b)) (sym (h ∙ (ap (λ x. put_term x 0 v) g ∙ put-both t v b))) (Step.unpack_pack (body-value (subst IsValue is w))))
+
+pub if-step-true : (n : TermNode) (t : Truth) (a b c : Term) → n ≡ node.Bool t → term_of n ≡ a → t ≡ true → Step (Term.If a b c) b
+if-step-true n t a b c p q h = subst (λ x. Step (Term.If x b c) b) (sym (is-form n (node.Bool t) a p q ∙ ap Term.Bool h)) Step.if_true
+
+pub if-step-false : (n : TermNode) (t : Truth) (a b c : Term) → n ≡ node.Bool t → term_of n ≡ a → t ≡ false → Step (Term.If a b c) c
+if-step-false n t a b c p q h = subst (λ x. Step (Term.If x b c) c) (sym (is-form n (node.Bool t) a p q ∙ ap Term.Bool h)) Step.if_false
+
+both-numbers : (n m : TermNode) (y z : ℤ) (o : Op) (a b : Term) → n ≡ node.Int y → term_of n ≡ a → m ≡ node.Int z → term_of m ≡ b → Term.Arith o a b ≡ Term.Arith o (Term.Int y) (Term.Int z)
+both-numbers n m y z o a b p q r s = ap₂ (Term.Arith o) (is-form n (node.Int y) a p q) (is-form m (node.Int z) b r s)
+
+pub arith-step : (n m : TermNode) (y z : ℤ) (o : Op) (a b e d : Term) → n ≡ node.Int y → term_of n ≡ a → m ≡ node.Int z → term_of m ≡ b → compute o y z ≡ Answer.gives d → e ≡ d → Step (Term.Arith o a b) e
+arith-step n m y z o a b e d p q r s h g =
+    subst (λ x. Step x e) (sym (both-numbers n m y z o a b p q r s)) (Step.arith (h ∙ ap Answer.gives (sym g)))
+
+pub arith-fault : (n m : TermNode) (y z : ℤ) (o : Op) (a b : Term) (x : Fault) → n ≡ node.Int y → term_of n ≡ a → m ≡ node.Int z → term_of m ≡ b → compute o y z ≡ Answer.fails x → Faults (Term.Arith o a b) x
+arith-fault n m y z o a b x p q r s h =
+    subst (λ w. Faults w x) (sym (both-numbers n m y z o a b p q r s)) (Faults.arith h)
+
+-- ---- the part of a record
+
+record-is : (n : TermNode) (f : TermPairs) (whole : Term) → n ≡ node.Fields f → term_of n ≡ whole → whole ≡ Term.Fields (term_row f)
+record-is n f whole p q = is-form n (node.Fields f) whole p q
+
+pub get-step : (n : TermNode) (f xs : TermPairs) (whole : Term) (l : Label) (d e : Term) → n ≡ node.Fields f → term_of n ≡ whole → xs ≡ f → IsValue whole → HasField (term_row xs) l d → e ≡ d → Step (Term.Get whole l) e × IsValue e
+get-step n f xs whole l d e p q r v h g =
+    let is = record-is n f whole p q ∙ ap (λ ys. Term.Fields (term_row ys)) (sym r) in
+    let vs = fields-values (subst IsValue is v) in
+    (subst (λ x. Step (Term.Get x l) e) (sym is) (subst (Step (Term.Get (Term.Fields (term_row xs)) l)) (sym g) (Step.get_fields vs h)), subst IsValue (sym g) (value-at vs h))
+
+pub get-field : (n : TermNode) (f xs : TermPairs) (whole : Term) (l : Label) → n ≡ node.Fields f → term_of n ≡ whole → xs ≡ f → IsValue whole → IsTyped (Term.Get whole l) → (e : Term) × HasField (term_row xs) l e
+get-field n f xs whole l p q r v h =
+    let is = record-is n f whole p q ∙ ap (λ ys. Term.Fields (term_row ys)) (sym r) in
+    has-field (term_row xs) l (fields-values (subst IsValue is v)) (subst (λ x. IsTyped (Term.Get x l)) is h)

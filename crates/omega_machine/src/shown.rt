@@ -1,0 +1,172 @@
+// The text of a value.
+ghost use Rattle.std.specs.Prelude.{ℕ, List, [], ◌≡◌, ◌++◌, IfOk, OnOk, codes};
+ghost use Rattle.std.specs.Fmt.{signed_decimal};
+ghost use Rattle.omega_kinds.specs.Text.{◌then◌};
+ghost use Rattle.omega_terms.specs.Fields.{term_row};
+ghost use Rattle.omega_terms.specs.KindText.{label_text};
+ghost use Rattle.omega_terms.specs.Term.{Term as TermTree};
+ghost use Rattle.omega_terms.specs.TermText.{quoted_text};
+ghost use Rattle.omega_machine.specs.ValueText.{shown, shown_fields, value_text};
+
+use itoa::Buffer;
+use omega_kinds::{Label, Mem};
+use omega_terms::{Term, TermFields, TermNode};
+use std::alloc::Global;
+use std::marker::Model;
+
+/// A program's value as text: a line for each field of the record that is left without the packages round it.
+/// Contracts see it as its bytes.
+#[derive(Drop)]
+pub struct Shown {
+    bytes: Vec<u8>,
+}
+
+impl Model for Shown {
+    ghost use Rattle.std.specs.Prelude.{ℕ, List};
+
+    ghost Value = { List ℕ };
+
+    ghost view = { λ s. s.bytes.items };
+}
+
+impl Shown {
+    /// The bytes of the text.
+    pub fn bytes(&self) -> &[u8]
+        ensures { result.now ≡ self.now }
+    {
+        self.bytes.as_slice()
+    }
+}
+
+/// The text of a program's value: for each field of the record inside all packages, in label order, the label, ` = `,
+/// the shown form and a line end. `Err` is want of memory.
+pub(crate) fn show_program(alloc: Global, value: &Term) -> Result<Shown, Mem>
+    ensures { IfOk result (λ s. s ≡ value_text value.now) }
+{
+    let mut bytes = Vec::new(alloc);
+    if let TermNode::Fields(fields) = unpacked(value).node() {
+        for field in fields.items() {
+            show_field(&mut bytes, &field.0, &field.1)?;
+            bytes.push(b'\n')?;
+        }
+    }
+    Ok(Shown { bytes })
+}
+
+// The value inside all packages.
+fn unpacked(value: &Term) -> &Term
+    ensures { value_text result.now ≡ value_text value.now }
+{
+    let mut inner = value;
+    while let TermNode::Pack(_, body, _) = inner.node() {
+        inner = body;
+    }
+    inner
+}
+
+// Adds the shown form of a value.
+#[cycle(show)]
+fn show(out: &mut Vec<u8>, value: &Term) -> Result<(), Mem>
+    ensures { OnOk result (out.new.items ≡ out.old.items ++ shown value.now) }
+{
+    match value.node() {
+        TermNode::Int(z) => add_number(out, *z),
+        TermNode::Bool(true) => add(out, b"true"),
+        TermNode::Bool(false) => add(out, b"false"),
+        TermNode::Text(text) => add_text(out, text.bytes()),
+        TermNode::Lam(_, _) | TermNode::TyLam(_, _) | TermNode::Fix(_, _, _) => add(out, b"fun"),
+        TermNode::Pack(_, _, _) => add(out, b"pack"),
+        TermNode::Fields(fields) => show_record(out, fields),
+        TermNode::Var(_)
+        | TermNode::Call(_, _)
+        | TermNode::Inst(_, _)
+        | TermNode::Get(_, _)
+        | TermNode::Unpack(_, _)
+        | TermNode::If(_, _, _)
+        | TermNode::Arith(_, _, _) => Ok(()),
+    }
+}
+
+// Adds the shown form of a record: of a value, a type or a signature by its one reserved label, else of its fields.
+#[cycle(show)]
+fn show_record(out: &mut Vec<u8>, fields: &TermFields) -> Result<(), Mem>
+    ensures { OnOk result (out.new.items ≡ out.old.items ++ shown (TermTree.Fields (term_row fields.now))) }
+{
+    match fields.items() {
+        [(Label::Val, value)] => show(out, value),
+        [(Label::Typ, _)] => add(out, b"type"),
+        [(Label::Sig, _)] => add(out, b"sig"),
+        _ => show_fields(out, fields),
+    }
+}
+
+// Adds the fields in braces, with commas between them.
+#[cycle(show)]
+fn show_fields(out: &mut Vec<u8>, fields: &TermFields) -> Result<(), Mem>
+    ensures { OnOk result (out.new.items ≡ out.old.items ++ (codes "{" then shown_fields [] (term_row fields.now) then codes "}")) }
+{
+    add(out, b"{")?;
+    for (place, field) in fields.items().iter().enumerate() {
+        if place > 0 {
+            add(out, b", ")?;
+        }
+        show_field(out, &field.0, &field.1)?;
+    }
+    add(out, b"}")
+}
+
+// Adds a field: its label, ` = ` and its shown form.
+#[cycle(show)]
+fn show_field(out: &mut Vec<u8>, label: &Label, value: &Term) -> Result<(), Mem>
+    ensures { OnOk result (out.new.items ≡ out.old.items ++ (label_text label.now then codes " = " then shown value.now)) }
+{
+    add(out, label_bytes(label))?;
+    add(out, b" = ")?;
+    show(out, value)
+}
+
+// Adds the bytes.
+fn add(out: &mut Vec<u8>, bytes: &[u8]) -> Result<(), Mem>
+    ensures { OnOk result (out.new.items ≡ out.old.items ++ bytes.now) }
+{
+    out.extend_from_slice(bytes)?;
+    Ok(())
+}
+
+// Adds a number in decimal.
+fn add_number(out: &mut Vec<u8>, number: i64) -> Result<(), Mem>
+    ensures { OnOk result (out.new.items ≡ out.old.items ++ signed_decimal number) }
+{
+    let mut buffer = Buffer::new();
+    add(out, buffer.format(number).as_bytes())
+}
+
+// Adds a text in quotes: a quote, a backslash and a line end by an escape, any other byte as it stands.
+fn add_text(out: &mut Vec<u8>, bytes: &[u8]) -> Result<(), Mem>
+    ensures { OnOk result (out.new.items ≡ out.old.items ++ quoted_text bytes.now) }
+{
+    add(out, b"\"")?;
+    for byte in bytes {
+        match *byte {
+            b'"' => add(out, b"\\\"")?,
+            b'\\' => add(out, b"\\\\")?,
+            b'\n' => add(out, b"\\n")?,
+            other => add(out, &[other])?,
+        }
+    }
+    add(out, b"\"")
+}
+
+// The bytes of a label: a reserved one by its word, a name by its own bytes.
+fn label_bytes(label: &Label) -> &[u8]
+    ensures { result.now ≡ label_text label.now }
+{
+    match label {
+        Label::Val => b".val",
+        Label::Typ => b".typ",
+        Label::Sig => b".sig",
+        Label::App => b".app",
+        Label::Gen => b".gen",
+        Label::Name(name) => name.bytes(),
+    }
+}
