@@ -7,3 +7,6 @@ pub mod Reduced
 pub mod Plugs
 pub mod Moved
 pub mod Refocused
+pub mod PackedValues
+pub mod Runs
+pub mod Texts

@@ -1,12 +1,12 @@
 // The text of a value.
-ghost use Rattle.std.specs.Prelude.{ℕ, List, [], ◌≡◌, ◌++◌, IfOk, OnOk, codes};
+ghost use Rattle.std.specs.Prelude.{ℕ, List, [], ◌≡◌, ◌++◌, ◌∷◌, IfOk, OnOk, codes};
 ghost use Rattle.std.specs.Fmt.{signed_decimal};
 ghost use Rattle.omega_kinds.specs.Text.{◌then◌};
 ghost use Rattle.omega_terms.specs.Fields.{term_row};
 ghost use Rattle.omega_terms.specs.KindText.{label_text};
 ghost use Rattle.omega_terms.specs.Term.{Term as TermTree};
-ghost use Rattle.omega_terms.specs.TermText.{quoted_text};
-ghost use Rattle.omega_machine.specs.ValueText.{shown, shown_fields, value_text};
+ghost use Rattle.omega_terms.specs.TermText.{quoted_text, byte_text};
+ghost use Rattle.omega_machine.specs.ValueText.{shown, shown_fields, mark_at, inside, lines, value_text};
 
 use itoa::Buffer;
 use omega_kinds::{Label, Mem};
@@ -45,17 +45,32 @@ pub(crate) fn show_program(alloc: Global, value: &Term) -> Result<Shown, Mem>
 {
     let mut bytes = Vec::new(alloc);
     if let TermNode::Fields(fields) = unpacked(value).node() {
-        for field in fields.items() {
-            show_field(&mut bytes, &field.0, &field.1)?;
-            bytes.push(b'\n')?;
-        }
+        show_lines(&mut bytes, fields)?;
     }
     Ok(Shown { bytes })
 }
 
+// Adds each field on a line of its own.
+fn show_lines(out: &mut Vec<u8>, fields: &TermFields) -> Result<(), Mem>
+    ensures { OnOk result (out.new.items ≡ out.old.items ++ lines (term_row fields.now)) }
+{
+    for field in fields.items() {
+        show_line(out, &field.0, &field.1)?;
+    }
+    Ok(())
+}
+
+// Adds a field and a line end.
+fn show_line(out: &mut Vec<u8>, label: &Label, value: &Term) -> Result<(), Mem>
+    ensures { OnOk result (out.new.items ≡ out.old.items ++ (label_text label.now then codes " = " then shown value.now then codes "\n")) }
+{
+    show_field(out, label, value)?;
+    add(out, b"\n")
+}
+
 // The value inside all packages.
 fn unpacked(value: &Term) -> &Term
-    ensures { value_text result.now ≡ value_text value.now }
+    ensures { result.now ≡ inside value.now }
 {
     let mut inner = value;
     while let TermNode::Pack(_, body, _) = inner.node() {
@@ -87,15 +102,29 @@ fn show(out: &mut Vec<u8>, value: &Term) -> Result<(), Mem>
     }
 }
 
-// Adds the shown form of a record: of a value, a type or a signature by its one reserved label, else of its fields.
+// Adds the shown form of a record.
 #[cycle(show)]
 fn show_record(out: &mut Vec<u8>, fields: &TermFields) -> Result<(), Mem>
     ensures { OnOk result (out.new.items ≡ out.old.items ++ shown (TermTree.Fields (term_row fields.now))) }
 {
-    match fields.items() {
-        [(Label::Val, value)] => show(out, value),
-        [(Label::Typ, _)] => add(out, b"type"),
-        [(Label::Sig, _)] => add(out, b"sig"),
+    let items = fields.items();
+    if items.len() == 1 {
+        show_single(out, fields, &items[0])
+    } else {
+        show_fields(out, fields)
+    }
+}
+
+// Adds the shown form of a record of one field: of a value, a type or a signature by its reserved label.
+#[cycle(show)]
+fn show_single(out: &mut Vec<u8>, fields: &TermFields, field: &(Label, Term)) -> Result<(), Mem>
+    requires { fields.now ≡ field.now ∷ [] }
+    ensures { OnOk result (out.new.items ≡ out.old.items ++ shown (TermTree.Fields (term_row fields.now))) }
+{
+    match &field.0 {
+        Label::Val => show(out, &field.1),
+        Label::Typ => add(out, b"type"),
+        Label::Sig => add(out, b"sig"),
         _ => show_fields(out, fields),
     }
 }
@@ -107,12 +136,17 @@ fn show_fields(out: &mut Vec<u8>, fields: &TermFields) -> Result<(), Mem>
 {
     add(out, b"{")?;
     for (place, field) in fields.items().iter().enumerate() {
-        if place > 0 {
-            add(out, b", ")?;
-        }
+        add(out, mark(place))?;
         show_field(out, &field.0, &field.1)?;
     }
     add(out, b"}")
+}
+
+// What stands before the field at a place.
+fn mark(place: usize) -> &'static [u8]
+    ensures { result.now ≡ mark_at place }
+{
+    if place == 0 { b"" } else { b", " }
 }
 
 // Adds a field: its label, ` = ` and its shown form.
@@ -141,20 +175,27 @@ fn add_number(out: &mut Vec<u8>, number: i64) -> Result<(), Mem>
     add(out, buffer.format(number).as_bytes())
 }
 
-// Adds a text in quotes: a quote, a backslash and a line end by an escape, any other byte as it stands.
+// Adds a text in quotes.
 fn add_text(out: &mut Vec<u8>, bytes: &[u8]) -> Result<(), Mem>
     ensures { OnOk result (out.new.items ≡ out.old.items ++ quoted_text bytes.now) }
 {
     add(out, b"\"")?;
     for byte in bytes {
-        match *byte {
-            b'"' => add(out, b"\\\"")?,
-            b'\\' => add(out, b"\\\\")?,
-            b'\n' => add(out, b"\\n")?,
-            other => add(out, &[other])?,
-        }
+        add_byte(out, *byte)?;
     }
     add(out, b"\"")
+}
+
+// Adds a byte of a text: a quote, a backslash and a line end by an escape, any other as it stands.
+fn add_byte(out: &mut Vec<u8>, byte: u8) -> Result<(), Mem>
+    ensures { OnOk result (out.new.items ≡ out.old.items ++ byte_text byte) }
+{
+    match byte {
+        b'"' => add(out, b"\\\""),
+        b'\\' => add(out, b"\\\\"),
+        b'\n' => add(out, b"\\n"),
+        _ => add(out, &[byte]),
+    }
 }
 
 // The bytes of a label: a reserved one by its word, a name by its own bytes.

@@ -1,0 +1,6 @@
+use Rattle.std.proofs.Common.{◌≡◌}
+use Rattle.omega_machine.specs.ValueText.{inside}
+use Rattle.omega_machine.proofs.shown.unpacked.Given as goal
+
+abbrev pub invariant-loop-body : goal.invariant-loop-body
+invariant-loop-body l = inside l.inner ≡ inside l.value
