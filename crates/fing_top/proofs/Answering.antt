@@ -1,15 +1,19 @@
 -- What is compiled and what is verified is replied, and a source whose bytes are known is answered by its one reply.
 use Rattle.std.proofs.Common.{◌≡◌, ◌⊎◌, inl, inr, ℕ, List, [], ◌∷◌, ◌++◌, length, Option, Some, None, Ok, Err, Result, arith, refl, sym, ap, subst, ◌∙◌}
-use Rattle.std.specs.Prelude.{IfOk, IfErr, MatchResult}
+use Rattle.std.specs.Prelude.{IfOk, IfErr, codes}
 use Rattle.std.specs.Io.KnownBytes.{Consumes, IsAtEnd}
 use Rattle.std.proofs.lemmas.List.{append-nil}
 use Rattle.fing_text.specs.Told.{Told}
 use Rattle.fing_text.specs.Reads.{ReadAll}
-use Rattle.fing_text.specs.Writes.{Wrote}
+use Rattle.omega_types.specs.Ty.{Ty}
+use Rattle.omega_terms.specs.Term.{Term}
 use Rattle.omega_terms.specs.OmegaText.{omega_text}
+use Rattle.omega_terms.specs.Typing.{HasType}
+use Rattle.omega_checker.specs.Judgment.{Judgment}
 use Rattle.omega_read.specs.declared.whole.ReadRefusal.{ReadRefusal}
 use Rattle.omega_read.specs.declared.whole.ReadRefusal.TheVariants as read
-use Rattle.omega_read.specs.ReadAs.{RefusedAs}
+use Rattle.omega_read.specs.ReadAs.{RefusedAs, ReadAs}
+use Rattle.omega_spelling.specs.Refused.{IsVersion, IsTooDeep, IsWide, IsNotOmega}
 use Rattle.fing_elab.specs.declared.first.program.Bind.{Bind}
 use Rattle.fing_elab.specs.declared.first.elaboration.Elaborated.{Elaborated}
 use Rattle.fing_elab.specs.declared.first.refusal.Refused.{Refused}
@@ -24,9 +28,9 @@ use Rattle.fing_top.specs.declared.command.Command.TheVariants as command
 use Rattle.fing_top.specs.declared.status.Status.{Status}
 use Rattle.fing_top.specs.declared.status.Status.TheVariants as status
 use Rattle.fing_top.specs.Words.{word_of, Line}
-use Rattle.fing_top.specs.Reply.{Reply, accepted, refused, EmitReplies, VerifyReplies, Replies}
+use Rattle.fing_top.specs.Reply.{accepted, refused, EmitReplies, VerifyReplies}
 use Rattle.fing_top.specs.Verdict.{unread, verdict_line, HasLine as HasVerdict}
-use Rattle.fing_top.specs.Answer.{limit, Change, Output, Confirms, IsWritten, AnswersBytes, IsAnswered, Untouched, Completes}
+use Rattle.fing_top.specs.Answer.{limit, Change, Output, IsWritten, AnswersBytes, IsAnswered, Untouched, Completes}
 use Rattle.fing_top.proofs.Replies.{one_reply}
 
 -- ---- what is compiled is replied
@@ -52,21 +56,18 @@ reply_other bytes why.Mem n l = absurd l
 -- ---- what is not read is replied
 
 pub unread_replied : (bytes : List ℕ) (e : ReadRefusal) → RefusedAs bytes e → HasVerdict (unread e) → VerifyReplies bytes (refused (verdict_line (unread e)))
-unread_replied bytes read.NotOmega r l = VerifyReplies.no_text r
-unread_replied bytes read.Version r l = VerifyReplies.no_text r
-unread_replied bytes read.Wide r l = VerifyReplies.no_text r
-unread_replied bytes read.TooDeep r l = VerifyReplies.no_text r
+unread_replied bytes read.NotOmega r l = VerifyReplies.no_text IsNotOmega r
+unread_replied bytes read.Version r l = VerifyReplies.no_text IsVersion r
+unread_replied bytes read.Wide r l = VerifyReplies.no_text IsWide r
+unread_replied bytes read.TooDeep r l = VerifyReplies.no_text IsTooDeep r
 unread_replied bytes read.Mem r l = absurd l
 
--- ---- a reply that was written so is answered
+pub well_replied : (bytes : List ℕ) (t : Ty) (e : Term) (j : Judgment) → ReadAs bytes (Ok (t, e)) → j.term ≡ e → j.ty ≡ t → HasType [] [] e t → VerifyReplies bytes (accepted j.ty j.term (codes "well typed\n"))
+well_replied bytes t e j r p q h =
+    subst (λ (u : Ty). VerifyReplies bytes (accepted u j.term (codes "well typed\n"))) (sym q) (subst (λ (d : Term). VerifyReplies bytes (accepted t d (codes "well typed\n"))) (sym p) (VerifyReplies.well_typed r.1 r.0 h))
 
-pub answered : {T E : Type 0} (c : Command) (bytes : List ℕ) (out : Output) (r : Reply) (wrote : Result T E) (s : Status) → (r.status ≡ status.Ok) ⊎ (r.status ≡ status.Refused) → Replies c bytes r → Confirms out.confirmed r.confirmed → Wrote out.sink.old out.sink.new r.text wrote → MatchResult wrote (λ _. s ≡ r.status) (λ _. s ≡ status.WriteFault) → AnswersBytes c bytes out s
-answered c bytes out r (Ok x) s own p q w m = subst (λ (a : Status). AnswersBytes c bytes out a) (sym m) (whole own)
-  where
-    whole : (r.status ≡ status.Ok) ⊎ (r.status ≡ status.Refused) → AnswersBytes c bytes out r.status
-    whole (inl e) = subst (λ (a : Status). AnswersBytes c bytes out a) (sym e) (record { reply = r; replies = p; status = sym e; written = w; confirmed = q })
-    whole (inr e) = subst (λ (a : Status). AnswersBytes c bytes out a) (sym e) (record { reply = r; replies = p; status = sym e; written = w; confirmed = q })
-answered c bytes out r (Err x) s own p q w m = subst (λ (a : Status). AnswersBytes c bytes out a) (sym m) (record { reply = r; replies = p; written = w; confirmed = q })
+pub ill_replied : (bytes : List ℕ) (t : Ty) (e : Term) → ReadAs bytes (Ok (t, e)) → (HasType [] [] e t → ⊥) → VerifyReplies bytes (refused (codes "refused IllTyped\n"))
+ill_replied bytes t e r n = VerifyReplies.ill_typed r.1 r.0 n
 
 -- ---- one command line
 

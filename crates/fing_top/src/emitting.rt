@@ -50,8 +50,9 @@ pub fn emit<K: Sink>(
 ) -> Status
     requires { length bytes.now ≤ limit }
     ensures { AnswersBytes command.Emit bytes.now (record {
-        sink = record { old = K.told sink.old; new = K.told sink.new };
-        confirmed = record { old = confirmed.old; new = confirmed.new } }) result }
+      sink = record { old = K.told sink.old; new = K.told sink.new };
+      confirmed = record { old = confirmed.old; new = confirmed.new };
+    }) result }
 {
     match compiled(alloc, bytes) {
         Ok(whole) => match confirm(alloc, whole) {

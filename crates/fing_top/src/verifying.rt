@@ -95,8 +95,9 @@ pub fn verify<K: Sink>(
     confirmed: &mut Option<Checked>,
 ) -> Status
     ensures { AnswersBytes command.Verify bytes.now (record {
-        sink = record { old = K.told sink.old; new = K.told sink.new };
-        confirmed = record { old = confirmed.old; new = confirmed.new } }) result }
+      sink = record { old = K.told sink.old; new = K.told sink.new };
+      confirmed = record { old = confirmed.old; new = confirmed.new };
+    }) result }
 {
     match verified(alloc, bytes) {
         Ok(checked) => {
