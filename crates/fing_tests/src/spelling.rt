@@ -49,8 +49,11 @@ const TERMS: [&str; 25] = [
 ];
 
 // Each form of type, and each form of term, in one text.
-const ALL_TYPES: &str = "(all (> * *) (some * (-> (@ (lam * a2) int) (rec (.val bool) (x text) (y (@ a0 a1)) (z (rec))))))";
-const ALL_TERMS: &str = "(tfn * (call (fn (rec (x a0)) (open (pack a0 (get x0 x) (some * a1)) (if (< 1 -2) (rec (.gen (inst x0 a1)) (b \"b\")) false))) (fix int (-> int bool) (== (+ 1 (- 2 3)) (* 4 (/ 5 (% 6 x1)))))))";
+const ALL_TYPES: &str =
+    "(all (> * *) (some * (-> (@ (lam * a2) int) (rec (.val bool) (x text) (y (@ a0 a1)) (z (rec))))))";
+
+const ALL_TERMS: &str =
+    "(tfn * (call (fn (rec (x a0)) (open (pack a0 (get x0 x) (some * a1)) (if (< 1 -2) (rec (.gen (inst x0 a1)) (b \"b\")) false))) (fix int (-> int bool) (== (+ 1 (- 2 3)) (* 4 (/ 5 (% 6 x1)))))))";
 
 // The text of these two lines, read and written again.
 fn again(alloc: Global, ty: &str, term: &str) -> Result<bool, Fail> {

@@ -17,7 +17,10 @@ fn well_typed_texts(rt: HostRuntime) -> Result<(), Fail> {
     for text in WELL_TYPED {
         let found = verified(rt.alloc(), text.as_bytes())?;
         assert_eq!(rt; found.status, Status::Ok, "at {text}");
-        assert!(rt; found.written.as_slice() == b"well typed\n".as_slice(), "at {text}");
+        assert!(rt;
+            found.written.as_slice() == b"well typed\n".as_slice(),
+            "at {text}"
+        );
         assert!(rt; found.is_confirmed, "at {text}");
     }
     Ok(())
@@ -82,7 +85,10 @@ fn what_is_emitted_is_verified(rt: HostRuntime) -> Result<(), Fail> {
         assert!(rt; found.is_confirmed, "at {source}");
         for n in 0..text.written.len() {
             let front = verified(rt.alloc(), &text.written[..n])?;
-            assert!(rt; front.written.as_slice() == b"refused NotOmega\n".as_slice(), "at {source}");
+            assert!(rt;
+                front.written.as_slice() == b"refused NotOmega\n".as_slice(),
+                "at {source}"
+            );
         }
     }
     Ok(())
