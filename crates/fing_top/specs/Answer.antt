@@ -19,6 +19,9 @@ pub record Change (A : Type 0) : Type 0 where
   pub old : A
   pub new : A
 
+abbrev pub change : {A : Type 0} → (old new : A) → Change A
+change x y = record { old = x; new = y }
+
 abbrev pub Stands : {A : Type 0} → Change A → Type 0
 Stands c = c.new ≡ c.old
 
@@ -26,6 +29,9 @@ Stands c = c.new ≡ c.old
 pub record Output : Type 0 where
   pub sink : Change Told
   pub confirmed : Change (Option Judgment)
+
+abbrev pub output : Change Told → Change (Option Judgment) → Output
+output s c = record { sink = s; confirmed = c }
 
 -- nothing was written, and what was confirmed stands
 abbrev pub Untouched : Output → Type 0

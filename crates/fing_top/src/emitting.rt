@@ -5,7 +5,7 @@ ghost use Rattle.omega_terms.specs.OmegaText.{omega_text};
 ghost use Rattle.omega_terms.specs.Typing.{HasType};
 ghost use Rattle.fing_elab.specs.RefusalLine.{refusal_line, HasLine};
 ghost use Rattle.fing_top.specs.Reply.{accepted, refused, EmitReplies};
-ghost use Rattle.fing_top.specs.Answer.{limit, AnswersBytes};
+ghost use Rattle.fing_top.specs.Answer.{limit, AnswersBytes, change, output};
 ghost use Rattle.fing_top.specs.declared.command.Command.TheVariants as command;
 
 use crate::status::{Status, status_of};
@@ -49,10 +49,8 @@ pub fn emit<K: Sink>(
     confirmed: &mut Option<Checked>,
 ) -> Status
     requires { length bytes.now ≤ limit }
-    ensures { AnswersBytes command.Emit bytes.now (record {
-      sink = record { old = K.told sink.old; new = K.told sink.new };
-      confirmed = record { old = confirmed.old; new = confirmed.new };
-    }) result }
+    ensures { AnswersBytes command.Emit bytes.now
+        (output (change (K.told sink.old) (K.told sink.new)) (change confirmed.old confirmed.new)) result }
 {
     match compiled(alloc, bytes) {
         Ok(whole) => match confirm(alloc, whole) {

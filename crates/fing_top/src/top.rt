@@ -2,7 +2,7 @@
 ghost use Rattle.std.specs.Prelude.{◌≡◌, ◌≤◌, length, map};
 ghost use Rattle.std.specs.String.{string_bytes};
 ghost use Rattle.fing_top.specs.Reply.{OneReply};
-ghost use Rattle.fing_top.specs.Answer.{limit, AnswersBytes, Answers, Completes};
+ghost use Rattle.fing_top.specs.Answer.{limit, AnswersBytes, Answers, Completes, change, output};
 
 use crate::command::{Command, command_of};
 use crate::emitting::emit;
@@ -24,10 +24,8 @@ fn reply<K: Sink>(
     confirmed: &mut Option<Checked>,
 ) -> Status
     requires { length bytes.now ≤ limit }
-    ensures { AnswersBytes command bytes.now (record {
-      sink = record { old = K.told sink.old; new = K.told sink.new };
-      confirmed = record { old = confirmed.old; new = confirmed.new };
-    }) result }
+    ensures { AnswersBytes command bytes.now
+        (output (change (K.told sink.old) (K.told sink.new)) (change confirmed.old confirmed.new)) result }
 {
     match command {
         Command::Emit => emit(alloc, bytes, sink, confirmed),
@@ -55,14 +53,10 @@ pub fn fing<S: Source, K: Sink>(
     sink: &mut K,
     confirmed: &mut Option<Checked>,
 ) -> Status
-    ensures answers { Answers (map string_bytes words.now) (record { old = S.told source.old; new = S.told source.new }) (record {
-      sink = record { old = K.told sink.old; new = K.told sink.new };
-      confirmed = record { old = confirmed.old; new = confirmed.new };
-    }) result }
-    ensures completes { Completes (map string_bytes words.now) (record { old = S.told source.old; new = S.told source.new }) (record {
-      sink = record { old = K.told sink.old; new = K.told sink.new };
-      confirmed = record { old = confirmed.old; new = confirmed.new };
-    }) result }
+    ensures answers { Answers (map string_bytes words.now) (change (S.told source.old) (S.told source.new))
+        (output (change (K.told sink.old) (K.told sink.new)) (change confirmed.old confirmed.new)) result }
+    ensures completes { Completes (map string_bytes words.now) (change (S.told source.old) (S.told source.new))
+        (output (change (K.told sink.old) (K.told sink.new)) (change confirmed.old confirmed.new)) result }
 {
     let Some(command) = command_of(words) else {
         return Status::Words;

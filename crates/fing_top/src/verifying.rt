@@ -2,7 +2,7 @@
 ghost use Rattle.std.specs.Prelude.{codes, IfOk, IfErr};
 ghost use Rattle.fing_text.specs.Writes.{Wrote};
 ghost use Rattle.fing_top.specs.Reply.{accepted, refused, VerifyReplies};
-ghost use Rattle.fing_top.specs.Answer.{AnswersBytes};
+ghost use Rattle.fing_top.specs.Answer.{AnswersBytes, change, output};
 ghost use Rattle.fing_top.specs.Verdict.{HasLine, verdict_line};
 ghost use Rattle.fing_top.specs.declared.command.Command.TheVariants as command;
 
@@ -94,10 +94,8 @@ pub fn verify<K: Sink>(
     sink: &mut K,
     confirmed: &mut Option<Checked>,
 ) -> Status
-    ensures { AnswersBytes command.Verify bytes.now (record {
-      sink = record { old = K.told sink.old; new = K.told sink.new };
-      confirmed = record { old = confirmed.old; new = confirmed.new };
-    }) result }
+    ensures { AnswersBytes command.Verify bytes.now
+        (output (change (K.told sink.old) (K.told sink.new)) (change confirmed.old confirmed.new)) result }
 {
     match verified(alloc, bytes) {
         Ok(checked) => {
