@@ -22,6 +22,7 @@ fn main(rt: HostRuntime) -> ExitCode {
     };
     let mut source = StdSource::new(rt.stdin());
     let mut sink = StdSink::new(rt.stdout());
-    let status = fing(rt.alloc(), &words, &mut source, &mut sink);
+    let mut confirmed = None;
+    let status = fing(rt.alloc(), &words, &mut source, &mut sink, &mut confirmed);
     ExitCode::from(status as u8)
 }

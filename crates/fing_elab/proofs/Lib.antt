@@ -7,4 +7,5 @@ pub mod ElabSteps
 pub mod StructureSteps
 pub mod Closed
 pub mod OneMeaning
+pub mod Typed
 pub mod Examples

@@ -44,7 +44,7 @@ field_cases : {f : Field} {fs : List Field} {x : Name} {i : ℕ} → HasField (f
 field_cases HasField.here = inl refl
 field_cases (HasField.there h) = inr h
 
-field_above : (f : Field) (fs : List Field) (x : Name) (i : ℕ) → NamesRise (f ∷ fs) → HasField fs x i → name_before f.0 x ≡ true
+pub field_above : (f : Field) (fs : List Field) (x : Name) (i : ℕ) → NamesRise (f ∷ fs) → HasField fs x i → name_before f.0 x ≡ true
 field_above f _ _ _ r (HasField.here {f = g} {fs = []}) = r.0
 field_above f _ _ _ r (HasField.here {f = g} {fs = h ∷ hs}) = r.0
 field_above f _ x i r (HasField.there {f = g} {fs = fs} h) = name-transitive f.0 g.0 x r.0 (field_above g fs x i r.1 h)
@@ -64,7 +64,7 @@ later_field f g fs gs x i e r h k = by (field_cases k)
     by (inr d) = d
     by (inl d) = absurd (name-irreflexive x (subst (λ (y : Name). name_before y x ≡ true) (ap (λ (a : Field). a.0) (e ∙ d)) (field_above f fs x i r h)))
 
-names_rise_rest : (f : Field) (fs : List Field) → NamesRise (f ∷ fs) → NamesRise fs
+pub names_rise_rest : (f : Field) (fs : List Field) → NamesRise (f ∷ fs) → NamesRise fs
 names_rise_rest f [] r = tt
 names_rise_rest f (g ∷ fs) r = r.1
 

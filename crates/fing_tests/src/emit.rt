@@ -45,6 +45,7 @@ fn replies(rt: HostRuntime) -> Result<(), Fail> {
         let found = emitted(rt.alloc(), source.as_bytes())?;
         assert_eq!(rt; found.status, status, "at {source}");
         assert!(rt; found.written.as_slice() == text.as_bytes(), "at {source}");
+        assert_eq!(rt; found.is_confirmed, status == Status::Ok, "at {source}");
     }
     Ok(())
 }

@@ -17,17 +17,20 @@ fn sink(alloc: Global) -> Result<MemSink, Fail> {
 
 #[test]
 fn other_words(rt: HostRuntime) -> Result<(), Fail> {
-    let lines: [&[&str]; 5] = [
+    let lines: [&[&str]; 7] = [
         &[],
         &["check"],
         &["emit", "1"],
         &["emit", "--budget", "1"],
         &["Emit"],
+        &["verify", "1"],
+        &["emit", "verify"],
     ];
     for words in lines {
         let found = run(rt.alloc(), words, sum(rt.alloc())?, sink(rt.alloc())?)?;
         assert_eq!(rt; found.status, Status::Words);
         assert!(rt; found.written.is_empty());
+        assert!(rt; !found.is_confirmed);
     }
     Ok(())
 }

@@ -11,3 +11,7 @@ mod emit;
 mod faults;
 #[cfg(test)]
 mod runs;
+#[cfg(test)]
+mod spelling;
+#[cfg(test)]
+mod verify;

@@ -4,11 +4,12 @@ use fing_top::{Status, fing};
 use std::alloc::Global;
 use std::test::Fail;
 
-/// What the program answers, and what it writes.
+/// What the program answers, what it writes, and whether the checker confirmed a term.
 #[derive(Debug, Drop)]
 pub struct Answer {
     pub status: Status,
     pub written: Vec<u8>,
+    pub is_confirmed: bool,
 }
 
 /// The program's answer to the words, a source and a sink.
@@ -22,16 +23,28 @@ pub fn run(
     for word in words {
         line.push(word.to_string(alloc)?)?;
     }
-    let status = fing(alloc, &line, &mut source, &mut sink);
+    let mut confirmed = None;
+    let status = fing(alloc, &line, &mut source, &mut sink, &mut confirmed);
     Ok(Answer {
         status,
         written: sink.bytes().to_vec(alloc)?,
+        is_confirmed: confirmed.is_some(),
     })
+}
+
+// The answer of a command to a source in one piece, with room for the reply.
+fn answered(alloc: Global, command: &str, source: &[u8]) -> Result<Answer, Fail> {
+    let source = MemSource::new(source.to_vec(alloc)?, 4096, Vec::new(alloc));
+    let sink = MemSink::new(alloc, 65536, 4096, Vec::new(alloc))?;
+    run(alloc, &[command], source, sink)
 }
 
 /// The answer of `emit` to a source in one piece, with room for the reply.
 pub fn emitted(alloc: Global, source: &[u8]) -> Result<Answer, Fail> {
-    let source = MemSource::new(source.to_vec(alloc)?, 4096, Vec::new(alloc));
-    let sink = MemSink::new(alloc, 65536, 4096, Vec::new(alloc))?;
-    run(alloc, &["emit"], source, sink)
+    answered(alloc, "emit", source)
+}
+
+/// The answer of `verify` to a source in one piece, with room for the reply.
+pub fn verified(alloc: Global, source: &[u8]) -> Result<Answer, Fail> {
+    answered(alloc, "verify", source)
 }

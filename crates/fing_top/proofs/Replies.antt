@@ -1,29 +1,23 @@
--- Bytes have at most one reply, and a source whose bytes are known is answered by it.
-use Rattle.std.proofs.Common.{◌≡◌, inl, inr, ℕ, ◌≤◌, ◌<◌, List, [], ◌∷◌, ◌++◌, length, Option, Some, None, Ok, Err, Result, get_or, arith, refl, sym, ap, ap₂, subst, ◌∙◌}
-use Rattle.std.specs.Prelude.{IfOk, IfErr, map}
-use Rattle.std.specs.Io.KnownBytes.{Consumes, IsAtEnd}
-use Rattle.std.proofs.lemmas.List.{append-nil}
+-- A command has at most one reply to bytes.
+use Rattle.std.proofs.Common.{◌≡◌, ℕ, List, [], refl, sym, ap, ap₂, subst, ◌∙◌}
+use Rattle.std.specs.Prelude.{codes}
 use Rattle.fing_text.specs.declared.span.Span.{Span}
-use Rattle.fing_text.specs.Reads.{ReadAll}
-use Rattle.fing_text.specs.Writes.{Grew}
 use Rattle.omega_kinds.specs.Name.{Name}
 use Rattle.omega_types.specs.Ty.{Ty}
 use Rattle.omega_terms.specs.Term.{Term}
 use Rattle.omega_terms.specs.OmegaText.{omega_text}
+use Rattle.omega_terms.specs.Typing.{HasType}
+use Rattle.omega_spelling.specs.Omega.{OmegaText}
+use Rattle.omega_spelling.specs.Refused.{Refused}
+use Rattle.omega_spelling.proofs.Texts.{one-text}
+use Rattle.omega_spelling.proofs.Refusing.{exclusive}
+use Rattle.omega_spelling.proofs.Answering.{unrefused}
 use Rattle.fing_elab.specs.declared.first.program.Bind.{Bind}
-use Rattle.fing_elab.specs.declared.first.elaboration.Elaborated.{Elaborated}
-use Rattle.fing_elab.specs.declared.first.refusal.Refused.{Refused}
-use Rattle.fing_elab.specs.declared.first.refusal.Refused.TheVariants as refused
-use Rattle.fing_elab.specs.Bindings.{Spells}
 use Rattle.fing_elab.specs.BindingRules.{Gives, IsUnbound}
-use Rattle.fing_elab.specs.Elaborating.{ElabRefuses}
-use Rattle.fing_elab.specs.Reading.{ParseRefuses}
-use Rattle.fing_elab.specs.RefusalLine.{unbound_line, refusal_line, HasLine}
+use Rattle.fing_elab.specs.RefusalLine.{unbound_line}
 use Rattle.fing_elab.proofs.OneMeaning.{gives_one, gives_bound, unbound_one, spells_one}
-use Rattle.fing_top.specs.declared.status.Status.{Status}
-use Rattle.fing_top.specs.declared.status.Status.TheVariants as status
-use Rattle.fing_top.specs.Reply.{Reply, OneReply}
-use Rattle.fing_top.specs.Answer.{limit, Change, IsWritten, Emits, IsAnswered, Completes}
+use Rattle.fing_top.specs.declared.command.Command.TheVariants as command
+use Rattle.fing_top.specs.Reply.{Reply, accepted, refused, EmitReplies, VerifyReplies, text_line, OneReply}
 
 program_of : {ps qs : List Bind} {t : Ty} {e : Term} → ps ≡ qs → Gives [] qs t e → Gives [] ps t e
 program_of {ps} {qs} {t} {e} s g = subst (λ (bs : List Bind). Gives [] bs t e) (sym s) g
@@ -31,69 +25,35 @@ program_of {ps} {qs} {t} {e} s g = subst (λ (bs : List Bind). Gives [] bs t e) 
 refusal_of : {ps qs : List Bind} {x : Name} {at : Span} → ps ≡ qs → IsUnbound [] qs x at → IsUnbound [] ps x at
 refusal_of {ps} {qs} {x} {at} s u = subst (λ (bs : List Bind). IsUnbound [] bs x at) (sym s) u
 
+emit_one : (bytes : List ℕ) (r s : Reply) → EmitReplies bytes r → EmitReplies bytes s → s ≡ r
+emit_one bytes r s (EmitReplies.emitted p g) (EmitReplies.emitted q h) = let same = gives_one g (program_of (spells_one p q) h) in sym (ap₂ (λ (t : Ty) (e : Term). accepted t e (omega_text t e)) same.0 same.1)
+emit_one bytes r s (EmitReplies.emitted p g) (EmitReplies.unbound q u) = absurd (gives_bound g (refusal_of (spells_one p q) u))
+emit_one bytes r s (EmitReplies.emitted {program = ps} p g) (EmitReplies.later n) = absurd (n ps p)
+emit_one bytes r s (EmitReplies.unbound p u) (EmitReplies.emitted q h) = absurd (gives_bound (program_of (spells_one p q) h) u)
+emit_one bytes r s (EmitReplies.unbound p u) (EmitReplies.unbound q v) = let same = unbound_one u (refusal_of (spells_one p q) v) in sym (ap₂ (λ (at : Span) (x : Name). refused (unbound_line at x)) same.1 same.0)
+emit_one bytes r s (EmitReplies.unbound {program = ps} p u) (EmitReplies.later n) = absurd (n ps p)
+emit_one bytes r s (EmitReplies.later n) (EmitReplies.emitted {program = qs} q h) = absurd (n qs q)
+emit_one bytes r s (EmitReplies.later n) (EmitReplies.unbound {program = qs} q v) = absurd (n qs q)
+emit_one bytes r s (EmitReplies.later n) (EmitReplies.later m) = refl
+
+-- a text is the text of one type and one term
+text_one : {bytes : List ℕ} {t u : Ty} {e d : Term} → OmegaText bytes t e → OmegaText bytes u d → (t ≡ u) × (e ≡ d)
+text_one {bytes} {t} {u} {e} {d} p q = one-text t u e d p.type_spelled q.type_spelled p.term_spelled q.term_spelled (sym p.text ∙ q.text)
+
+typed_again : {bytes : List ℕ} {t u : Ty} {e d : Term} → OmegaText bytes t e → OmegaText bytes u d → HasType [] [] e t → HasType [] [] d u
+typed_again {bytes} {t} {u} {e} {d} p q h = let same = text_one p q in subst (λ (v : Ty). HasType [] [] d v) same.0 (subst (λ (w : Term). HasType [] [] w t) same.1 h)
+
+verify_one : (bytes : List ℕ) (r s : Reply) → VerifyReplies bytes r → VerifyReplies bytes s → s ≡ r
+verify_one bytes r s (VerifyReplies.well_typed p _ h) (VerifyReplies.well_typed q _ i) = let same = text_one p q in sym (ap₂ (λ (t : Ty) (e : Term). accepted t e (codes "well typed\n")) same.0 same.1)
+verify_one bytes r s (VerifyReplies.well_typed p _ h) (VerifyReplies.ill_typed q _ n) = absurd (n (typed_again p q h))
+verify_one bytes r s (VerifyReplies.well_typed {t = t} {e = e} p d h) (VerifyReplies.no_text why w) = absurd (unrefused bytes t e p d why w)
+verify_one bytes r s (VerifyReplies.ill_typed p _ n) (VerifyReplies.well_typed q _ i) = absurd (n (typed_again q p i))
+verify_one bytes r s (VerifyReplies.ill_typed p _ n) (VerifyReplies.ill_typed q _ m) = refl
+verify_one bytes r s (VerifyReplies.ill_typed {t = t} {e = e} p d n) (VerifyReplies.no_text why w) = absurd (unrefused bytes t e p d why w)
+verify_one bytes r s (VerifyReplies.no_text why w) (VerifyReplies.well_typed {t = t} {e = e} q d i) = absurd (unrefused bytes t e q d why w)
+verify_one bytes r s (VerifyReplies.no_text why w) (VerifyReplies.ill_typed {t = t} {e = e} q d n) = absurd (unrefused bytes t e q d why w)
+verify_one bytes r s (VerifyReplies.no_text why w) (VerifyReplies.no_text other v) = ap (λ (x : Refused). refused (text_line x)) (exclusive bytes other why v w)
+
 pub one_reply : OneReply
-one_reply bytes answer text (Reply.emitted p g) other words (Reply.emitted q h) = let same = gives_one g (program_of (spells_one p q) h) in (refl, sym (ap₂ omega_text same.0 same.1))
-one_reply bytes answer text (Reply.emitted p g) other words (Reply.unbound q u) = absurd (gives_bound g (refusal_of (spells_one p q) u))
-one_reply bytes answer text (Reply.emitted {program = ps} p g) other words (Reply.later n) = absurd (n ps p)
-one_reply bytes answer text (Reply.unbound p u) other words (Reply.emitted q h) = absurd (gives_bound (program_of (spells_one p q) h) u)
-one_reply bytes answer text (Reply.unbound p u) other words (Reply.unbound q v) = let same = unbound_one u (refusal_of (spells_one p q) v) in (refl, sym (ap₂ unbound_line same.1 same.0))
-one_reply bytes answer text (Reply.unbound {program = ps} p u) other words (Reply.later n) = absurd (n ps p)
-one_reply bytes answer text (Reply.later n) other words (Reply.emitted {program = qs} q h) = absurd (n qs q)
-one_reply bytes answer text (Reply.later n) other words (Reply.unbound {program = qs} q v) = absurd (n qs q)
-one_reply bytes answer text (Reply.later n) other words (Reply.later m) = (refl, refl)
-
--- ---- what is compiled is replied
-
-pub reply_ok : (bytes : List ℕ) (program : List Bind) → Spells bytes program → (r : Result Elaborated Refused) → IfOk r (λ e. Gives [] program e.ty e.term) → IfOk r (λ e. Reply bytes status.Ok (omega_text e.ty e.term))
-reply_ok bytes program p (Ok e) g = Reply.emitted p g
-reply_ok bytes program p (Err e) g = tt
-
-reply_why : (bytes : List ℕ) (program : List Bind) → Spells bytes program → (why : Refused) → ElabRefuses program why → HasLine why → Reply bytes status.Refused (refusal_line why)
-reply_why bytes program p refused.Later u l = absurd u
-reply_why bytes program p (refused.Unbound at name) u l = Reply.unbound p u
-reply_why bytes program p refused.Mem u l = absurd l
-
-pub reply_err : (bytes : List ℕ) (program : List Bind) → Spells bytes program → (r : Result Elaborated Refused) → IfErr r (λ why. ElabRefuses program why) → IfErr r (λ why. HasLine why → Reply bytes status.Refused (refusal_line why))
-reply_err bytes program p (Ok e) u = tt
-reply_err bytes program p (Err why) u = reply_why bytes program p why u
-
-pub reply_other : (bytes : List ℕ) (why : Refused) → ParseRefuses bytes why → HasLine why → Reply bytes status.Refused (refusal_line why)
-reply_other bytes refused.Later n l = Reply.later n
-reply_other bytes (refused.Unbound at name) n l = absurd n
-reply_other bytes refused.Mem n l = absurd l
-
--- ---- a source whose bytes are known
-
-whole_read : (a b : Option (List ℕ)) (bytes read : List ℕ) → a ≡ Some bytes → Consumes a b read → IsAtEnd b → read ≡ bytes
-whole_read None b bytes read e c z = absurd (cc)
-whole_read (Some xs) None bytes read e c z = elim c [ ]
-whole_read (Some xs) (Some ys) bytes read e c z =
-    sym (append-nil read) ∙ ap (λ (w : List ℕ). read ++ w) (sym z) ∙ sym c ∙ ap (λ (o : Option (List ℕ)). elim o [ None ↦ xs | Some w ↦ w ]) e
-
-pub completes : (words : List (List ℕ)) (source sink : Change) (read : List ℕ) (answer : Status) → ReadAll source.old source.new limit read → Emits read sink answer → Completes words source sink answer
-completes words source sink read answer r e bytes text wanted l known within quiet silent reply =
-    by answer (subst (λ (bs : List ℕ). Emits bs sink answer) (whole_read source.old.bytes source.new.bytes bytes read known r.lost.taken r.last) e)
-  where
-    written : (a : Status) → IsWritten bytes sink a → IsAnswered sink a wanted text
-    written a w = let same = one_reply bytes wanted text reply a w.text w.reply in inl (same.0, subst (λ (t : List ℕ). Grew sink.old sink.new t) same.1 w.written)
-
-    by : (a : Status) → Emits bytes sink a → IsAnswered sink a wanted text
-    by status.Ok w = written status.Ok w
-    by status.Refused w = written status.Refused w
-    by status.WriteFault w = absurd (silent w.written.rose)
-    by status.NoMemory w = inr (refl, w)
-    by status.Words w = absurd w
-    by status.Faulted w = absurd w
-    by status.Spent w = absurd w
-    by status.ReadFault w = absurd w
-    by status.TooLong w = absurd w
-
--- ---- one word
-
-pub one_word : {W : Type 0} (f : W → List ℕ) (ws : List W) (w : W) (text : List ℕ) → 1 ≤ length ws → length ws < 2 → w ≡ get_or ws 0 w → text ≡ f w → map f ws ≡ text ∷ []
-one_word f [] w text a b e t = absurd (omega (arith, a))
-one_word f (x ∷ y ∷ ws) w text a b e t = absurd (omega (arith, b))
-one_word f (x ∷ []) w text a b e t = ap (λ (l : List ℕ). l ∷ []) (ap f (sym e) ∙ sym t)
-
-pub first_word : (ws : List (List ℕ)) (x y : List ℕ) → ws ≡ x ∷ [] → ws ≡ y ∷ [] → x ≡ y
-first_word ws x y e f = ap (λ (l : List (List ℕ)). elim l [ [] ↦ x | (z ∷ zs) ↦ z ]) (sym e ∙ f)
+one_reply command.Emit bytes reply other p q = emit_one bytes reply other p q
+one_reply command.Verify bytes reply other p q = verify_one bytes reply other p q

@@ -1,71 +1,102 @@
--- What the top call answers, by what it read and wrote.
-use Rattle.std.specs.Prelude.{◌≡◌, ◌⊎◌, ℕ, ◌≤◌, List, length, Some}
+-- What the top call answers, by what it read, wrote and confirmed.
+use Rattle.std.specs.Prelude.{◌≡◌, ◌⊎◌, ℕ, ◌≤◌, List, length, Option, Some, None}
 use Rattle.fing_text.specs.Told.{Told, Rose}
 use Rattle.fing_text.specs.Reads.{ReadAll, TookMore, TookSome}
 use Rattle.fing_text.specs.Writes.{Grew, Broke}
+use Rattle.omega_checker.specs.Judgment.{Judgment}
+use Rattle.fing_top.specs.declared.command.Command.{Command}
 use Rattle.fing_top.specs.declared.status.Status.{Status}
 use Rattle.fing_top.specs.declared.status.Status.TheVariants as status
-use Rattle.fing_top.specs.Reply.{IsLine, Reply}
+use Rattle.fing_top.specs.Words.{Line, IsLine}
+use Rattle.fing_top.specs.Reply.{Reply, Replies, IsOnlyReply}
 
 -- the most bytes that a source has
 abbrev pub limit : ℕ
 limit = 1048576
 
--- what a source or a sink tells before the call and after it
-pub record Change : Type 0 where
-  pub old : Told
-  pub new : Told
+-- a value before the call and after it
+pub record Change (A : Type 0) : Type 0 where
+  pub old : A
+  pub new : A
 
-abbrev pub Stands : Change → Type 0
+abbrev pub change : {A : Type 0} → (old new : A) → Change A
+change x y = record { old = x; new = y }
+
+abbrev pub Stands : {A : Type 0} → Change A → Type 0
 Stands c = c.new ≡ c.old
 
+-- what a call leaves behind: what the sink tells, and the term and type that the checker confirmed
+pub record Output : Type 0 where
+  pub sink : Change Told
+  pub confirmed : Change (Option Judgment)
+
+abbrev pub output : Change Told → Change (Option Judgment) → Output
+output s c = record { sink = s; confirmed = c }
+
+-- nothing was written, and what was confirmed stands
+abbrev pub Untouched : Output → Type 0
+Untouched out = Stands out.sink × Stands out.confirmed
+
+-- what the reply confirms is handed out; where it confirms nothing, what was confirmed stands
+abbrev pub Confirms : Change (Option Judgment) → Option Judgment → Type 0
+Confirms c None = Stands c
+Confirms c (Some j) = c.new ≡ Some j
+
 -- the reply to the bytes was written whole
-pub record IsWritten (bytes : List ℕ) (sink : Change) (answer : Status) : Type 0 where
-  pub text : List ℕ
-  pub reply : Reply bytes answer text
-  pub written : Grew sink.old sink.new text
+pub record IsWritten (c : Command) (bytes : List ℕ) (out : Output) (answer : Status) : Type 0 where
+  pub reply : Reply
+  pub replies : Replies c bytes reply
+  pub status : answer ≡ reply.status
+  pub written : Grew out.sink.old out.sink.new reply.text
+  pub confirmed : Confirms out.confirmed reply.confirmed
 
 -- the sink failed, and a front of the reply to the bytes was written
-pub record IsBroken (bytes : List ℕ) (sink : Change) : Type 0 where
-  pub answer : Status
-  pub text : List ℕ
-  pub reply : Reply bytes answer text
-  pub written : Broke sink.old sink.new text
+pub record IsBroken (c : Command) (bytes : List ℕ) (out : Output) : Type 0 where
+  pub reply : Reply
+  pub replies : Replies c bytes reply
+  pub written : Broke out.sink.old out.sink.new reply.text
+  pub confirmed : Confirms out.confirmed reply.confirmed
 
--- what is answered and written for all the bytes of a source
-abbrev pub Emits : List ℕ → (sink : Change) → Status → Type 0
-Emits bytes sink status.Ok = IsWritten bytes sink status.Ok
-Emits bytes sink status.Refused = IsWritten bytes sink status.Refused
-Emits bytes sink status.WriteFault = IsBroken bytes sink
-Emits bytes sink status.NoMemory = Stands sink
-Emits bytes sink _ = ⊥
+-- what is answered, written and confirmed for all the bytes of a source
+abbrev pub AnswersBytes : Command → List ℕ → Output → Status → Type 0
+AnswersBytes c bytes out status.Ok = IsWritten c bytes out status.Ok
+AnswersBytes c bytes out status.Refused = IsWritten c bytes out status.Refused
+AnswersBytes c bytes out status.WriteFault = IsBroken c bytes out
+AnswersBytes c bytes out status.NoMemory = Untouched out
+AnswersBytes c bytes out _ = ⊥
 
--- the whole source was read, and its bytes were answered so
-pub record IsReplied (source sink : Change) (answer : Status) : Type 0 where
+-- the words are a command line, the whole source was read, and its bytes were answered so
+pub record IsReplied (words : List (List ℕ)) (source : Change Told) (out : Output) (answer : Status) : Type 0 where
+  pub command : Command
+  pub line : Line words command
   pub bytes : List ℕ
   pub read : ReadAll source.old source.new limit bytes
-  pub emitted : Emits bytes sink answer
+  pub answered : AnswersBytes command bytes out answer
 
 -- the cause of each answer
-abbrev pub Answers : List (List ℕ) → (source sink : Change) → Status → Type 0
-Answers words source sink status.Ok = IsLine words × IsReplied source sink status.Ok
-Answers words source sink status.Refused = IsLine words × IsReplied source sink status.Refused
-Answers words source sink status.Words = (IsLine words → ⊥) × Stands source × Stands sink
-Answers words source sink status.Faulted = ⊥
-Answers words source sink status.Spent = ⊥
-Answers words source sink status.ReadFault = IsLine words × TookSome source.old source.new × Rose source.old.faults source.new.faults × Stands sink
-Answers words source sink status.WriteFault = IsLine words × IsReplied source sink status.WriteFault
-Answers words source sink status.NoMemory = Stands sink
-Answers words source sink status.TooLong = IsLine words × TookMore source.old source.new limit × Stands sink
+abbrev pub Answers : List (List ℕ) → (source : Change Told) → Output → Status → Type 0
+Answers words source out status.Ok = IsReplied words source out status.Ok
+Answers words source out status.Refused = IsReplied words source out status.Refused
+Answers words source out status.Words = (IsLine words → ⊥) × Stands source × Untouched out
+Answers words source out status.Faulted = ⊥
+Answers words source out status.Spent = ⊥
+Answers words source out status.ReadFault = IsLine words × TookSome source.old source.new × Rose source.old.faults source.new.faults × Untouched out
+Answers words source out status.WriteFault = IsReplied words source out status.WriteFault
+Answers words source out status.NoMemory = Untouched out
+Answers words source out status.TooLong = IsLine words × TookMore source.old source.new limit × Untouched out
 
--- the answer is this one and its text was written whole, or there was no memory and nothing was written
-abbrev pub IsAnswered : (sink : Change) (answer wanted : Status) → List ℕ → Type 0
-IsAnswered sink answer wanted text = (answer ≡ wanted) × Grew sink.old sink.new text ⊎ (answer ≡ status.NoMemory) × Stands sink
+-- the answer is the status of the one reply to the bytes, its text was written whole, and what it confirms was handed out
+pub record IsAnswered (c : Command) (bytes : List ℕ) (out : Output) (answer : Status) : Type 0 where
+  pub reply : Reply
+  pub one : IsOnlyReply c bytes reply
+  pub status : answer ≡ reply.status
+  pub written : Grew out.sink.old out.sink.new reply.text
+  pub confirmed : Confirms out.confirmed reply.confirmed
 
--- where the words are a command line, the source's bytes are known and within the limit, and no count rises, the answer
--- is the reply to these bytes
-abbrev pub Completes : List (List ℕ) → (source sink : Change) → Status → Type 0
-Completes words source sink answer =
-    (bytes text : List ℕ) (wanted : Status) → IsLine words → source.old.bytes ≡ Some bytes → length bytes ≤ limit
-    → (Rose source.old.faults source.new.faults → ⊥) → (Rose sink.old.faults sink.new.faults → ⊥) → Reply bytes wanted text
-    → IsAnswered sink answer wanted text
+-- where the words are a command line, the source's bytes are known and within the limit, and no count rises, these bytes
+-- are answered, or there was no memory and nothing was written
+abbrev pub Completes : List (List ℕ) → (source : Change Told) → Output → Status → Type 0
+Completes words source out answer =
+    (c : Command) (bytes : List ℕ) → Line words c → source.old.bytes ≡ Some bytes → length bytes ≤ limit
+    → (Rose source.old.faults source.new.faults → ⊥) → (Rose out.sink.old.faults out.sink.new.faults → ⊥)
+    → IsAnswered c bytes out answer ⊎ (answer ≡ status.NoMemory) × Untouched out

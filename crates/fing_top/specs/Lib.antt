@@ -1,2 +1,4 @@
+pub mod Words
 pub mod Reply
+pub mod Verdict
 pub mod Answer

@@ -1,4 +1,8 @@
 // The statuses of the program.
+ghost use Rattle.std.specs.Prelude.{◌≡◌, MatchResult};
+ghost use Rattle.fing_top.specs.declared.status.Status.TheVariants as answer;
+
+use fing_text::WriteFault;
 
 /// How the program ends; each is the exit status of its number. `Faulted` and `Spent` belong to commands that are not
 /// built yet.
@@ -22,4 +26,14 @@ pub enum Status {
     NoMemory = 7,
     /// The source has more than 1,048,576 bytes.
     TooLong = 8,
+}
+
+/// The status of a reply that was written so.
+pub fn status_of(wrote: Result<(), WriteFault>, status: Status) -> Status
+    ensures { MatchResult wrote (λ _. result ≡ status) (λ _. result ≡ answer.WriteFault) }
+{
+    match wrote {
+        Ok(()) => status,
+        Err(WriteFault) => Status::WriteFault,
+    }
 }

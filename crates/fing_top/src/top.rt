@@ -1,69 +1,47 @@
 // The top call.
-ghost use Rattle.std.specs.Prelude.{◌≡◌, ◌↔◌, ◌≤◌, length, map, IsTrue, IfOk, IfErr, MatchResult};
+ghost use Rattle.std.specs.Prelude.{◌≡◌, ◌≤◌, length, map};
 ghost use Rattle.std.specs.String.{string_bytes};
-ghost use Rattle.omega_terms.specs.InScope.{TyInScope, TermInScope};
-ghost use Rattle.omega_terms.specs.OmegaText.{omega_text};
-ghost use Rattle.fing_elab.specs.RefusalLine.{refusal_line, HasLine};
-ghost use Rattle.fing_top.specs.Reply.{IsLine, Reply, OneReply};
-ghost use Rattle.fing_top.specs.Answer.{limit, Emits, Answers, Completes};
-ghost use Rattle.fing_top.specs.declared.status.Status.TheVariants as answer;
+ghost use Rattle.fing_top.specs.Reply.{OneReply};
+ghost use Rattle.fing_top.specs.Answer.{limit, AnswersBytes, Answers, Completes, change, output};
 
+use crate::command::{Command, command_of};
+use crate::emitting::emit;
 use crate::status::Status;
-use fing_elab::first::{Elaborated, Refused, elab, parse, write_line};
-use fing_text::{ReadEnd, Sink, Source, WriteFault, read_all};
-use omega_write::write_omega;
+use crate::verifying::verify;
+use fing_text::{ReadEnd, Sink, Source, read_all};
+use omega_checker::Checked;
 use std::alloc::Global;
 
 // The most bytes that a source has.
 const LIMIT: usize = 1048576;
 
-// Whether the words are a command line.
-fn is_line(words: &[String]) -> bool
-    ensures { IsTrue result ↔ IsLine (map string_bytes words.now) }
-{
-    match words {
-        [command] => command.as_str() == "emit",
-        _ => false,
-    }
-}
-
-// The type and the term of a source's bytes, or why they are refused.
-fn compiled(alloc: Global, bytes: &[u8]) -> Result<Elaborated, Refused>
+// Answers a command for all the bytes of a source.
+fn reply<K: Sink>(
+    alloc: Global,
+    command: Command,
+    bytes: &[u8],
+    sink: &mut K,
+    confirmed: &mut Option<Checked>,
+) -> Status
     requires { length bytes.now ≤ limit }
-    ensures emitted { IfOk result (λ e. Reply bytes.now answer.Ok (omega_text e.ty e.term)) }
-    ensures closed { IfOk result (λ e. TyInScope 0 e.ty × TermInScope 0 0 e.term) }
-    ensures refused { IfErr result (λ why. HasLine why → Reply bytes.now answer.Refused (refusal_line why)) }
+    ensures { AnswersBytes command bytes.now
+        (output (change (K.told sink.old) (K.told sink.new)) (change confirmed.old confirmed.new)) result }
 {
-    let program = parse(alloc, bytes)?;
-    elab(alloc, &program)
-}
-
-// The status of a reply that was written so.
-fn status_of(wrote: Result<(), WriteFault>, status: Status) -> Status
-    ensures { MatchResult wrote (λ _. result ≡ status) (λ _. result ≡ answer.WriteFault) }
-{
-    match wrote {
-        Ok(()) => status,
-        Err(WriteFault) => Status::WriteFault,
-    }
-}
-
-// Answers `emit` for all the bytes of a source.
-fn emit<K: Sink>(alloc: Global, bytes: &[u8], sink: &mut K) -> Status
-    requires { length bytes.now ≤ limit }
-    ensures { Emits bytes.now (record { old = K.told sink.old; new = K.told sink.new }) result }
-{
-    match compiled(alloc, bytes) {
-        Ok(whole) => status_of(write_omega(sink, &whole.ty, &whole.term), Status::Ok),
-        Err(Refused::Mem) => Status::NoMemory,
-        Err(refusal) => status_of(write_line(sink, &refusal), Status::Refused),
+    match command {
+        Command::Emit => emit(alloc, bytes, sink, confirmed),
+        Command::Verify => verify(alloc, bytes, sink, confirmed),
     }
 }
 
 /// Does all that the program does: `words` are those after the program's name.
 ///
-/// For the command line `emit` it reads the source to its end and writes the Omega text of the program's type and
-/// term with status `Ok`, or the line of its refusal with status `Refused`. The other statuses come in this order:
+/// It reads the source to its end. For the command line `emit` it writes the Omega text of the program's type and term
+/// with status `Ok`, or the line of its refusal with status `Refused`; the checker confirms the term before anything is
+/// written. For `verify`, whose source is Omega text, it writes `well typed` with status `Ok`, or the line of the first
+/// refusal with status `Refused`. Where the reply's own status is `Ok`, `confirmed` becomes what the checker made of the
+/// term and the type that were derived or read; else it stands as it was.
+///
+/// The other statuses come in this order:
 /// `Words` exactly where the words are no command line; `ReadFault` only where a read failed; `TooLong` exactly where
 /// the source has more than 1,048,576 bytes; `WriteFault`, in place of the reply's own status, only where a write
 /// failed. `NoMemory` is want of memory. With `Words`, `ReadFault`, `TooLong` and `NoMemory` nothing is written, and with
@@ -73,24 +51,25 @@ pub fn fing<S: Source, K: Sink>(
     words: &[String],
     source: &mut S,
     sink: &mut K,
+    confirmed: &mut Option<Checked>,
 ) -> Status
-    ensures answers { Answers (map string_bytes words.now) (record { old = S.told source.old; new = S.told source.new })
-        (record { old = K.told sink.old; new = K.told sink.new }) result }
-    ensures completes { Completes (map string_bytes words.now) (record { old = S.told source.old; new = S.told source.new })
-        (record { old = K.told sink.old; new = K.told sink.new }) result }
+    ensures answers { Answers (map string_bytes words.now) (change (S.told source.old) (S.told source.new))
+        (output (change (K.told sink.old) (K.told sink.new)) (change confirmed.old confirmed.new)) result }
+    ensures completes { Completes (map string_bytes words.now) (change (S.told source.old) (S.told source.new))
+        (output (change (K.told sink.old) (K.told sink.new)) (change confirmed.old confirmed.new)) result }
 {
-    if !is_line(words) {
+    let Some(command) = command_of(words) else {
         return Status::Words;
-    }
+    };
     match read_all(alloc, source, LIMIT) {
-        Ok(bytes) => emit(alloc, &bytes, sink),
+        Ok(bytes) => reply(alloc, command, &bytes, sink, confirmed),
         Err(ReadEnd::ReadFault) => Status::ReadFault,
         Err(ReadEnd::TooLong) => Status::TooLong,
         Err(ReadEnd::Mem) => Status::NoMemory,
     }
 }
 
-/// The bytes of a source have at most one reply.
+/// A command has at most one reply to bytes.
 pub fn one_reply()
     ensures { OneReply }
 {}

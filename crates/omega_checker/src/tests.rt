@@ -1,8 +1,8 @@
 // Worked examples, with terms and types as they are written beside them, and a large term.
 use crate::check;
-use omega_kinds::{Kind, Mem, arrow};
-use omega_terms::{Op, Term, TermNode};
-use omega_types::{Ty, TyNode};
+use omega_kinds::{Kind, Label, Mem, arrow, name_of};
+use omega_terms::{Op, Term, TermFields, TermNode};
+use omega_types::{Ty, TyFields, TyNode};
 use std::alloc::Global;
 use std::test::Fail;
 
@@ -78,6 +78,37 @@ fn types_are_compared_by_their_normal_forms(rt: HostRuntime) -> Result<(), Fail>
     )?;
     let packed = TermNode::Pack(int(alloc)?, number(alloc)?, target);
     assert!(rt; says(alloc, Term::make(alloc, packed)?, some)?);
+    Ok(())
+}
+
+// a record of one field
+fn one_field(alloc: Global, label: Label, part: Term) -> Result<Term, Mem> {
+    let mut fields = TermFields::new(alloc);
+    fields.push((label, part))?;
+    Term::make(alloc, TermNode::Fields(fields))
+}
+
+// its type
+fn one_type(alloc: Global, label: Label, part: Ty) -> Result<Ty, Mem> {
+    let mut fields = TyFields::new(alloc);
+    fields.push((label, part))?;
+    Ty::make(alloc, TyNode::Fields(fields))
+}
+
+#[test]
+fn a_program_has_its_type(rt: HostRuntime) -> Result<(), Fail> {
+    let alloc = rt.alloc();
+    // (call (fn (rec (.val int)) (rec (x x0))) (rec (.val (+ 1 2)))) has the type (rec (x (rec (.val int))))
+    let x = Label::Name(name_of(alloc, b"x")?);
+    let part = one_type(alloc, Label::Val, int(alloc)?)?;
+    let body = one_field(alloc, x.share()?, term_var(alloc, 0)?)?;
+    let two = Term::make(alloc, TermNode::Int(2))?;
+    let sum = Term::make(alloc, TermNode::Arith(Op::Add, number(alloc)?, two))?;
+    let arg = one_field(alloc, Label::Val, sum)?;
+    let call = TermNode::Call(function(alloc, part.share()?, body)?, arg);
+    let term = Term::make(alloc, call)?;
+    assert!(rt; says(alloc, term.share()?, one_type(alloc, x, part.share()?)?)?);
+    assert!(rt; !says(alloc, term, part)?);
     Ok(())
 }
 

@@ -7,3 +7,4 @@ pub mod Lines
 pub mod Items
 pub mod TextBytes
 pub mod Wholes
+pub mod Scopes

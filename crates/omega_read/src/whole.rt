@@ -1,7 +1,8 @@
 // A whole text.
-ghost use Rattle.std.specs.Prelude.{◌≡◌, ◌⊎◌, Result, Ok, Err, None, false};
+ghost use Rattle.std.specs.Prelude.{◌≡◌, ◌⊎◌, Result, Ok, Err, None, false, IfOk};
 ghost use Rattle.omega_types.specs.Ty.{Ty as TyTree};
 ghost use Rattle.omega_terms.specs.Term.{Term as TermTree};
+ghost use Rattle.omega_terms.specs.InScope.{TyInScope, TermInScope};
 ghost use Rattle.omega_terms.specs.OmegaText.{omega_text};
 ghost use Rattle.omega_spelling.specs.Spelled.{TySpelled};
 ghost use Rattle.omega_spelling.specs.TermReading.{TermSpelled};
@@ -107,9 +108,11 @@ fn refusal_of(alloc: Global, bytes: &[u8]) -> ReadRefusal
 
 /// The type and the term whose Omega text the bytes are. `Ok` comes exactly where they are such a text and no more
 /// than 4,000 parentheses are open in it; each refusal but want of memory exactly where it is the first that holds.
+/// Both are closed, so that they can be written again.
 #[tactic(auto, using(crate::proofs::Wholes::wholes))]
 pub fn read(alloc: Global, bytes: &[u8]) -> Result<(Ty, Term), ReadRefusal>
-    ensures { ReadAs bytes.now result }
+    ensures answer { ReadAs bytes.now result }
+    ensures scope { IfOk result (λ x. TyInScope 0 x.0 × TermInScope 0 0 x.1) }
 {
     if has_other_version(bytes) {
         return Err(ReadRefusal::Version);

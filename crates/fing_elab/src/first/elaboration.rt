@@ -2,6 +2,7 @@
 ghost use Rattle.std.specs.Prelude.{◌≡◌, [], ◌∷◌, IfOk, IfErr, MatchResult};
 ghost use Rattle.omega_terms.specs.PartTerms.{value_term};
 ghost use Rattle.omega_terms.specs.InScope.{TyInScope, TermInScope};
+ghost use Rattle.omega_terms.specs.Typing.{HasType};
 ghost use Rattle.fing_elab.specs.BindingRules.{OperandGives, SumGives, Gives, int_part as int_part_ty};
 ghost use Rattle.fing_elab.specs.Elaborating.{OperandRefuses, SumRefuses, ElabRefuses, lets};
 
@@ -101,13 +102,14 @@ fn let_numbers(alloc: Global, mut numbers: Vec<Term>, body: Term) -> Result<Term
     Ok(body)
 }
 
-/// The type and the term of the program.
+/// The type and the term of the program. Both are closed, and the term has the type by the typing rules.
 ///
 /// `Unbound` comes exactly where a name is bound by no earlier binding, with the first such name and its place. `Mem`
 /// is want of memory. There is no other refusal.
 pub fn elab(alloc: Global, program: &Program) -> Result<Elaborated, Refused>
     ensures derived { IfOk result (λ e. Gives [] program.now e.ty e.term) }
     ensures closed { IfOk result (λ e. TyInScope 0 e.ty × TermInScope 0 0 e.term) }
+    ensures typed { IfOk result (λ e. HasType [] [] e.term e.ty) }
     ensures refused { IfErr result (λ why. ElabRefuses program.now why) }
 {
     let mut env = Env::new(alloc);

@@ -1,8 +1,13 @@
-use Rattle.std.proofs.Common.{ℕ, List, sym, subst}
+use Rattle.std.proofs.Common.{ℕ, List, map, sym, subst}
+use Rattle.std.specs.String.{string_bytes}
 use Rattle.fing_text.specs.Reads.{ReadAll}
 use Rattle.fing_top.specs.Answer.{limit}
-use Rattle.fing_top.proofs.Replies.{completes}
+use Rattle.fing_top.proofs.Answering.{completes}
 use Rattle.fing_top.proofs.top.fing.Goals as goal
 
 pub returns-in-Ok-clause-completes : goal.returns-in-Ok-clause-completes
-returns-in-Ok-clause-completes g c = completes _ (record { old = g.S.Source.told c.args.source.now; new = g.S.Source.told c.read_all.new.source }) (record { old = g.K.Sink.told c.args.sink.now; new = g.K.Sink.told c.emit.new.sink }) c.deref.result.now c.emit.result (subst (λ (bytes : List ℕ). ReadAll (g.S.Source.told c.args.source.now) (g.S.Source.told c.read_all.new.source) limit bytes) (sym c.deref.ensures.value) c.in-Ok.ensures) c.emit.ensures
+returns-in-Ok-clause-completes g c =
+    completes (map string_bytes c.args.words.now) (record { old = g.S.Source.told c.args.source.now; new = g.S.Source.told c.read_all.new.source }) (record {
+      sink = record { old = g.K.Sink.told c.args.sink.now; new = g.K.Sink.told c.reply.new.sink };
+      confirmed = record { old = c.args.confirmed.now; new = c.reply.new.confirmed };
+    }) c.in-Some.command c.deref.result.now c.reply.result c.in-Some.ensures (subst (λ (bytes : List ℕ). ReadAll (g.S.Source.told c.args.source.now) (g.S.Source.told c.read_all.new.source) limit bytes) (sym c.deref.ensures.value) c.in-Ok.ensures) c.reply.ensures

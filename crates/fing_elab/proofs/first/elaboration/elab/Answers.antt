@@ -8,6 +8,7 @@ use Rattle.fing_elab.specs.declared.first.refusal.Refused.{Refused}
 use Rattle.fing_elab.specs.Elaborating.{ElabRefuses}
 use Rattle.fing_elab.proofs.ElabSteps.{Binding, binding_next, sum_refuses, drop_item, drop_none}
 use Rattle.fing_elab.proofs.Closed.{program_closed}
+use Rattle.fing_elab.proofs.Typed.{program_typed}
 use Rattle.fing_elab.proofs.first.elaboration.elab.Goals as goal
 
 pub returns-in_err-sum_term-clause-refused : goal.returns-in_err-sum_term-clause-refused
@@ -33,3 +34,9 @@ returns-clause-closed c =
     let none = subst (λ (bs : List Bind). Binding c.args.program.now c.loop-bind.env c.loop-bind.numbers.items bs) (drop_none items c.loop-bind.bind-index c.loop-bind-test.false) c.loop-bind.invariant in
     let few : 0 + length c.args.program.now < 2 ^ 64 = omega (arith, c.items-bind-items.ensures.small, ap (λ (bs : List Bind). length bs) c.items-bind-items.ensures.value) in
     program_closed c.args.program.now c.loop-bind.env c.loop-bind.numbers.items c.in_ok-last.last.ty c.in_ok-last.last.term c.in_ok-let_numbers.field-0 none few c.in_ok-last.ensures c.in_ok-let_numbers.ensures
+
+pub returns-clause-typed : goal.returns-clause-typed
+returns-clause-typed c =
+    let items = c.items-bind-items.result.now in
+    let none = subst (λ (bs : List Bind). Binding c.args.program.now c.loop-bind.env c.loop-bind.numbers.items bs) (drop_none items c.loop-bind.bind-index c.loop-bind-test.false) c.loop-bind.invariant in
+    program_typed c.args.program.now c.loop-bind.env c.loop-bind.numbers.items c.in_ok-last.last.ty c.in_ok-last.last.term c.in_ok-let_numbers.field-0 none c.in_ok-last.ensures c.in_ok-let_numbers.ensures
