@@ -6,3 +6,4 @@ pub mod View
 pub mod Falls
 pub mod Changes
 pub mod Change
+pub mod Quantified

@@ -11,7 +11,7 @@ ghost use Rattle.semantic_sigs.specs.Changes.{sig_in, abs_in, sig_row_in, sunk, 
 ghost use Rattle.semantic_sigs.specs.Fields.{sig_row};
 ghost use Rattle.semantic_sigs.specs.View.{kinds_of, body_of};
 
-use crate::heads::{Change, change_ty};
+use crate::heads::{Change, change_ty, sum};
 use crate::tree::{Abs, Sig, SigFields, SigNode};
 use omega_kinds::{Kinds, Mem};
 use std::alloc::Global;
@@ -138,5 +138,5 @@ fn change_sig_fields(
 fn below(depth: u64, kinds: &Kinds) -> Result<u64, Mem>
     ensures { IfOk result (λ inner. inner ≡ length kinds.now + depth) }
 {
-    depth.checked_add(kinds.items().len() as u64).ok_or(Mem)
+    sum(kinds.items().len() as u64, depth)
 }

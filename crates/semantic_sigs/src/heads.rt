@@ -1,5 +1,5 @@
 // Changes of the variables in types: raised, lowered, or normal types put in for them.
-ghost use Rattle.std.specs.Prelude.{◌≡◌, ◌≤◌, ◌∷◌, IfOk};
+ghost use Rattle.std.specs.Prelude.{◌≡◌, ◌≤◌, ◌+◌, IfOk};
 ghost use Rattle.omega_types.specs.Fields.{row};
 ghost use Rattle.semantic_sigs.specs.Change.{change_of, head_of};
 ghost use Rattle.semantic_sigs.specs.Changes.{apply_head, head_in, row_in, stands, came, sunk, ty_in, under_head, putting};
@@ -136,10 +136,17 @@ fn change_var(
     ensures { IfOk result (λ p. head_of p ≡ sunk depth (change_of change.entry) index) }
 {
     match change {
-        Change::Raise(by) => stand(alloc, index.checked_add(by).ok_or(Mem)?),
+        Change::Raise(by) => stand(alloc, sum(index, by)?),
         Change::Lower(by) => stand(alloc, depth + (index - depth).saturating_sub(by)),
         Change::Put(types) => put_var(alloc, types, depth, index),
     }
+}
+
+// The sum of two numbers. `Err` where it would pass the last number.
+pub(crate) fn sum(left: u64, right: u64) -> Result<u64, Mem>
+    ensures { IfOk result (λ n. n ≡ left + right) }
+{
+    left.checked_add(right).ok_or(Mem)
 }
 
 // A variable.

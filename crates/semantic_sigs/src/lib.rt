@@ -4,10 +4,14 @@
 #![tactic(auto)]
 
 pub mod changing;
+pub mod encoding;
 mod heads;
+pub mod mentioning;
 pub mod tree;
 pub mod witnesses;
 
 pub use changing::{instantiate, lower_sig, raise_abs, raise_sig};
+pub use encoding::{encode, encode_sig, result_label};
+pub use mentioning::sig_mentions;
 pub use tree::{Abs, Sig, SigFields, SigNode};
 pub use witnesses::Witnesses;
