@@ -7,3 +7,7 @@ pub mod Falls
 pub mod Changes
 pub mod Change
 pub mod Quantified
+pub mod Items
+pub mod Made
+pub mod Entries
+pub mod EnvCode

@@ -8,9 +8,10 @@ ghost use Rattle.omega_terms.specs.Coercions.{result_label as label_of};
 ghost use Rattle.signatures.specs.Signatures.Encoding.{enc, enc_abs, enc_row, one_part as one_part_of, shown_type as shown_type_of};
 ghost use Rattle.semantic_sigs.specs.Fields.{sig_row};
 
+use crate::part_terms::at_predicate;
 use crate::tree::{Abs, Sig, SigFields, SigNode};
 use omega_kinds::{Effect, Kind, Kinds, Label, Mem, arrow};
-use omega_types::{Ty, TyFields, TyNode, shift};
+use omega_types::{Ty, TyFields, TyNode};
 use std::alloc::Global;
 use type_normal::plain;
 
@@ -90,13 +91,7 @@ fn one_part(alloc: Global, label: Label, ty: Ty) -> Result<Ty, Mem>
 fn shown_type(alloc: Global, ty: &Ty, kind: &Kind) -> Result<Ty, Mem>
     ensures { IfOk result (λ t. t ≡ shown_type_of ty.now (kind_tree kind.now)) }
 {
-    let part = Ty::make(
-        alloc,
-        TyNode::Apply(
-            Ty::make(alloc, TyNode::Var(0))?,
-            shift(alloc, ty, 1, 0)?,
-        ),
-    )?;
+    let part = at_predicate(alloc, ty)?;
     let body = Ty::make(alloc, TyNode::Arrow(part.share()?, part))?;
     let predicate = arrow(alloc, kind.share()?, Kind::Star)?;
     Ty::make(alloc, TyNode::All(predicate, body))

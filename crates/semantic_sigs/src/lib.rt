@@ -5,13 +5,23 @@
 
 pub mod changing;
 pub mod encoding;
+pub mod env;
 mod heads;
+pub mod made;
 pub mod mentioning;
+pub mod part_terms;
+pub mod parts;
+pub mod path;
 pub mod tree;
 pub mod witnesses;
 
 pub use changing::{instantiate, lower_sig, raise_abs, raise_sig};
 pub use encoding::{encode, encode_sig, result_label};
+pub use env::{Entry, Env};
+pub use made::{Kinded, Module, Typed, Why};
 pub use mentioning::sig_mentions;
+pub use part_terms::{type_term, value_term};
+pub use parts::{find_field, part};
+pub use path::{Item, Path};
 pub use tree::{Abs, Sig, SigFields, SigNode};
 pub use witnesses::Witnesses;
