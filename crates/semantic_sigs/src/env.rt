@@ -1,5 +1,6 @@
 // Environments of elaboration.
 ghost use Rattle.std.specs.Prelude.{◌≡◌, ◌+◌, ◌<◌, ◌∷◌, [], IfOk, OnOk, OnErr, MatchOption, length, take};
+ghost use Rattle.omega_kinds.specs.Name.{same_name as same_name_of};
 ghost use Rattle.omega_kinds.specs.View.{kind_tree};
 ghost use Rattle.omega_types.specs.EtaLong.{eta as eta_of};
 ghost use Rattle.omega_types.specs.Index.{shift};
@@ -11,6 +12,7 @@ ghost use Rattle.signatures.specs.Signatures.Sig.{Typ};
 ghost use Rattle.semantic_sigs.specs.Entries.{here_first, entry_of, entries_of, is_named, seen, term_vars, type_vars};
 
 use crate::changing::raise_sig;
+use crate::heads::sum;
 use crate::part_terms::{type_term, value_term};
 use crate::tree::{Sig, SigNode};
 use omega_kinds::{Kind, Mem, Name, same_name};
@@ -110,8 +112,8 @@ impl Env {
             if entry.is_named(name) {
                 return found(alloc, entries, at, types, terms);
             }
-            types += entry.type_vars();
-            terms += entry.term_vars();
+            types = sum(types, entry.type_vars())?;
+            terms = sum(terms, entry.term_vars())?;
         }
         Ok(None)
     }
@@ -124,9 +126,9 @@ impl Entry {
     {
         match self {
             Entry::TypeVar(_) => false,
-            Entry::Named(other, _) => same_name(name, other),
-            Entry::Value(other, _) => same_name(name, other),
-            Entry::TypeParam(other) => same_name(name, other),
+            Entry::Named(other, _) => is_same(name, other),
+            Entry::Value(other, _) => is_same(name, other),
+            Entry::TypeParam(other) => is_same(name, other),
         }
     }
 
@@ -149,6 +151,13 @@ impl Entry {
             _ => 0,
         }
     }
+}
+
+// Whether two names are the same.
+fn is_same(left: &Name, right: &Name) -> bool
+    ensures { result ≡ same_name_of left.now right.now }
+{
+    same_name(left, right)
 }
 
 // What the entry at a place stands for, past so many type variables and term variables.
