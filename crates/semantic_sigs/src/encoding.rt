@@ -97,8 +97,8 @@ fn shown_type(alloc: Global, ty: &Ty, kind: &Kind) -> Result<Ty, Mem>
     Ty::make(alloc, TyNode::All(predicate, body))
 }
 
-/// The label round the result of a functor of this effect.
-pub fn result_label(effect: Effect) -> Label
+// The label round the result of a functor of this effect.
+fn result_label(effect: Effect) -> Label
     ensures { result ≡ label_of effect }
 {
     match effect {

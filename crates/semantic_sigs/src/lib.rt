@@ -16,7 +16,7 @@ pub mod tree;
 pub mod witnesses;
 
 pub use changing::{instantiate, lower_sig, raise_abs, raise_sig};
-pub use encoding::{encode, encode_sig, result_label};
+pub use encoding::{encode, encode_sig};
 pub use env::{Entry, Env};
 pub use made::{Kinded, Module, Typed, Why};
 pub use mentioning::sig_mentions;
