@@ -1,8 +1,8 @@
 -- Entries gone through from the last to the first.
-use Rattle.std.specs.Prelude.{ℕ, zero, suc, ◌+◌, ◌-◌, ◌<◌, ◌≤◌, ◌≡◌, List, [], ◌∷◌, ◌++◌, ◌↔◌, Bool, true, false, cond, Option, Some, None, length, map, reverse, take, nat_eq}
+use Rattle.std.specs.Prelude.{ℕ, zero, suc, ◌+◌, ◌-◌, ◌<◌, ◌≤◌, ◌≡◌, List, [], ◌∷◌, ◌++◌, ◌↔◌, Bool, true, false, cond, Option, Some, None, length, map, reverse, take}
 use Rattle.std.proofs.Common.{get_or, arith}
-use Rattle.std.proofs.lemmas.List.{reverse-append, append-nil}
-use Rattle.std.proofs.Math.Path.{refl, sym, ◌∙◌, ap, ap₂, fun_ext, subst}
+use Rattle.std.proofs.lemmas.List.{reverse-append}
+use Rattle.std.proofs.Math.Path.{refl, sym, ◌∙◌, ap, ap₂, fun_ext}
 use Rattle.omega_kinds.specs.Kind.{Kind}
 use Rattle.omega_kinds.specs.View.{kind_tree}
 use Rattle.omega_kinds.specs.declared.kind.Kind.{Kind as SharedKind}
@@ -13,7 +13,7 @@ use Rattle.omega_types.specs.Ty.{Ty, lift}
 use Rattle.omega_types.specs.EtaLong.{eta}
 use Rattle.omega_types.specs.Index.{bump, shift}
 use Rattle.omega_types.specs.Substitution.{rename}
-use Rattle.omega_types.proofs.Algebra.{rename-id, rename-weaken}
+use Rattle.omega_types.proofs.Algebra.{rename-weaken}
 use Rattle.omega_terms.specs.Term.{Term}
 use Rattle.omega_terms.specs.TermSubst.{ren_term, same_index}
 use Rattle.omega_terms.specs.PartTerms.{one_field, type_term}

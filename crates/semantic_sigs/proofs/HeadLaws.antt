@@ -1,5 +1,5 @@
 -- What the changes are: renamings, and the normal form of a substitution.
-use Rattle.std.specs.Prelude.{ℕ, zero, suc, ◌+◌, ◌-◌, ◌≡◌, List, [], ◌∷◌}
+use Rattle.std.specs.Prelude.{ℕ, zero, suc, ◌-◌, ◌≡◌, List, [], ◌∷◌}
 use Rattle.std.proofs.Math.Path.{refl, sym, ◌∙◌, ap, ap₂, subst, fun_ext}
 use Rattle.omega_kinds.specs.Kind.{Kind}
 use Rattle.omega_kinds.specs.declared.label.Label.{Label}

@@ -4,9 +4,9 @@ use Rattle.omega_kinds.specs.Kind.{Kind}
 use Rattle.omega_types.specs.Ty.{Ty, Row}
 use Rattle.omega_types.specs.Bound.{bound_of, bound_row}
 use Rattle.omega_types.specs.Fields.{Pairs, row}
-use Rattle.omega_types.specs.Index.{shift, bump}
+use Rattle.omega_types.specs.Index.{shift}
 use Rattle.omega_types.specs.Substitution.{rename}
-use Rattle.omega_types.proofs.Single.{shift-zero, bump-above}
+use Rattle.omega_types.proofs.Single.{shift-zero}
 use Rattle.omega_types.proofs.Steps.{deeper, map_parts, may_follow-at}
 use Rattle.semantic_sigs.specs.Changes.{Head, stands, came, tree, raised, apply_head, under_head, sunk, head_in, row_in, ty_in, front_head, put_heads, raising, lowering, putting}
 

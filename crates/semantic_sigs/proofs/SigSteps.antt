@@ -1,10 +1,10 @@
 -- What a change of variables does at each form of signature, with indexes counted as the code counts them.
-use Rattle.std.proofs.Common.{◌≡◌, ℕ, zero, suc, ◌+◌, ◌-◌, ◌<◌, ◌≤◌, List, [], ◌∷◌, length, get_or, take, map, refl, sym, ap, ap₂, ◌∙◌, arith}
+use Rattle.std.proofs.Common.{◌≡◌, ℕ, zero, suc, ◌+◌, ◌<◌, ◌≤◌, List, [], ◌∷◌, length, get_or, take, map, refl, ap, ap₂, ◌∙◌, arith}
 use Rattle.omega_kinds.specs.Kind.{Kind}
 use Rattle.omega_kinds.specs.Name.{Name}
 use Rattle.signatures.specs.Signatures.Sig.{Sig, Abs, SigRow}
 use Rattle.semantic_sigs.specs.Bound.{bound_sig, bound_abs, bound_sig_row}
-use Rattle.semantic_sigs.specs.Changes.{Head, stands, tree, under_head, sunk, sinks, ty_in, sig_in, abs_in, sig_row_in}
+use Rattle.semantic_sigs.specs.Changes.{Head, tree, under_head, sunk, sinks, sig_in, abs_in, sig_row_in}
 use Rattle.semantic_sigs.specs.Fields.{SigPairs, sig_row, Rises, MayFollow}
 use Rattle.semantic_sigs.proofs.HeadSteps.{Keeps, sunk-below, under-keeps, head-unchanged}
 

@@ -1,8 +1,7 @@
 -- Renaming after renaming in terms.
 use Rattle.std.specs.Prelude.{ℕ, ◌≡◌}
 use Rattle.std.proofs.Math.Path.{refl, ◌∙◌, ap, ap₂}
-use Rattle.omega_types.specs.Ty.{Ty, lift}
-use Rattle.omega_types.specs.Substitution.{rename}
+use Rattle.omega_types.specs.Ty.{lift}
 use Rattle.omega_types.proofs.Algebra.{lift-lift, rename-rename}
 use Rattle.omega_terms.specs.Term.{Term, TermRow}
 use Rattle.omega_terms.specs.TermSubst.{ren_term, ren_fields}

@@ -1,5 +1,5 @@
 -- The code of an environment.
-use Rattle.std.specs.Prelude.{◌≡◌, ℕ, zero, suc, refl}
+use Rattle.std.specs.Prelude.{◌≡◌, zero, suc}
 use base.Stored.{Gv, gnil, gnum, gcons}
 use denote.Struct.Codes.{itself}
 use Rattle.std.specs.Coded.{Coded, code_by, coded_list}

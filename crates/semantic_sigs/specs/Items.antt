@@ -1,5 +1,5 @@
 -- The steps of a path, as the definitions have them, and the code of a path.
-use Rattle.std.specs.Prelude.{◌≡◌, ℕ, zero, suc, List, refl}
+use Rattle.std.specs.Prelude.{◌≡◌, zero, suc, refl}
 use base.Stored.{Gv, gnil, gnum, gcons}
 use denote.Struct.Codes.{itself}
 use Rattle.std.specs.Coded.{Coded, code_by, coded_list}

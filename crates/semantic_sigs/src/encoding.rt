@@ -40,11 +40,7 @@ pub fn encode_sig(alloc: Global, sig: &Sig) -> Result<Ty, Mem>
         SigNode::Meta(abs) => {
             let from = encode(alloc, abs)?;
             let to = from.share()?;
-            one_part(
-                alloc,
-                Label::Sig,
-                Ty::make(alloc, TyNode::Arrow(from, to))?,
-            )
+            one_part(alloc, Label::Sig, Ty::make(alloc, TyNode::Arrow(from, to))?)
         }
         SigNode::Str(fields) => {
             let fields = encode_fields(alloc, fields)?;
@@ -115,12 +111,7 @@ enum Quantifier {
 }
 
 // The type bound by a quantifier for each kind, the first outermost.
-fn quantify(
-    alloc: Global,
-    quantifier: Quantifier,
-    kinds: &Kinds,
-    body: Ty,
-) -> Result<Ty, Mem>
+fn quantify(alloc: Global, quantifier: Quantifier, kinds: &Kinds, body: Ty) -> Result<Ty, Mem>
     ensures { IfOk result (λ t. t ≡ quantified quantifier kinds.now body) }
 {
     let kinds = kinds.items();

@@ -43,12 +43,7 @@ pub(crate) fn change_ty(
 // A part of a type, changed below `depth` binders.
 #[cycle(change)]
 #[tactic(auto, using(crate::proofs::HeadSteps::head_steps))]
-fn change_head(
-    alloc: Global,
-    ty: &Ty,
-    change: Change<'_>,
-    depth: u64,
-) -> Result<Filled, Mem>
+fn change_head(alloc: Global, ty: &Ty, change: Change<'_>, depth: u64) -> Result<Filled, Mem>
     ensures { IfOk result (λ p. head_of p ≡ head_in (sunk depth (change_of change.entry)) ty.now) }
 {
     if ty.bound() <= depth {
@@ -126,12 +121,7 @@ fn change_fields(
 }
 
 // A free variable, changed below `depth` binders.
-fn change_var(
-    alloc: Global,
-    change: Change<'_>,
-    depth: u64,
-    index: u64,
-) -> Result<Filled, Mem>
+fn change_var(alloc: Global, change: Change<'_>, depth: u64, index: u64) -> Result<Filled, Mem>
     requires { depth ≤ index }
     ensures { IfOk result (λ p. head_of p ≡ sunk depth (change_of change.entry) index) }
 {
@@ -157,12 +147,7 @@ fn stand(alloc: Global, index: u64) -> Result<Filled, Mem>
 }
 
 // The type that is put in for a free variable below `depth` binders, or the variable with its index less by their number.
-fn put_var(
-    alloc: Global,
-    types: &[NormalTy],
-    depth: u64,
-    index: u64,
-) -> Result<Filled, Mem>
+fn put_var(alloc: Global, types: &[NormalTy], depth: u64, index: u64) -> Result<Filled, Mem>
     requires { depth ≤ index }
     ensures { IfOk result (λ p. head_of p ≡ sunk depth (putting types.now) index) }
 {

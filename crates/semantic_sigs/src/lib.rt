@@ -1,6 +1,8 @@
 // Semantic signatures in code: shared trees, what elaboration makes of phrases, environments, and operations on them.
 // Stands on the crates of types and terms, and on signatures and sig_laws, whose definitions its contracts cite.
-// Proved: so far the trees.
+// Proved: `raise_sig`, `raise_abs` and `lower_sig` rename as the definitions do, `instantiate` gives the normal form of a
+// signature at types, `sig_mentions` decides mentions, `part` follows a path, `encode` and `encode_sig` give the encoding,
+// and `find` gives exactly what an environment has for a name.
 #![tactic(auto)]
 
 pub mod changing;
@@ -12,6 +14,8 @@ pub mod mentioning;
 pub mod part_terms;
 pub mod parts;
 pub mod path;
+#[cfg(test)]
+mod tests;
 pub mod tree;
 pub mod witnesses;
 

@@ -23,7 +23,10 @@ pub fn sig_mentions(sig: &Sig, index: u64) -> bool
             ..
         } => {
             let count = kinds.items().len() as u64;
-            either(mentions_under(param, index, count), abs_mentions_under(result, index, count))
+            either(
+                mentions_under(param, index, count),
+                abs_mentions_under(result, index, count),
+            )
         }
     }
 }

@@ -42,10 +42,7 @@ pub(crate) fn at_predicate(alloc: Global, ty: &Ty) -> Result<Ty, Mem>
     ensures { IfOk result (λ t. t ≡ Apply (Var 0) (rename suc ty.now)) }
 {
     let predicate = Ty::make(alloc, TyNode::Var(0))?;
-    Ty::make(
-        alloc,
-        TyNode::Apply(predicate, shift(alloc, ty, 1, 0)?),
-    )
+    Ty::make(alloc, TyNode::Apply(predicate, shift(alloc, ty, 1, 0)?))
 }
 
 // A record of one field.
