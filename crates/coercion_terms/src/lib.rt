@@ -6,6 +6,8 @@
 pub mod packing;
 pub mod parts;
 mod shorthands;
+#[cfg(test)]
+mod tests;
 
 pub use packing::{abs_part, match_part};
 pub use parts::{fields_part, functor_part, meta_part, same_part};

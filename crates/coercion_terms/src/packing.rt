@@ -50,9 +50,6 @@ pub fn abs_part(
 fn coerced(alloc: Global, types: &[NormalTy], inner: &Term, to: &Ty) -> Result<Term, Mem>
     ensures { IfOk result (λ e. e ≡ pack_up_of types.now (Call inner.now (Var 0)) to.now) }
 {
-    let called = Term::make(
-        alloc,
-        TermNode::Call(inner.share()?, variable(alloc, 0)?),
-    )?;
+    let called = Term::make(alloc, TermNode::Call(inner.share()?, variable(alloc, 0)?))?;
     pack_up(alloc, types, &called, to)
 }

@@ -93,10 +93,7 @@ pub fn functor_part(
 fn applied(alloc: Global, left: Effect, types: &[NormalTy], inner: &Term) -> Result<Term, Mem>
     ensures { IfOk result (λ e. e ≡ Get (Call (insts_of (Var 1) types.now) (Call inner.now (Var 0))) (label_of left)) }
 {
-    let arg = Term::make(
-        alloc,
-        TermNode::Call(inner.share()?, variable(alloc, 0)?),
-    )?;
+    let arg = Term::make(alloc, TermNode::Call(inner.share()?, variable(alloc, 0)?))?;
     let functor = insts(alloc, variable(alloc, 1)?, types)?;
     let called = Term::make(alloc, TermNode::Call(functor, arg))?;
     Term::make(alloc, TermNode::Get(called, result_label(left)))

@@ -54,12 +54,7 @@ pub(crate) fn ty_lam_over(alloc: Global, kinds: &Kinds, body: Term) -> Result<Te
 // A term with types hidden, one for each `some` in front of a type, the outermost first. Each inner pack has the rest
 // of the type with the type before put in, in normal form. A type that begins with fewer is packed no further.
 #[cycle(pack)]
-pub(crate) fn pack_up(
-    alloc: Global,
-    types: &[NormalTy],
-    term: &Term,
-    to: &Ty,
-) -> Result<Term, Mem>
+pub(crate) fn pack_up(alloc: Global, types: &[NormalTy], term: &Term, to: &Ty) -> Result<Term, Mem>
     ensures { IfOk result (λ e. e ≡ pack_up_of types.now term.now to.now) }
 {
     match types {

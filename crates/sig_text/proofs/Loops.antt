@@ -15,7 +15,7 @@ use Rattle.semantic_sigs.specs.Fields.{SigPairs, sig_row}
 use Rattle.semantic_sigs.specs.Size.{sig_nodes, abs_nodes, sig_row_nodes}
 use Rattle.sig_text.specs.declared.trees.Piece.{Piece}
 use Rattle.sig_text.specs.declared.trees.Piece.TheVariants as piece
-use Rattle.sig_text.specs.Pieces.{piece_text, pieces_text, PieceInScope, PiecesInScope}
+use Rattle.sig_text.specs.Pieces.{field_text, piece_text, pieces_text, PieceInScope, PiecesInScope}
 use Rattle.sig_text.specs.SigInScope.{SigInScope, SigRowInScope}
 use Rattle.sig_text.specs.SigText.{more_kinds_text, sig_text, sig_row_text}
 
@@ -64,13 +64,13 @@ scope-at (p ∷ ps) (suc i) d lt s = scope-at ps i d (omega arith) s.1
 
 -- fields
 
-abbrev pub field_text : ℕ → Name × Sig → List ℕ
-field_text n x = codes " (" then x.0 then codes " " then sig_text n x.1 then codes ")"
+abbrev pub pair_text : ℕ → Name × Sig → List ℕ
+pair_text n x = field_text n x.0 x.1
 
-pub fields-text : (n : ℕ) (xs : SigPairs) → flat_map (field_text n) xs ≡ sig_row_text n (sig_row xs)
+pub fields-text : (n : ℕ) (xs : SigPairs) → flat_map (pair_text n) xs ≡ sig_row_text n (sig_row xs)
 unfolding ◌then◌
 fields-text n [] = refl
-fields-text n (x ∷ xs) = ap (λ (w : List ℕ). field_text n x ++ w) (fields-text n xs) ∙ simp append_assoc
+fields-text n (x ∷ xs) = ap (λ (w : List ℕ). pair_text n x ++ w) (fields-text n xs) ∙ simp append_assoc
 
 pub field-size : (xs : SigPairs) (i : ℕ) (d : Name × Sig) → i < length xs → sig_nodes (get_or xs i d).1 + 1 ≤ sig_row_nodes (sig_row xs)
 field-size [] i d lt = absurd (omega arith)

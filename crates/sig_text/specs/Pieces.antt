@@ -1,10 +1,12 @@
 -- The texts of pieces, and what must be in scope in them.
-use Rattle.std.specs.Prelude.{ℕ, List, [], ◌∷◌}
+use Rattle.std.specs.Prelude.{ℕ, List, [], ◌∷◌, codes}
 use Rattle.omega_kinds.specs.Text.{◌then◌}
+use Rattle.omega_kinds.specs.Name.{Name}
 use Rattle.omega_kinds.specs.View.{kind_tree}
 use Rattle.omega_terms.specs.InScope.{TyInScope}
 use Rattle.omega_terms.specs.KindText.{kind_text}
 use Rattle.omega_terms.specs.TypeText.{ty_text}
+use Rattle.signatures.specs.Signatures.Sig.{Sig}
 use Rattle.semantic_sigs.specs.Fields.{sig_row}
 use Rattle.sig_text.specs.declared.trees.Piece.{Piece}
 use Rattle.sig_text.specs.declared.trees.Piece.TheVariants as piece
@@ -37,3 +39,7 @@ PieceInScope (piece.Fields n f) = SigRowInScope n (sig_row f.now)
 abbrev pub PiecesInScope : List Piece → Type 0
 PiecesInScope [] = Unit {0}
 PiecesInScope (p ∷ ps) = PieceInScope p × PiecesInScope ps
+
+-- a field of a structure
+abbrev pub field_text : ℕ → Name → Sig → List ℕ
+field_text n l s = codes " (" then l then codes " " then sig_text n s then codes ")"

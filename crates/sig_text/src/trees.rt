@@ -2,13 +2,13 @@
 ghost use Rattle.std.specs.Prelude.{◌≡◌};
 ghost use Rattle.fing_text.specs.Writes.{Wrote};
 ghost use Rattle.semantic_sigs.specs.Fields.{sig_row};
-ghost use Rattle.sig_text.specs.Pieces.{piece_text, pieces_text, PieceInScope, PiecesInScope};
+ghost use Rattle.sig_text.specs.Pieces.{field_text, piece_text, pieces_text, PieceInScope, PiecesInScope};
 ghost use Rattle.sig_text.specs.SigInScope.{AbsInScope, SigInScope, SigRowInScope};
 ghost use Rattle.sig_text.specs.SigText.{abs_text, effect_text, elab_text, functor_front, sig_row_text, sig_text};
 
 use crate::kinds::write_kinds;
 use fing_text::{Sink, WriteFault, put};
-use omega_kinds::{Effect, Kind, Kinds};
+use omega_kinds::{Effect, Kind, Kinds, Name};
 use omega_types::Ty;
 use omega_write::{write_kind, write_ty};
 use semantic_sigs::{Abs, Sig, SigFields, SigNode};
@@ -162,18 +162,32 @@ fn write_fields<K: Sink>(sink: &mut K, types: u64, fields: &SigFields) -> Result
     ensures { Wrote (K.told sink.old) (K.told sink.new) (sig_row_text types (sig_row fields.now)) result }
 {
     for field in fields.items() {
-        write_pieces(
-            sink,
-            &[
-                Piece::Bytes(b" ("),
-                Piece::Bytes(field.0.bytes()),
-                Piece::Bytes(b" "),
-                Piece::Sig(types, &field.1),
-                Piece::Bytes(b")"),
-            ],
-        )?;
+        write_field(sink, types, &field.0, &field.1)?;
     }
     Ok(())
+}
+
+// Writes a field of a structure, with a space before it.
+#[cycle(sigs)]
+fn write_field<'x, K: Sink>(
+    sink: &mut K,
+    types: u64,
+    name: &'x Name,
+    sig: &'x Sig,
+) -> Result<(), WriteFault>
+    requires { SigInScope types sig.now }
+    ensures { Wrote (K.told sink.old) (K.told sink.new) (field_text types name.now sig.now) result }
+{
+    write_pieces(
+        sink,
+        &[
+            Piece::Bytes(b" ("),
+            Piece::Bytes(name.bytes()),
+            Piece::Bytes(b" "),
+            Piece::Sig(types, sig),
+            Piece::Bytes(b")"),
+        ],
+    )
 }
 
 // Writes pieces one after the other.
