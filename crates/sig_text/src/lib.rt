@@ -5,6 +5,8 @@
 #![tactic(auto)]
 
 mod kinds;
+#[cfg(test)]
+mod tests;
 mod trees;
 
 pub use trees::{write_abs, write_elab};
