@@ -1,0 +1,13 @@
+// The coercion terms of subtyping between signatures, one call for each rule, over encoded types.
+// Stands on the crates of types and terms, whose definitions say what the terms are and which types they have.
+// Proved: each call gives exactly the term of its rule, which has its type where the coercions inside have theirs.
+#![tactic(auto)]
+
+pub mod packing;
+pub mod parts;
+mod shorthands;
+#[cfg(test)]
+mod tests;
+
+pub use packing::{abs_part, match_part};
+pub use parts::{fields_part, functor_part, meta_part, same_part};

@@ -1,0 +1,55 @@
+// The coercions to signatures that hide types.
+ghost use Rattle.std.specs.Prelude.{◌≡◌, IfOk};
+ghost use Rattle.omega_terms.specs.Term.{Call, Var};
+ghost use Rattle.coercion_terms.specs.Packed.{pack_up as pack_up_of};
+ghost use Rattle.coercion_terms.specs.Rows.{HasAbsType, HasMatchType, IsAbsPart, IsMatchPart};
+
+use crate::shorthands::{opens, pack_up, variable};
+use omega_kinds::Mem;
+use omega_terms::{Term, TermNode};
+use omega_types::Ty;
+use std::alloc::Global;
+use type_normal::NormalTy;
+
+/// The coercion of a signature that hides nothing, whose encoding is `from`, to one that hides types, whose encoding
+/// `to` begins with one `some` for each of `types`, the outermost for the first. `inner` coerces to the right side's
+/// body at `types`. `Err` is want of memory.
+pub fn match_part(
+    alloc: Global,
+    from: &Ty,
+    types: &[NormalTy],
+    inner: &Term,
+    to: &Ty,
+) -> Result<Term, Mem>
+    ensures value { IfOk result (λ e. IsMatchPart from.now types.now inner.now to.now e) }
+    ensures typed { IfOk result (λ e. HasMatchType from.now types.now inner.now to.now e) }
+{
+    let body = coerced(alloc, types, inner, to)?;
+    Term::make(alloc, TermNode::Lam(from.share()?, body))
+}
+
+/// The coercion of a signature that hides so many types, at least one, whose encoding is `from`. Under these `types`,
+/// `inner` and `to` stand, as in the coercion of a signature that hides nothing. `Err` is want of memory.
+pub fn abs_part(
+    alloc: Global,
+    from: &Ty,
+    count: u64,
+    types: &[NormalTy],
+    inner: &Term,
+    to: &Ty,
+) -> Result<Term, Mem>
+    ensures value { IfOk result (λ e. IsAbsPart from.now count types.now inner.now to.now e) }
+    ensures typed { IfOk result (λ e. HasAbsType from.now count types.now inner.now to.now e) }
+{
+    let body = coerced(alloc, types, inner, to)?;
+    let opened = opens(alloc, count, from, body)?;
+    Term::make(alloc, TermNode::Lam(from.share()?, opened))
+}
+
+// The innermost variable coerced, and types hidden in it.
+fn coerced(alloc: Global, types: &[NormalTy], inner: &Term, to: &Ty) -> Result<Term, Mem>
+    ensures { IfOk result (λ e. e ≡ pack_up_of types.now (Call inner.now (Var 0)) to.now) }
+{
+    let called = Term::make(alloc, TermNode::Call(inner.share()?, variable(alloc, 0)?))?;
+    pack_up(alloc, types, &called, to)
+}

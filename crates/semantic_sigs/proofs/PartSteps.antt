@@ -1,0 +1,72 @@
+-- Fields that are found, and paths followed name by name.
+use Rattle.std.proofs.Common.{◌≡◌, ℕ, zero, suc, ◌+◌, ◌<◌, ◌≤◌, ◌↔◌, List, [], ◌∷◌, length, get_or, drop, map, refl, sym, ap, ◌∙◌, subst, arith}
+use Rattle.std.proofs.Math.Seq.{drop-cons}
+use Rattle.omega_kinds.specs.Name.{Name}
+use Rattle.signatures.specs.Explicit.SigPath.{Item, PartAt}
+use Rattle.signatures.specs.Signatures.Sig.{Sig, SigRow, HasField, NoField, here, there}
+use Rattle.semantic_sigs.specs.Fields.{SigPairs, sig_row}
+
+next-index : (i : ℕ) → i + 1 ≡ suc i
+next-index i = omega arith
+
+row-at : (xs : SigPairs) (i : ℕ) (d : Name × Sig) → i < length xs → sig_row (drop i xs) ≡ SigRow.More (get_or xs i d).0 (get_or xs i d).1 (sig_row (drop (i + 1) xs))
+row-at xs i d lt = ap sig_row (drop-cons xs i d lt) ∙ ap (λ n. SigRow.More (get_or xs i d).0 (get_or xs i d).1 (sig_row (drop n xs))) (sym (next-index i))
+
+pub found-here : (xs : SigPairs) (i : ℕ) (x : Name × Sig) (l : Name) → i < length xs → x ≡ get_or xs i x → l ≡ x.0 → ((s : Sig) → HasField (sig_row (drop i xs)) l s → HasField (sig_row xs) l s) → HasField (sig_row xs) l x.1
+found-here xs i x l lt ex el back =
+    back x.1 (subst (λ r. HasField r l x.1) (sym (row-at xs i x lt)) (subst (λ y. HasField (SigRow.More y.0 y.1 (sig_row (drop (i + 1) xs))) l x.1) ex (subst (λ m. HasField (SigRow.More x.0 x.1 (sig_row (drop (i + 1) xs))) m x.1) (sym el) here)))
+
+pub found-later : (xs : SigPairs) (i : ℕ) (x : Name × Sig) (l : Name) → i < length xs → x ≡ get_or xs i x → (l ≡ x.0 → ⊥)
+    → ((s : Sig) → HasField (sig_row (drop i xs)) l s → HasField (sig_row xs) l s) × (NoField l (sig_row (drop i xs)) → NoField l (sig_row xs))
+    → ((s : Sig) → HasField (sig_row (drop (i + 1) xs)) l s → HasField (sig_row xs) l s) × (NoField l (sig_row (drop (i + 1) xs)) → NoField l (sig_row xs))
+found-later xs i x l lt ex ne back =
+    let e : sig_row (drop i xs) ≡ SigRow.More x.0 x.1 (sig_row (drop (i + 1) xs)) = row-at xs i x lt ∙ ap (λ y. SigRow.More y.0 y.1 (sig_row (drop (i + 1) xs))) (sym ex) in
+    (λ s h. back.0 s (subst (λ r. HasField r l s) (sym e) (there ne h)), λ h. back.1 (subst (NoField l) (sym e) (ne, h)))
+
+field-one : {fs : SigRow} {l m : Name} {s t : Sig} → HasField fs l s → HasField fs m t → l ≡ m → s ≡ t
+field-one here here e = refl
+field-one here (there n g) e = absurd (n (sym e))
+field-one (there n h) here e = absurd (n e)
+field-one (there n h) (there m g) e = field-one h g e
+
+no-field : {l : Name} {s : Sig} (fs : SigRow) → NoField l fs → HasField fs l s → ⊥
+no-field SigRow.End n h = elim h [ ]
+no-field (SigRow.More m t rest) n here = n.0 refl
+no-field (SigRow.More m t rest) n (there e h) = no-field rest n.1 h
+
+abbrev pub steps : List Name → List Item
+steps = map Item.Part
+
+-- what a path leads to from s, the first names being passed, is what the whole path leads to from w
+abbrev pub Follows : Sig → List Name → Sig → List Name → Type 0
+Follows s rest w path = (q : Sig) → PartAt s (steps rest) [] q ↔ PartAt w (steps path) [] q
+
+into-field : {fs : SigRow} {l : Name} {s q : Sig} {p : List Item} → HasField fs l s → PartAt (Sig.Str fs) (Item.Part l ∷ p) [] q → PartAt s p [] q
+into-field {q = q} {p = p} h (PartAt.field g r) = subst (λ u. PartAt u p [] q) (field-one g h refl) r
+
+path-at : (path : List Name) (i : ℕ) (d : Name) → i < length path → drop i path ≡ get_or path i d ∷ drop (i + 1) path
+path-at path i d lt = drop-cons path i d lt ∙ ap (λ n. get_or path i d ∷ drop n path) (sym (next-index i))
+
+pub step-into : (s next w : Sig) (path : List Name) (i : ℕ) (l : Name) (fs : SigRow) → i < length path → l ≡ get_or path i l → s ≡ Sig.Str fs → HasField fs l next → Follows s (drop i path) w path → Follows next (drop (i + 1) path) w path
+step-into s next w path i l fs lt el es h f q =
+    let e : drop i path ≡ l ∷ drop (i + 1) path = path-at path i l lt ∙ ap (λ m. m ∷ drop (i + 1) path) (sym el) in
+    let g = subst (λ p. PartAt s (steps p) [] q ↔ PartAt w (steps path) [] q) e (f q) in
+    let g' = subst (λ u. PartAt u (steps (l ∷ drop (i + 1) path)) [] q ↔ PartAt w (steps path) [] q) es g in
+    (λ r. g'.0 (PartAt.field h r), λ r. into-field h (g'.1 r))
+
+lost : {l : Name} {q : Sig} {p : List Item} (s : Sig) → ((fs : SigRow) → s ≡ Sig.Str fs → NoField l fs) → PartAt s (Item.Part l ∷ p) [] q → ⊥
+lost _ n (PartAt.field {fs = fs} h r) = no-field fs (n fs refl) h
+
+pub step-lost : (s w : Sig) (path : List Name) (i : ℕ) (l : Name) → i < length path → l ≡ get_or path i l → ((fs : SigRow) → s ≡ Sig.Str fs → NoField l fs) → Follows s (drop i path) w path → (q : Sig) → PartAt w (steps path) [] q → ⊥
+step-lost s w path i l lt el n f q r =
+    let e : drop i path ≡ l ∷ drop (i + 1) path = path-at path i l lt ∙ ap (λ m. m ∷ drop (i + 1) path) (sym el) in
+    lost s n (subst (λ p. PartAt s (steps p) [] q) e ((f q).1 r))
+
+pub path-done : (s w : Sig) (path : List Name) (i : ℕ) → length path ≤ i → Follows s (drop i path) w path → PartAt w (steps path) [] s
+path-done s w path i le f = (f s).0 (subst (λ p. PartAt s (steps p) [] s) (sym (all path i le)) PartAt.end)
+  where
+    all : (path : List Name) (i : ℕ) → length path ≤ i → drop i path ≡ []
+    all [] zero le = refl
+    all [] (suc i) le = refl
+    all (l ∷ path) zero le = absurd (omega (arith, le))
+    all (l ∷ path) (suc i) le = all path i (omega arith)

@@ -1,0 +1,13 @@
+pub mod Fields
+pub mod Code
+pub mod Size
+pub mod Bound
+pub mod View
+pub mod Falls
+pub mod Changes
+pub mod Change
+pub mod Quantified
+pub mod Items
+pub mod Made
+pub mod Entries
+pub mod EnvCode

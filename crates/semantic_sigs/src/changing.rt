@@ -1,0 +1,142 @@
+// Operations on the variables in signatures: raised, lowered, and types put in for the hidden ones.
+ghost use Rattle.std.specs.Prelude.{◌≡◌, ℕ, ◌+◌, ◌-◌, ◌<◌, ◌++◌, IfOk, List, length};
+ghost use Rattle.omega_kinds.specs.Kind.{Kind as KindTree};
+ghost use Rattle.omega_types.specs.Binders.{NormalForms};
+ghost use Rattle.omega_types.specs.Index.{bump};
+ghost use Rattle.signatures.specs.Signatures.Alike.{IsSigAt, NormalSig, NormalAbs};
+ghost use Rattle.signatures.specs.Signatures.SigMentions.{MentionsSig};
+ghost use Rattle.signatures.specs.Signatures.SigSubst.{rename_sig, rename_abs};
+ghost use Rattle.semantic_sigs.specs.Change.{change_of};
+ghost use Rattle.semantic_sigs.specs.Changes.{sig_in, abs_in, sig_row_in, sunk, sinks};
+ghost use Rattle.semantic_sigs.specs.Fields.{sig_row};
+ghost use Rattle.semantic_sigs.specs.View.{kinds_of, body_of};
+
+use crate::heads::{Change, change_ty, sum};
+use crate::tree::{Abs, Sig, SigFields, SigNode};
+use omega_kinds::{Kinds, Mem};
+use std::alloc::Global;
+use type_normal::NormalTy;
+
+/// The body of an abstract signature with normal types put in for its hidden ones, one for each, the first for the
+/// outermost: the normal form of the substitution. The types stand in the context of the abstract signature.
+/// `Err` is want of memory, also where an index would pass the last number.
+///
+/// Rossberg, Russo and Dreyer, "F-ing modules", section 4, Signature matching: a signature at types for its variables.
+pub fn instantiate(alloc: Global, abs: &Abs, types: &[NormalTy]) -> Result<Sig, Mem>
+    ensures { IfOk result (λ s. (ctx : List KindTree) → NormalAbs ctx abs.now → NormalForms ctx types.now (kinds_of abs.now) types.now → IsSigAt ctx (body_of abs.now) types.now s) }
+{
+    change_sig(alloc, abs.body(), Change::Put(types), 0)
+}
+
+/// The signature with `by` added to each free index that is at least `from`. It stands in each context to which the shift
+/// takes one of the argument's. `Err` is want of memory, also where an index would pass the last number.
+pub fn raise_sig(alloc: Global, sig: &Sig, by: u64, from: u64) -> Result<Sig, Mem>
+    ensures { IfOk result (λ s. s ≡ rename_sig (bump by from) sig.now) }
+{
+    change_sig(alloc, sig, Change::Raise(by), from)
+}
+
+/// The same for an abstract signature.
+pub fn raise_abs(alloc: Global, abs: &Abs, by: u64, from: u64) -> Result<Abs, Mem>
+    ensures { IfOk result (λ x. x ≡ rename_abs (bump by from) abs.now) }
+{
+    change_abs(alloc, abs, Change::Raise(by), from)
+}
+
+/// The signature with each free index less by `by`. Where it mentions no index below `by`, it is the one signature
+/// which, raised by `by` from 0, is the given one, and its types are normal in the context without the `by` innermost
+/// variables. `Err` is want of memory.
+pub fn lower_sig(alloc: Global, sig: &Sig, by: u64) -> Result<Sig, Mem>
+    ensures value { IfOk result (λ s. s ≡ rename_sig (λ i. i - by) sig.now) }
+    ensures raised { IfOk result (λ s. ((i : ℕ) → i < by → MentionsSig i sig.now → ⊥) → rename_sig (bump by 0) s ≡ sig.now) }
+    ensures normal { IfOk result (λ s. (inner ctx : List KindTree) → length inner ≡ by → NormalSig (inner ++ ctx) sig.now → ((i : ℕ) → i < by → MentionsSig i sig.now → ⊥) → NormalSig ctx s) }
+{
+    change_sig(alloc, sig, Change::Lower(by), 0)
+}
+
+// The signature, changed below `depth` binders.
+#[cycle(change)]
+#[tactic(auto, using(crate::proofs::SigSteps::sig_steps))]
+fn change_sig(alloc: Global, sig: &Sig, change: Change<'_>, depth: u64) -> Result<Sig, Mem>
+    ensures { IfOk result (λ s. s ≡ sig_in (sunk depth (change_of change.entry)) sig.now) }
+{
+    if sig.bound() <= depth {
+        return sig.share();
+    }
+    match sig.node() {
+        SigNode::Val(ty) => {
+            let ty = change_ty(alloc, ty, change, depth)?;
+            Sig::make(alloc, SigNode::Val(ty))
+        }
+        SigNode::Typ(ty, kind) => {
+            let ty = change_ty(alloc, ty, change, depth)?;
+            Sig::make(alloc, SigNode::Typ(ty, kind.share()?))
+        }
+        SigNode::Meta(abs) => {
+            let abs = change_abs(alloc, abs, change, depth)?;
+            Sig::make(alloc, SigNode::Meta(abs))
+        }
+        SigNode::Str(fields) => {
+            let fields = change_sig_fields(alloc, fields, change, depth)?;
+            Sig::make(alloc, SigNode::Str(fields))
+        }
+        SigNode::Fun {
+            effect,
+            kinds,
+            param,
+            result,
+        } => {
+            let inner = below(depth, kinds)?;
+            let param = change_sig(alloc, param, change, inner)?;
+            let result = change_abs(alloc, result, change, inner)?;
+            Sig::make(
+                alloc,
+                SigNode::Fun {
+                    effect: *effect,
+                    kinds: kinds.share(alloc)?,
+                    param,
+                    result,
+                },
+            )
+        }
+    }
+}
+
+// The abstract signature, changed below `depth` binders.
+#[cycle(change)]
+#[tactic(auto, using(crate::proofs::SigSteps::sig_steps))]
+fn change_abs(alloc: Global, abs: &Abs, change: Change<'_>, depth: u64) -> Result<Abs, Mem>
+    ensures { IfOk result (λ x. x ≡ abs_in (sunk depth (change_of change.entry)) abs.now) }
+{
+    if abs.bound() <= depth {
+        return abs.share();
+    }
+    let body = change_sig(alloc, abs.body(), change, below(depth, abs.kinds())?)?;
+    Abs::make(alloc, abs.kinds().share(alloc)?, body)
+}
+
+// The fields with each part changed.
+#[cycle(change)]
+#[tactic(auto, using(crate::proofs::SigSteps::sig_steps))]
+fn change_sig_fields(
+    alloc: Global,
+    fields: &SigFields,
+    change: Change<'_>,
+    depth: u64,
+) -> Result<SigFields, Mem>
+    ensures { IfOk result (λ f. sig_row f ≡ sig_row_in (sunk depth (change_of change.entry)) (sig_row fields.now)) }
+{
+    let mut changed = SigFields::new(alloc);
+    for field in fields.items() {
+        let part = change_sig(alloc, &field.1, change, depth)?;
+        changed.push((field.0.share()?, part))?;
+    }
+    Ok(changed)
+}
+
+// How many binders stand round the inside of these binders.
+fn below(depth: u64, kinds: &Kinds) -> Result<u64, Mem>
+    ensures { IfOk result (λ inner. inner ≡ length kinds.now + depth) }
+{
+    sum(kinds.items().len() as u64, depth)
+}

@@ -1,0 +1,31 @@
+// Semantic signatures in code: shared trees, what elaboration makes of phrases, environments, and operations on them.
+// Stands on the crates of types and terms, and on signatures and sig_laws, whose definitions its contracts cite.
+// Proved: `raise_sig`, `raise_abs` and `lower_sig` rename as the definitions do, `instantiate` gives the normal form of a
+// signature at types, `sig_mentions` decides mentions, `part` follows a path, `encode` and `encode_sig` give the encoding,
+// and `find` gives exactly what an environment has for a name.
+#![tactic(auto)]
+
+pub mod changing;
+pub mod encoding;
+pub mod env;
+mod heads;
+pub mod made;
+pub mod mentioning;
+pub mod part_terms;
+pub mod parts;
+pub mod path;
+#[cfg(test)]
+mod tests;
+pub mod tree;
+pub mod witnesses;
+
+pub use changing::{instantiate, lower_sig, raise_abs, raise_sig};
+pub use encoding::{encode, encode_sig};
+pub use env::{Entry, Env};
+pub use made::{Kinded, Module, Typed, Why};
+pub use mentioning::sig_mentions;
+pub use part_terms::{type_term, value_term};
+pub use parts::{find_field, part};
+pub use path::{Item, Path};
+pub use tree::{Abs, Sig, SigFields, SigNode};
+pub use witnesses::Witnesses;

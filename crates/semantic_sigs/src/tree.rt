@@ -1,0 +1,294 @@
+// Semantic signatures, whose parts are shared.
+ghost use Rattle.std.specs.Prelude.{◌≡◌, ◌++◌, ◌∷◌, [], IfOk, OnOk, OnErr, slice_get};
+ghost use Rattle.std.specs.Option.{option_copied};
+ghost use Rattle.signatures.specs.Signatures.Sig.{Ex};
+ghost use Rattle.semantic_sigs.specs.Bound.{bound_sig, bound_abs, bound_sig_pairs};
+ghost use Rattle.semantic_sigs.specs.Fields.{Rises, MayFollow};
+ghost use Rattle.semantic_sigs.specs.View.{sig_of, kinds_of, body_of};
+
+use omega_kinds::{Effect, Kind, Kinds, Mem, Name};
+use std::alloc::Global;
+use std::marker::Model;
+use std::rc::Rc;
+use type_normal::{NormalTy, plain};
+
+/// A semantic signature: a handle on a tree under binders, whose parts are shared.
+/// Contracts see it as the plain tree with de Bruijn indexes, 0 being the innermost.
+///
+/// Rossberg, Russo and Dreyer, "F-ing modules", section 4, Semantic signatures.
+#[cycle(sig)]
+#[derive(Drop)]
+pub struct Sig {
+    // the least number above all free indexes
+    bound: u64,
+    node: Rc<SigNode>,
+}
+
+/// The outermost form of a signature, with its parts: a value, a type with its kind, a signature, a structure, and a
+/// functor. The functor's variables, the outermost first, are bound in its parameter and in its result.
+#[cycle(sig)]
+#[derive(Drop)]
+pub enum SigNode {
+    Val(NormalTy),
+    Typ(NormalTy, Kind),
+    Meta(Abs),
+    Str(SigFields),
+    Fun {
+        effect: Effect,
+        kinds: Kinds,
+        param: Sig,
+        result: Abs,
+    },
+}
+
+/// The fields of a structure, in strictly rising order of their names. Contracts see them as the list of names with
+/// signatures.
+#[cycle(sig)]
+#[derive(Drop)]
+pub struct SigFields {
+    pairs: Vec<(Name, Sig)>,
+}
+
+/// An abstract signature: one that hides types of some kinds, the outermost variable first.
+/// Contracts see it as the plain tree.
+///
+/// Rossberg, Russo and Dreyer, "F-ing modules", section 4, Semantic signatures.
+#[cycle(sig)]
+#[derive(Drop)]
+pub struct Abs {
+    // the least number above all free indexes
+    bound: u64,
+    node: Rc<AbsNode>,
+}
+
+// The parts of an abstract signature.
+#[cycle(sig)]
+#[derive(Drop)]
+struct AbsNode {
+    kinds: Kinds,
+    body: Sig,
+}
+
+impl Model for Sig {
+    ghost use Rattle.std.specs.Prelude.{◌≡◌};
+    ghost use Rattle.signatures.specs.Signatures.Sig.{Sig as SigTree};
+    ghost use Rattle.semantic_sigs.specs.Code.{sig_code};
+
+    ghost Value = { SigTree };
+
+    ghost coded = { sig_code };
+
+    ghost use Rattle.semantic_sigs.specs.Size.{sig_nodes};
+
+    ghost size = { sig_nodes };
+
+    ghost use Rattle.semantic_sigs.specs.Bound.{bound_sig as bound_of_sig};
+    ghost use Rattle.semantic_sigs.specs.View.{sig_of};
+
+    ghost view = { λ s. sig_of s.node.value };
+
+    ghost invariant = { λ s. s.bound ≡ bound_of_sig (sig_of s.node.value) };
+
+    ghost use Rattle.semantic_sigs.specs.Falls.{sig_falls};
+
+    ghost size_decreases = { λ s _. sig_falls s.node.value };
+}
+
+impl Model for SigFields {
+    ghost use Rattle.semantic_sigs.specs.Fields.{SigPairs};
+    ghost use Rattle.semantic_sigs.specs.Code.{sig_pairs_code};
+
+    ghost Value = { SigPairs };
+
+    ghost coded = { sig_pairs_code };
+
+    ghost use Rattle.semantic_sigs.specs.Size.{sig_pairs_nodes};
+
+    ghost size = { sig_pairs_nodes };
+
+    ghost use Rattle.semantic_sigs.specs.Fields.{Rises};
+
+    ghost view = { λ f. f.pairs.items };
+
+    ghost invariant = { λ f. Rises f.pairs.items };
+
+    ghost use Rattle.semantic_sigs.specs.Falls.{pairs_fall};
+
+    ghost size_decreases = { λ f _. pairs_fall f.pairs.items };
+}
+
+impl Model for Abs {
+    ghost use Rattle.std.specs.Prelude.{◌≡◌};
+    ghost use Rattle.signatures.specs.Signatures.Sig.{Abs as AbsTree};
+    ghost use Rattle.semantic_sigs.specs.Code.{abs_code};
+
+    ghost Value = { AbsTree };
+
+    ghost coded = { abs_code };
+
+    ghost use Rattle.semantic_sigs.specs.Size.{abs_nodes};
+
+    ghost size = { abs_nodes };
+
+    ghost use Rattle.semantic_sigs.specs.Bound.{bound_abs as bound_of_abs};
+    ghost use Rattle.semantic_sigs.specs.View.{abs_of};
+
+    ghost view = { λ x. abs_of x.node.value };
+
+    ghost invariant = { λ x. x.bound ≡ bound_of_abs (abs_of x.node.value) };
+
+    ghost use Rattle.semantic_sigs.specs.Falls.{abs_falls};
+
+    ghost size_decreases = { λ x _. abs_falls x.node.value };
+}
+
+impl Sig {
+    /// The signature that a node makes. `Err` is want of memory.
+    pub fn make(alloc: Global, node: SigNode) -> Result<Sig, Mem>
+        ensures { IfOk result (λ s. s ≡ sig_of node) }
+    {
+        let bound = node.bound();
+        Ok(Sig {
+            bound,
+            node: Rc::new(alloc, node)?,
+        })
+    }
+
+    /// The outermost form of a signature.
+    pub fn node(&self) -> &SigNode
+        ensures { sig_of result.now ≡ self.now }
+    {
+        &self.node
+    }
+
+    /// The least number above all free indexes: 0 for a closed signature. Takes one step.
+    pub fn bound(&self) -> u64
+        ensures { result ≡ bound_sig self.now }
+    {
+        self.bound
+    }
+
+    /// The same signature, with its parts shared. `Err` is want of memory.
+    pub fn share(&self) -> Result<Sig, Mem>
+        ensures { IfOk result (λ s. s ≡ self.now) }
+    {
+        Ok(Sig {
+            bound: self.bound,
+            node: self.node.clone()?,
+        })
+    }
+}
+
+impl SigNode {
+    // The least number above all free indexes of the signature that the node makes.
+    fn bound(&self) -> u64
+        ensures { result ≡ bound_sig (sig_of self.now) }
+    {
+        match self {
+            SigNode::Val(ty) | SigNode::Typ(ty, _) => plain(ty).bound(),
+            SigNode::Meta(sig) => sig.bound(),
+            SigNode::Str(fields) => fields.bound(),
+            SigNode::Fun {
+                kinds,
+                param,
+                result,
+                ..
+            } => {
+                let inner = param.bound().max(result.bound());
+                inner.saturating_sub(kinds.items().len() as u64)
+            }
+        }
+    }
+}
+
+impl SigFields {
+    /// No fields.
+    pub fn new(alloc: Global) -> SigFields
+        ensures { result ≡ [] }
+    {
+        SigFields {
+            pairs: Vec::new(alloc),
+        }
+    }
+
+    /// One more field at the end, whose name is greater than the last one.
+    /// `Err` is want of memory, and the list stays as it was.
+    pub fn push(&mut self, item: (Name, Sig)) -> Result<(), Mem>
+        requires { MayFollow self.old item.0 }
+        ensures ok { OnOk result (self.new ≡ self.old ++ item ∷ []) }
+        ensures err { OnErr result (self.new ≡ self.old) }
+    {
+        self.pairs.push(item)?;
+        Ok(())
+    }
+
+    /// The fields in their order.
+    pub fn items(&self) -> &[(Name, Sig)]
+        ensures value { result.now ≡ self.now }
+        ensures rising { Rises result.now }
+    {
+        self.pairs.as_slice()
+    }
+
+    /// The field at a place, counted from 0; `None` exactly past the end.
+    pub fn get(&self, i: usize) -> Option<&(Name, Sig)>
+        ensures { option_copied result ≡ slice_get self.now i }
+    {
+        self.pairs.get(i)
+    }
+
+    // The least number above all free indexes of the fields.
+    fn bound(&self) -> u64
+        ensures { result ≡ bound_sig_pairs self.now }
+    {
+        let mut most = 0;
+        for field in &self.pairs {
+            most = field.1.bound().max(most);
+        }
+        most
+    }
+}
+
+impl Abs {
+    /// The signature that hides types of these kinds, the first being the outermost, in a body. `Err` is want of memory.
+    pub fn make(alloc: Global, kinds: Kinds, body: Sig) -> Result<Abs, Mem>
+        ensures { IfOk result (λ x. x ≡ Ex kinds body) }
+    {
+        let bound = body.bound().saturating_sub(kinds.items().len() as u64);
+        Ok(Abs {
+            bound,
+            node: Rc::new(alloc, AbsNode { kinds, body })?,
+        })
+    }
+
+    /// The kinds of the hidden types, the outermost first.
+    pub fn kinds(&self) -> &Kinds
+        ensures { result.now ≡ kinds_of self.now }
+    {
+        &self.node.kinds
+    }
+
+    /// What stands under the hidden types.
+    pub fn body(&self) -> &Sig
+        ensures { result.now ≡ body_of self.now }
+    {
+        &self.node.body
+    }
+
+    /// The least number above all free indexes: 0 for a closed signature. Takes one step.
+    pub fn bound(&self) -> u64
+        ensures { result ≡ bound_abs self.now }
+    {
+        self.bound
+    }
+
+    /// The same signature, with its parts shared. `Err` is want of memory.
+    pub fn share(&self) -> Result<Abs, Mem>
+        ensures { IfOk result (λ x. x ≡ self.now) }
+    {
+        Ok(Abs {
+            bound: self.bound,
+            node: self.node.clone()?,
+        })
+    }
+}

@@ -1,0 +1,3 @@
+pub mod SigText
+pub mod SigInScope
+pub mod Pieces
