@@ -1,14 +1,13 @@
 -- Rows of the table, and the values that a parse found.
-use Rattle.std.proofs.Common.{◌≡◌, ◌∙◌, ℕ, List, [], Option, Some, None, refl, sym, ap, subst, codes, true}
+use Rattle.std.proofs.Common.{◌≡◌, ◌∙◌, List, [], Option, Some, None, sym, ap, subst, codes, true}
 use Rattle.clap.specs.Walk.{Row, Text, first_of, rows_of}
 use Rattle.clap.specs.Matches.{found_of}
 use Rattle.clap.specs.Simple.{App, HasMatchesOf, is_simple, matches_of}
-use Rattle.clap.specs.Kinds.{Kinds}
 use Rattle.clap.specs.Takes.{takes}
 use Rattle.clap.specs.Faults.{fault_of, is_simple_and_free}
 use Rattle.clap.specs.declared.parser.matches.ArgMatches.{ArgMatches}
 use Rattle.fing_words.specs.SimpleCommand.{simple_command}
-use Rattle.fing_words.specs.CommandLines.{IsCommandLine, IsFound, IsLineOf, IsRow, ReadsAs, Table}
+use Rattle.fing_words.specs.CommandLines.{IsCommandLine, IsFound, IsRow, ReadsAs, Table}
 use Rattle.fing_words.specs.Names.{text_of}
 use Rattle.fing_words.specs.declared.command_line.CommandLine.{CommandLine}
 use Rattle.fing_words.specs.declared.command_line.CommandLine.TheVariants as line
@@ -22,7 +21,7 @@ named command n budget line.Check row = (name.Check, row.0)
 named command n budget line.Emit row = (name.Emit, row.0)
 named command n budget (line.Run steps) row = (name.Run, row.0)
 named command n budget line.Verify row = (name.Verify, row.0)
-named command n budget (line.Gen number) row = (name.Gen, row.0)
+named command n budget (line.Gen size) row = (name.Gen, row.0)
 
 -- a command that has no name is in no row
 pub no_row : (command : Text) (n budget : Option Text) (found : Option CommandLine) → found ≡ None

@@ -1,5 +1,5 @@
 -- Which words are which command line.
-use Rattle.std.specs.Prelude.{◌≡◌, ℕ, ◌≤◌, List, Option, Some, None, codes, true}
+use Rattle.std.specs.Prelude.{◌≡◌, ℕ, List, Option, Some, None, codes, true}
 use Rattle.clap.specs.Walk.{Row, Text, first_of}
 use Rattle.clap.specs.Simple.{matches_of}
 use Rattle.clap.specs.Takes.{takes}
@@ -13,10 +13,10 @@ abbrev pub IsBudget : Option Text → ℕ → Type 0
 IsBudget None steps = steps ≡ 1000000
 IsBudget (Some text) steps = IsNumberFrom 0 10000000 text steps
 
--- the number of `gen`, which is given, from 1 to 300
-abbrev pub IsGenerated : Option Text → ℕ → Type 0
-IsGenerated None number = ⊥
-IsGenerated (Some text) number = IsNumberFrom 1 300 text number
+-- the size of the generated program: the given number, from 1 to 300
+abbrev pub IsSize : Option Text → ℕ → Type 0
+IsSize None size = ⊥
+IsSize (Some text) size = IsNumberFrom 1 300 text size
 
 -- the table of commands, one row for each: the values of `command`, `n` and `--budget`, and the command line
 abbrev pub Table : Text → Option Text → Option Text → CommandLine → Type 0
@@ -24,7 +24,7 @@ Table command n budget Check = (command ≡ codes "check") × (n ≡ None) × (b
 Table command n budget Emit = (command ≡ codes "emit") × (n ≡ None) × (budget ≡ None)
 Table command n budget (Run steps) = (command ≡ codes "run") × (n ≡ None) × IsBudget budget steps
 Table command n budget Verify = (command ≡ codes "verify") × (n ≡ None) × (budget ≡ None)
-Table command n budget (Gen number) = (command ≡ codes "gen") × IsGenerated n number × (budget ≡ None)
+Table command n budget (Gen size) = (command ≡ codes "gen") × IsSize n size × (budget ≡ None)
 
 -- the row of these values, or no row has them
 abbrev pub IsRow : Text → Option Text → Option Text → Option CommandLine → Type 0

@@ -13,8 +13,8 @@ pub enum CommandLine {
     Run { budget: u32 },
     /// `verify`: whether the source, an Omega text, is well typed.
     Verify,
-    /// `gen`: the sizes of the generated program of this number, from 1 to 300.
-    Gen { number: u32 },
+    /// `gen`: the counts of the generated program of this size, from 1 to 300.
+    Gen { size: u32 },
 }
 
 impl CommandLine {

@@ -1,7 +1,7 @@
 // The table of commands: which values of the simple command are which command line.
 ghost use Rattle.std.specs.Prelude.{◌≡◌, ℕ, None, codes, MatchOption};
 ghost use Rattle.std.specs.Option.{option_copied};
-ghost use Rattle.fing_words.specs.CommandLines.{IsBudget, IsGenerated, IsRow};
+ghost use Rattle.fing_words.specs.CommandLines.{IsBudget, IsSize, IsRow};
 ghost use Rattle.fing_words.specs.Names.{text_of};
 ghost use Rattle.fing_words.specs.declared.table.Name.{Name};
 
@@ -12,8 +12,8 @@ use crate::number::number_from;
 const DEFAULT_BUDGET: u32 = 1000000;
 // The most steps of `run`.
 const MOST_STEPS: u32 = 10000000;
-// The greatest number of `gen`.
-const MOST_NUMBER: u32 = 300;
+// The greatest size of a generated program.
+const MOST_SIZE: u32 = 300;
 
 // The command of a row.
 #[derive(Clone, Copy, Debug, PartialEq, Eq)]
@@ -49,12 +49,12 @@ fn budget_of(given: Option<&str>) -> Option<u32>
     }
 }
 
-// The number of `gen`, where one is given.
-fn generated(given: Option<&str>) -> Option<u32>
-    ensures { MatchOption result ((number : ℕ) → IsGenerated (option_copied given.entry) number → ⊥) (IsGenerated (option_copied given.entry)) }
+// The size of the generated program, where one is given.
+fn gen_size(given: Option<&str>) -> Option<u32>
+    ensures { MatchOption result ((size : ℕ) → IsSize (option_copied given.entry) size → ⊥) (IsSize (option_copied given.entry)) }
 {
     match given {
-        Some(text) => number_from(text, 1, MOST_NUMBER),
+        Some(text) => number_from(text, 1, MOST_SIZE),
         None => None,
     }
 }
@@ -90,8 +90,8 @@ fn gen_line(n: Option<&str>, budget: Option<&str>) -> Option<CommandLine>
     match budget {
         Some(_) => None,
         None => {
-            let number = generated(n)?;
-            Some(CommandLine::Gen { number })
+            let size = gen_size(n)?;
+            Some(CommandLine::Gen { size })
         }
     }
 }

@@ -26,13 +26,16 @@ const LINES: [(&[&str], CommandLine); 13] = [
     (&["emit", "--"], CommandLine::Emit),
     (&["--", "emit"], CommandLine::Emit),
     (&["run"], CommandLine::Run { budget: 1000000 }),
-    (&["run", "--budget", "10000000"], CommandLine::Run { budget: 10000000 }),
+    (
+        &["run", "--budget", "10000000"],
+        CommandLine::Run { budget: 10000000 },
+    ),
     (&["run", "--budget=5"], CommandLine::Run { budget: 5 }),
     (&["--budget", "0", "run"], CommandLine::Run { budget: 0 }),
-    (&["gen", "1"], CommandLine::Gen { number: 1 }),
-    (&["gen", "300"], CommandLine::Gen { number: 300 }),
-    (&["gen", "00000030"], CommandLine::Gen { number: 30 }),
-    (&["gen", "--", "7"], CommandLine::Gen { number: 7 }),
+    (&["gen", "1"], CommandLine::Gen { size: 1 }),
+    (&["gen", "300"], CommandLine::Gen { size: 300 }),
+    (&["gen", "00000030"], CommandLine::Gen { size: 30 }),
+    (&["gen", "--", "7"], CommandLine::Gen { size: 7 }),
 ];
 
 #[test]

@@ -2,7 +2,7 @@ use Rattle.std.proofs.Common.{◌≡◌, ◌∙◌, ap, ap₂, rules, codes, tru
 use Rattle.std.proofs.lemmas.Result.{IfOk-weaker}
 use Rattle.clap.specs.Walk.{rule_of}
 use Rattle.clap.specs.Simple.{App, app_of, app_of_fields, new_app, on_top, with_rule}
-use Rattle.fing_words.specs.SimpleCommand.{budget_rule, command_rule, n_rule, simple_command}
+use Rattle.fing_words.specs.SimpleCommand.{budget_rule, command_rule, n_rule}
 use Rattle.fing_words.proofs.words.command.Goals as goal
 
 abbrev without_name : App → App

@@ -1,5 +1,5 @@
-use Rattle.std.proofs.Common.{◌≡◌, ◌∙◌, List, ℕ, Option, Some, None, ap, sym, rules, codes, option_map}
-use Rattle.clap.specs.Walk.{first_of, rows_of}
+use Rattle.std.proofs.Common.{◌≡◌, ◌∙◌, Some, None, sym, rules, codes}
+use Rattle.clap.specs.Walk.{rows_of}
 use Rattle.clap.specs.Matches.{found_of, first_value}
 use Rattle.clap.proofs.WalkLemmas.{first_value-rows}
 use Rattle.fing_words.proofs.Rows.{found_row, none_given}
