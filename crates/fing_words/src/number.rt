@@ -10,9 +10,5 @@ pub(crate) fn number_from(text: &str, least: u32, most: u32) -> Option<u32>
         return None;
     }
     let value: u32 = text.parse().ok()?;
-    if least <= value && value <= most {
-        Some(value)
-    } else {
-        None
-    }
+    (least..=most).contains(&value).then_some(value)
 }

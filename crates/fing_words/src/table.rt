@@ -16,8 +16,8 @@ const MOST_STEPS: u32 = 10000000;
 const MOST_SIZE: u32 = 300;
 
 // The command of a row.
-#[derive(Clone, Copy, Debug, PartialEq, Eq)]
-pub(crate) enum Name {
+#[derive(Clone, Copy)]
+enum Name {
     Check,
     Emit,
     Run,
