@@ -39,10 +39,9 @@ pub found_row : (rows : List Row) (command : Text) (n budget : Option Text) (fou
     → first_of (codes "n") rows ≡ n → first_of (codes "budget") rows ≡ budget → IsRow command n budget found → IsFound rows found
 found_row rows command n budget None given number steps none = λ l is.
     let same : is.command ≡ command = (let e : Some is.command ≡ Some command = sym is.given ∙ given in cc) in
-    let row = subst (λ (o : Option Text). Table is.command (first_of (codes "n") rows) o l) steps
-    (is.row) in
-    let row2 = subst (λ (o : Option Text). Table is.command o budget l) number row in
-    none l (subst (λ (t : Text). Table t n budget l) same row2)
+    let with_steps = subst (λ (o : Option Text). Table is.command (first_of (codes "n") rows) o l) steps is.row in
+    let with_number = subst (λ (o : Option Text). Table is.command o budget l) number with_steps in
+    none l (subst (λ (t : Text). Table t n budget l) same with_number)
 found_row rows command n budget (Some l) given number steps row = record {
   command = command;
   given = given;
