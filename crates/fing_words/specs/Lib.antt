@@ -1,0 +1,4 @@
+pub mod Numbers
+pub mod SimpleCommand
+pub mod CommandLines
+pub mod Names
