@@ -10,7 +10,7 @@ use Rattle.omega_terms.specs.declared.tree.TermNode.{TermNode}
 use Rattle.omega_terms.specs.declared.tree.TermNode.TheVariants as node
 use Rattle.omega_terms.specs.declared.op.Op.{Op}
 use Rattle.omega_terms.specs.Term.{Term, TermRow}
-use Rattle.omega_terms.specs.Typing.{HasType, At}
+use Rattle.omega_terms.specs.Typing.{HasType}
 use Rattle.omega_terms.specs.Steps.{IsValue, AreValues, HasField, Step, Faults}
 use Rattle.omega_terms.specs.View.{term_of}
 use Rattle.omega_terms.proofs.TypingLaws.{good-none}

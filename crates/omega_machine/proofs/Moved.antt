@@ -16,19 +16,18 @@ use Rattle.omega_kinds.specs.LabelOrder.{LabelBefore}
 use Rattle.omega_types.specs.Fields.{Rises, MayFollow}
 use Rattle.omega_terms.specs.declared.tree.TermNode.{TermNode}
 use Rattle.omega_terms.specs.declared.tree.TermNode.TheVariants as node
-use Rattle.omega_terms.specs.Term.{Term, TermRow}
+use Rattle.omega_terms.specs.Term.{Term}
 use Rattle.omega_terms.specs.Fields.{TermPairs, term_row}
 use Rattle.omega_terms.specs.Size.{term_size, pairs_size}
 use Rattle.omega_terms.specs.Steps.{IsValue, AreValues}
 use Rattle.omega_terms.specs.View.{term_of}
 use Rattle.omega_machine.specs.declared.frames.Waiting.{Waiting}
 use Rattle.omega_machine.specs.declared.frames.Waiting.TheVariants as waiting
-use Rattle.omega_machine.specs.declared.frames.Frame.{Frame}
 use Rattle.omega_machine.specs.declared.frames.Frame.TheVariants as frame
 use Rattle.omega_machine.specs.declared.refocus.Move.{Move}
 use Rattle.omega_machine.specs.declared.refocus.Move.TheVariants as move
-use Rattle.omega_machine.specs.Contexts.{row_pairs, fields_of, left, rest, with_done, with_first, fill, fill_waiting}
-use Rattle.omega_machine.specs.Moves.{Begun, IsSound, frame_work, waiting_work, Moves}
+use Rattle.omega_machine.specs.Contexts.{row_pairs, fields_of, left, rest, with_done, with_first, fill_waiting}
+use Rattle.omega_machine.specs.Moves.{Begun, waiting_work, Moves}
 use Rattle.omega_machine.proofs.Reduced.{is-form}
 
 -- ---- up with a value
@@ -50,12 +49,12 @@ some-size (Term.If a b c) = omega arith
 some-size (Term.Arith op a b) = omega arith
 some-size (Term.Fix t u e) = omega arith
 
-pub goes-up : (v e : Term) → v ≡ e → IsValue e → Moves e (3 * term_size e) (move.Up v)
+goes-up : (v e : Term) → v ≡ e → IsValue e → Moves e (3 * term_size e) (move.Up v)
 goes-up v e p h = record { same = p; sound = subst IsValue (sym p) h; less = some-size e }
 
 -- ---- the fields of a record
 
-pub pairs-row : (xs : TermPairs) → row_pairs (term_row xs) ≡ xs
+pairs-row : (xs : TermPairs) → row_pairs (term_row xs) ≡ xs
 pairs-row [] = refl
 pairs-row (x ∷ xs) = ap (λ ys. x ∷ ys) (pairs-row xs)
 
@@ -81,7 +80,7 @@ next n = omega arith
 
 -- ---- to the next field
 
-pub to-field : (whole : Term) (done : TermPairs) (x : Label × Term) (part : Term) → Begun whole done → length done < length (fields_of whole) → left whole done ≡ x ∷ rest whole done → part ≡ x.1 → Moves (with_done whole done) (3 * pairs_size (left whole done) + 1) (move.Down (frame.Waiting (waiting.Field whole done)) part)
+to-field : (whole : Term) (done : TermPairs) (x : Label × Term) (part : Term) → Begun whole done → length done < length (fields_of whole) → left whole done ≡ x ∷ rest whole done → part ≡ x.1 → Moves (with_done whole done) (3 * pairs_size (left whole done) + 1) (move.Down (frame.Waiting (waiting.Field whole done)) part)
 to-field whole done x part b h e p =
     record {
       same = ap (λ ys. Term.Fields (term_row (done ++ with_first part ys))) e ∙ (ap (λ y. Term.Fields (term_row (done ++ (x.0, y) ∷ rest whole done))) p ∙ ap (λ ys. Term.Fields (term_row (done ++ ys))) (sym e));
@@ -93,7 +92,7 @@ append-nothing : (xs : TermPairs) → xs ++ [] ≡ xs
 append-nothing [] = refl
 append-nothing (x ∷ xs) = ap (λ ys. x ∷ ys) (append-nothing xs)
 
-pub to-record : (whole : Term) (done : TermPairs) (e : Term) → Begun whole done → length (fields_of whole) ≤ length done → e ≡ Term.Fields (term_row done) → Moves (with_done whole done) (3 * pairs_size (left whole done) + 1) (move.Up e)
+to-record : (whole : Term) (done : TermPairs) (e : Term) → Begun whole done → length (fields_of whole) ≤ length done → e ≡ Term.Fields (term_row done) → Moves (with_done whole done) (3 * pairs_size (left whole done) + 1) (move.Up e)
 to-record whole done e b h p =
     record {
       same = p ∙ ap (λ ys. Term.Fields (term_row ys)) (sym (append-nothing done) ∙ ap (λ ys. done ++ ys) (sym (drop_all (length done) (fields_of whole) h)));
@@ -111,7 +110,7 @@ values-more : (done : TermPairs) (l : Label) (v : Term) → AreValues (term_row 
 values-more [] l v w h = AreValues.more h AreValues.end
 values-more (x ∷ xs) l v (AreValues.more u w) h = AreValues.more u (values-more xs l v w h)
 
-pub left-first : (whole : Term) (done : TermPairs) (x : Label × Term) → length done < length (fields_of whole) → x ≡ get_or (fields_of whole) (length done) x → left whole done ≡ x ∷ rest whole done
+left-first : (whole : Term) (done : TermPairs) (x : Label × Term) → length done < length (fields_of whole) → x ≡ get_or (fields_of whole) (length done) x → left whole done ≡ x ∷ rest whole done
 left-first whole done x h p =
     drop-cons (fields_of whole) (length done) x h ∙ ap₂ (λ y k. y ∷ drop k (fields_of whole)) (sym p) (next (length done))
 
@@ -121,16 +120,16 @@ one-more whole done d x l v b h is j w e =
     let len : length d ≡ length done + 1 = ap length e ∙ length-append done ((l, v) ∷ []) in
     let left_is : left whole d ≡ rest whole done = ap (λ n. drop n fs) len in
     let labels : map (λ y. y.0) d ≡ map (λ y. y.0) (take (length d) fs) =
-          ap (map (λ y. y.0)) e ∙
-          (map-append (λ y. y.0) done ((l, v) ∷ []) ∙
-          (ap₂ (λ ks k. ks ++ k ∷ []) b.labels (j ∙ ap (λ y. y.0) is) ∙
-          (sym (map-append (λ y. y.0) (take (length done) fs) (get_or fs (length done) x ∷ [])) ∙
-          (ap (map (λ y. y.0)) (sym (take-suc fs (length done) x h)) ∙ ap (λ n. map (λ y. y.0) (take n fs)) (next (length done) ∙ sym len))))) in
+    ap (map (λ y. y.0)) e ∙
+    (map-append (λ y. y.0) done ((l, v) ∷ []) ∙
+    (ap₂ (λ ks k. ks ++ k ∷ []) b.labels (j ∙ ap (λ y. y.0) is) ∙
+    (sym (map-append (λ y. y.0) (take (length done) fs) (get_or fs (length done) x ∷ [])) ∙
+    (ap (map (λ y. y.0)) (sym (take-suc fs (length done) x h)) ∙ ap (λ n. map (λ y. y.0) (take n fs)) (next (length done) ∙ sym len))))) in
     let same : with_done whole d ≡ fill_waiting (waiting.Field whole done) v =
-          ap₂ (λ ys zs. Term.Fields (term_row (ys ++ zs))) e left_is ∙
-          (ap (λ ys. Term.Fields (term_row ys)) (append_assoc done ((l, v) ∷ []) (rest whole done)) ∙
-          (ap (λ k. Term.Fields (term_row (done ++ (k, v) ∷ rest whole done))) j ∙
-          ap (λ ys. Term.Fields (term_row (done ++ with_first v ys))) (sym (left-first whole done x h is)))) in
+    ap₂ (λ ys zs. Term.Fields (term_row (ys ++ zs))) e left_is ∙
+    (ap (λ ys. Term.Fields (term_row ys)) (append_assoc done ((l, v) ∷ []) (rest whole done)) ∙
+    (ap (λ k. Term.Fields (term_row (done ++ (k, v) ∷ rest whole done))) j ∙
+    ap (λ ys. Term.Fields (term_row (done ++ with_first v ys))) (sym (left-first whole done x h is)))) in
     (record { is = b.is; labels = labels; values = subst (λ ys. AreValues (term_row ys)) (sym e) (values-more done l v b.values w) }, same, left_is)
 
 -- ---- the next label may follow those done
@@ -188,6 +187,7 @@ next-part whole done ds o part b d e f = by-place (slice_get_cases (fields_of wh
   where
     at-done : o ≡ option_map (λ (y : Label × Term). y.1) (slice_get (fields_of whole) (length done))
     at-done = e ∙ ap (λ ys. option_map (λ (y : Label × Term). y.1) (slice_get (fields_of whole) (length ys))) d
+
     by-place : Place (fields_of whole) (length done) → Moves (with_done whole done) (3 * pairs_size (left whole done) + 1) (move.Down (frame.Waiting (waiting.Field whole done)) part)
     by-place (inl (x, h, g, k)) = to-field whole done x part b h (left-first whole done x h (sym k)) (mapped-some (fields_of whole) (length done) x o part at-done f g)
     by-place (inr (h, g)) = absurd (let k : Some part ≡ None = sym f ∙ (at-done ∙ ap (option_map (λ (y : Label × Term). y.1)) g) in cc)

@@ -1,16 +1,15 @@
 -- The code's arithmetic on 64 bits is that of the definitions.
-use Rattle.std.proofs.Common.{◌≡◌, ◌≢◌, ◌↔◌, ℕ, zero, suc, ◌^◌, ◌-◌, ◌<◌, refl, sym, ap, ap₂, ◌∙◌, subst, Bool, true, false, cond, ◌&&◌, Option, Some, None, Result, Ok, Err, MatchOption, MatchResult, ℤ, pos, negsuc, ◌+ℤ◌, ◌-ℤ◌, ◌*ℤ◌, w64, arith, of_z}
+use Rattle.std.proofs.Common.{◌≡◌, ℕ, zero, suc, ◌^◌, ◌-◌, ◌<◌, refl, sym, ap, ap₂, ◌∙◌, subst, Bool, true, false, cond, ◌&&◌, Option, Some, None, Result, Ok, Err, MatchOption, MatchResult, ℤ, pos, negsuc, ◌+ℤ◌, ◌-ℤ◌, ◌*ℤ◌, w64, arith, of_z}
 use Rattle.std.specs.Prelude.{FitsSigned, leb, int_div, int_rem, int_lt, int_le, ◌==◌}
 use Rattle.std.specs.Option.{SomeIff}
 use Rattle.std.specs.Int.{CanDivide, IsNonZero}
 use Rattle.std.proofs.Math.Bool.{and-true}
 use Rattle.std.proofs.lemmas.Bool.Decides.{nat_tests}
-use Rattle.std.proofs.lemmas.Bool.{false≢true}
 use Rattle.omega_terms.specs.declared.op.Op.{Op}
 use Rattle.omega_terms.specs.declared.tree.TermNode.{TermNode}
 use Rattle.omega_terms.specs.declared.tree.TermNode.TheVariants as node
 use Rattle.omega_terms.specs.Term.{Term}
-use Rattle.omega_terms.specs.Steps.{IsValue, Answer, Fault, fits, if_fits, is_zero, if_divides, compute}
+use Rattle.omega_terms.specs.Steps.{IsValue, Answer, Fault, fits, if_fits, is_zero, compute}
 use Rattle.omega_terms.specs.View.{term_of}
 use Rattle.omega_machine.specs.declared.outcome.Arith.{Arith}
 use Rattle.omega_machine.specs.declared.outcome.Arith.TheVariants as fault

@@ -1,5 +1,5 @@
 -- A value of a record type with any number of `some` round it is a record of values in packages.
-use Rattle.std.proofs.Common.{◌≡◌, ◌≢◌, ℕ, [], ◌∷◌, refl, subst, ◌⊎◌, inl, inr, ℤ, List, Bool as Truth}
+use Rattle.std.proofs.Common.{◌≡◌, ◌≢◌, ℕ, [], refl, subst, ◌⊎◌, inl, inr, ℤ, List, Bool as Truth}
 use Rattle.omega_kinds.specs.Kind.{Kind}
 use Rattle.omega_types.specs.Ty.{Ty}
 use Rattle.omega_types.specs.Substitution.{substitute, single, under, instantiate}

@@ -1,12 +1,12 @@
 -- Frames: what is plugged in steps, faults and is typed with the whole.
-use Rattle.std.proofs.Common.{◌≡◌, ℕ, ◌+◌, ◌<◌, List, [], ◌∷◌, ◌++◌, length, drop, refl, sym, ap, ◌∙◌, subst, arith, length-drop}
+use Rattle.std.proofs.Common.{◌≡◌, ◌+◌, ◌<◌, List, [], ◌∷◌, ◌++◌, length, refl, ap, arith, length-drop}
 use Rattle.omega_kinds.specs.declared.label.Label.{Label}
 use Rattle.omega_types.specs.Ty.{Ty, Row}
 use Rattle.omega_terms.specs.declared.op.Op.{Op}
-use Rattle.omega_terms.specs.Term.{Term, TermRow}
+use Rattle.omega_terms.specs.Term.{Term}
 use Rattle.omega_terms.specs.Fields.{TermPairs, term_row}
-use Rattle.omega_terms.specs.Typing.{HasType, FieldsHave}
-use Rattle.omega_terms.specs.Steps.{IsValue, AreValues, Step, FieldStep, Faults, FieldFaults, Fault}
+use Rattle.omega_terms.specs.Typing.{FieldsHave}
+use Rattle.omega_terms.specs.Steps.{AreValues, Step, FieldStep, Faults, FieldFaults, Fault}
 use Rattle.omega_terms.proofs.TypingLaws.{good-none}
 use Rattle.omega_laws.proofs.Unique.{Own, invert}
 use Rattle.omega_machine.specs.declared.frames.Waiting.{Waiting}
@@ -16,7 +16,7 @@ use Rattle.omega_machine.specs.declared.frames.Ready.TheVariants as ready
 use Rattle.omega_machine.specs.declared.frames.Frame.{Frame}
 use Rattle.omega_machine.specs.declared.frames.Frame.TheVariants as frame
 use Rattle.omega_machine.specs.Contexts.{fields_of, left, with_first, fill_waiting, fill_ready, fill, plug}
-use Rattle.omega_machine.specs.Moves.{IsTyped, Begun, IsSoundWaiting, IsSoundReady, IsSound, AreSound, frame_work, work}
+use Rattle.omega_machine.specs.Moves.{IsTyped, IsSoundWaiting, IsSoundReady, IsSound, AreSound, frame_work, work}
 
 -- ---- one more frame inside
 

@@ -1,5 +1,5 @@
 -- What the code puts in is what the step gives.
-use Rattle.std.proofs.Common.{◌≡◌, refl, sym, ap, ap₂, ◌∙◌, subst, Bool as Truth, true, false, ℤ}
+use Rattle.std.proofs.Common.{◌≡◌, sym, ap, ap₂, ◌∙◌, subst, Bool as Truth, true, false, ℤ}
 use Rattle.omega_types.specs.Ty.{Ty}
 use Rattle.omega_types.specs.declared.tree.Ty.{Ty as TyHandle}
 use Rattle.omega_kinds.specs.declared.kind.Kind.{Kind as KindHandle}
@@ -9,9 +9,9 @@ use Rattle.omega_terms.specs.declared.tree.TermNode.{TermNode}
 use Rattle.omega_terms.specs.declared.tree.TermNode.TheVariants as node
 use Rattle.omega_terms.specs.declared.op.Op.{Op}
 use Rattle.omega_terms.specs.Fields.{TermPairs, term_row}
-use Rattle.omega_terms.specs.Term.{Term, TermRow}
+use Rattle.omega_terms.specs.Term.{Term}
 use Rattle.omega_terms.specs.TermSubst.{put_term, put_type, shift_term}
-use Rattle.omega_terms.specs.Steps.{IsValue, AreValues, HasField, Step, Faults, Answer, Fault, compute}
+use Rattle.omega_terms.specs.Steps.{IsValue, HasField, Step, Faults, Answer, Fault, compute}
 use Rattle.omega_terms.specs.View.{term_of}
 use Rattle.omega_machine.specs.Moves.{IsTyped}
 use Rattle.omega_machine.proofs.Puts.{put-arg, put-ty, put-both, put-fix}

@@ -43,11 +43,8 @@ from-term whole fs gs x e m s p q h =
       less = omega (arith, h.less, ap focus_work p);
     })
 
-value-in : (whole : Term) (fs : List Frame) (x : Focus) (v : Term) → Stands whole fs x → x ≡ focus.Value v → IsValue v
+pub value-in : (whole : Term) (fs : List Frame) (x : Focus) (v : Term) → Stands whole fs x → x ≡ focus.Value v → IsValue v
 value-in whole fs x v s p = subst IsSoundFocus p s.in_hole
-
-pub value-stands : (whole : Term) (fs : List Frame) (x : Focus) (v : Term) → Stands whole fs x → x ≡ focus.Value v → IsValue v
-value-stands whole fs x v s p = value-in whole fs x v s p
 
 -- the frames without the innermost, and it
 pub record Popped (whole : Term) (gs : List Frame) (f : Frame) (v : Term) (most : ℕ) : Type 0 where

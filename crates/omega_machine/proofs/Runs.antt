@@ -1,12 +1,12 @@
 -- Runs: what the loop keeps, and the laws of each run.
-use Rattle.std.proofs.Common.{◌≡◌, ◌↔◌, ℕ, zero, suc, ◌+◌, ◌≤◌, ◌<◌, List, refl, sym, ap, ◌∙◌, subst, arith, []}
+use Rattle.std.proofs.Common.{◌≡◌, ◌↔◌, ℕ, suc, ◌+◌, ◌≤◌, ◌<◌, List, refl, sym, subst, arith, []}
 use Rattle.std.proofs.Common.{Result as Outcome_, IfOk}
 use Rattle.std.proofs.lemmas.Result.{IfOk-weaker}
 use Rattle.omega_kinds.specs.declared.memory.Mem.{Mem}
 use Rattle.omega_types.specs.Ty.{Ty}
 use Rattle.omega_terms.specs.Term.{Term}
-use Rattle.omega_terms.specs.Typing.{HasType, IsPackedRecord}
-use Rattle.omega_terms.specs.Steps.{IsValue, PacksFields, Step, Faults, Fault, Reaches, End, Ends, Result, Outcome}
+use Rattle.omega_terms.specs.Typing.{HasType}
+use Rattle.omega_terms.specs.Steps.{IsValue, Step, Fault, Reaches, End, Ends, Result, Outcome}
 use Rattle.omega_laws.proofs.Progress.{Progress, progress}
 use Rattle.omega_laws.proofs.Determined.{value_step, value_fault}
 use Rattle.omega_laws.proofs.Runs.{reaches_type, reached_not_stuck, outcome_unique, spent_iff}

@@ -1,11 +1,10 @@
 -- How the text of a value is put together.
-use Rattle.std.proofs.Common.{◌≡◌, ◌≢◌, ℕ, zero, suc, ◌+◌, ◌<◌, ◌≤◌, List, [], ◌∷◌, ◌++◌, length, get_or, take, drop, flat_map, refl, sym, ap, ap₂, ◌∙◌, subst, append_assoc, arith, codes}
+use Rattle.std.proofs.Common.{◌≡◌, ◌≢◌, ℕ, suc, ◌+◌, ◌<◌, ◌≤◌, List, [], ◌∷◌, ◌++◌, length, get_or, take, drop, flat_map, refl, sym, ap, ap₂, ◌∙◌, append_assoc, arith, codes}
 use Rattle.std.proofs.Math.Seq.{take-suc}
 use Rattle.std.proofs.lemmas.List.{drop_all, take_all}
 use Rattle.omega_kinds.specs.Text.{◌then◌}
 use Rattle.omega_kinds.specs.declared.label.Label.{Label}
 use Rattle.omega_kinds.specs.declared.label.Label.TheVariants as label
-use Rattle.omega_kinds.specs.declared.name.Name.{Name}
 use Rattle.omega_types.specs.declared.tree.Ty.{Ty as TyHandle}
 use Rattle.omega_terms.specs.declared.tree.Term.{Term as TermHandle}
 use Rattle.omega_terms.specs.declared.tree.TermFields.{TermFields}
@@ -50,13 +49,7 @@ marked o m a b c e =
     (append_assoc o m ((a ++ (b ++ c)) ++ e) ∙
     ap (λ x. o ++ (m ++ x)) (append_assoc a (b ++ c) e ∙ ap (λ x. a ++ x) (append_assoc b c e)))
 
-braces : (o a b c : List ℕ) → ((o ++ a) ++ b) ++ c ≡ o ++ (a then b then c)
-braces o a b c = three o a b c
-
 -- ---- lines
-
-pub lines-first : (o out xs-lines : List ℕ) → out ≡ o → out ++ xs-lines ≡ o ++ xs-lines
-lines-first o out l e = ap (λ x. x ++ l) e
 
 pub lines-more : (old new whole : List ℕ) (i : ℕ) (xs : TermPairs) (x : Label × Term) → old ++ lines (term_row (drop i xs)) ≡ whole → i < length xs → x ≡ get_or xs i x → new ≡ old ++ (label_text x.0 then codes " = " then shown x.1 then codes "\n") → new ++ lines (term_row (drop (i + 1) xs)) ≡ whole
 lines-more old new whole i xs x h l p e =
@@ -83,8 +76,8 @@ fields-more old with_mark new whole m i xs x h l p q r e =
 pub fields-end : (out o new : List ℕ) (mark : List ℕ) (i : ℕ) (xs ys : TermPairs) → out ++ shown_fields mark (term_row (drop i xs)) ≡ (o ++ codes "{") ++ shown_fields [] (term_row xs) → length xs ≤ i → xs ≡ ys → new ≡ out ++ codes "}" → new ≡ o ++ (codes "{" then shown_fields [] (term_row ys) then codes "}")
 fields-end out o new mark i xs ys h l e p =
     let at_end : out ≡ (o ++ codes "{") ++ shown_fields [] (term_row xs) =
-          sym (append-nothing out) ∙ (ap (λ zs. out ++ shown_fields mark (term_row zs)) (sym (drop_all i xs l)) ∙ h) in
-    p ∙ (ap (λ y. y ++ codes "}") at_end ∙ (braces o (codes "{") (shown_fields [] (term_row xs)) (codes "}") ∙ ap (λ zs. o ++ (codes "{" then shown_fields [] (term_row zs) then codes "}")) e))
+    sym (append-nothing out) ∙ (ap (λ zs. out ++ shown_fields mark (term_row zs)) (sym (drop_all i xs l)) ∙ h) in
+    p ∙ (ap (λ y. y ++ codes "}") at_end ∙ (three o (codes "{") (shown_fields [] (term_row xs)) (codes "}") ∙ ap (λ zs. o ++ (codes "{" then shown_fields [] (term_row zs) then codes "}")) e))
 
 -- ---- records of one field
 
@@ -109,12 +102,6 @@ shown-at fs x l e p = ap (λ ys. shown (Term.Fields (term_row ys))) e ∙ ap (λ
 
 pub single-val : (o new : List ℕ) (fs : TermPairs) (x : Label × Term) → fs ≡ x ∷ [] → x.0 ≡ label.Val → new ≡ o ++ shown x.1 → new ≡ o ++ shown (Term.Fields (term_row fs))
 single-val o new fs x e p h = h ∙ ap (λ y. o ++ y) (sym (shown-at fs x label.Val e p))
-
-pub single-typ : (o new : List ℕ) (fs : TermPairs) (x : Label × Term) → fs ≡ x ∷ [] → x.0 ≡ label.Typ → new ≡ o ++ codes "type" → new ≡ o ++ shown (Term.Fields (term_row fs))
-single-typ o new fs x e p h = h ∙ ap (λ y. o ++ y) (sym (shown-at fs x label.Typ e p))
-
-pub single-sig : (o new : List ℕ) (fs : TermPairs) (x : Label × Term) → fs ≡ x ∷ [] → x.0 ≡ label.Sig → new ≡ o ++ codes "sig" → new ≡ o ++ shown (Term.Fields (term_row fs))
-single-sig o new fs x e p h = h ∙ ap (λ y. o ++ y) (sym (shown-at fs x label.Sig e p))
 
 pub single-other : (o new : List ℕ) (fs : TermPairs) (x : Label × Term) → fs ≡ x ∷ [] → (x.0 ≡ label.Val → ⊥) → (x.0 ≡ label.Typ → ⊥) → (x.0 ≡ label.Sig → ⊥) → new ≡ o ++ (codes "{" then shown_fields [] (term_row fs) then codes "}") → new ≡ o ++ shown (Term.Fields (term_row fs))
 single-other o new fs x e v t s h =

@@ -1,6 +1,5 @@
 -- Evaluation contexts: frames, and the closed term that stands where a term is put into their hole.
 use Rattle.std.specs.Prelude.{◌+◌, List, [], ◌∷◌, ◌++◌, length, drop}
-use Rattle.omega_kinds.specs.declared.label.Label.{Label}
 use Rattle.omega_terms.specs.Term.{Term, TermRow}
 use Rattle.omega_terms.specs.Fields.{TermPairs, term_row}
 use Rattle.omega_machine.specs.declared.frames.Waiting.{Waiting}

@@ -1,6 +1,5 @@
 -- What holds of frames, and the work that is left before the next step.
-use Rattle.std.specs.Prelude.{ℕ, ◌+◌, ◌*◌, ◌<◌, ◌≤◌, ◌≡◌, List, [], ◌∷◌, length, map, take}
-use Rattle.omega_kinds.specs.declared.label.Label.{Label}
+use Rattle.std.specs.Prelude.{ℕ, ◌+◌, ◌*◌, ◌<◌, ◌≡◌, List, [], ◌∷◌, length, map, take}
 use Rattle.omega_types.specs.Ty.{Ty}
 use Rattle.omega_terms.specs.Term.{Term}
 use Rattle.omega_terms.specs.Fields.{TermPairs, term_row}

@@ -1,5 +1,5 @@
 -- What `run` answers, and the laws that hold of each run.
-use Rattle.std.specs.Prelude.{ℕ, ◌≡◌, ◌↔◌, [], List}
+use Rattle.std.specs.Prelude.{ℕ, ◌≡◌, []}
 use Rattle.omega_types.specs.Ty.{Ty}
 use Rattle.omega_terms.specs.Term.{Term}
 use Rattle.omega_terms.specs.Typing.{HasType, IsPackedRecord}

@@ -12,6 +12,8 @@ mod outcome;
 mod redexes;
 mod refocus;
 mod shown;
+#[cfg(test)]
+mod tests;
 
 pub use machine::run;
 pub use outcome::{Arith, End};

@@ -64,10 +64,7 @@ fn enter(alloc: Global, term: &Term) -> Result<Move, Mem>
         TermNode::Call(f, a) => down(Frame::Waiting(Waiting::Function(a.share()?)), f),
         TermNode::Inst(e, t) => down(Frame::Ready(Ready::Instance(t.share()?)), e),
         TermNode::Get(e, l) => down(Frame::Ready(Ready::Part(l.share()?)), e),
-        TermNode::Pack(t, e, u) => down(
-            Frame::Waiting(Waiting::Packed(t.share()?, u.share()?)),
-            e,
-        ),
+        TermNode::Pack(t, e, u) => down(Frame::Waiting(Waiting::Packed(t.share()?, u.share()?)), e),
         TermNode::Unpack(p, e) => down(Frame::Ready(Ready::Opened(e.share()?)), p),
         TermNode::If(a, b, c) => down(Frame::Ready(Ready::Test(b.share()?, c.share()?)), a),
         TermNode::Arith(op, a, b) => down(Frame::Waiting(Waiting::Left(*op, b.share()?)), a),

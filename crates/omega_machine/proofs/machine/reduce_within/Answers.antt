@@ -1,6 +1,6 @@
-use Rattle.std.proofs.Common.{◌≡◌, sym, ap, subst, arith}
+use Rattle.std.proofs.Common.{◌≡◌, sym, subst, arith}
 use Rattle.omega_machine.specs.Outcomes.{Tells}
-use Rattle.omega_machine.proofs.Runs.{Going, AtRedex, begins, going-typed, found-value, value-tells, found-redex, stepped, faulted, still-going}
+use Rattle.omega_machine.proofs.Runs.{Going, begins, going-typed, found-value, value-tells, found-redex, stepped, faulted, still-going}
 use Rattle.omega_machine.proofs.machine.reduce_within.Goals as goal
 
 pub loop-steps-init : goal.loop-steps-init

@@ -1,7 +1,4 @@
-use Rattle.std.proofs.Common.{IfOk, sym, ap, ◌∙◌, subst}
 use Rattle.std.proofs.lemmas.Result.{IfOk-weaker}
-use Rattle.omega_terms.specs.Term.{Term}
-use Rattle.omega_terms.specs.Steps.{Step}
 use Rattle.omega_machine.proofs.Canonical.{no-function}
 use Rattle.omega_machine.proofs.Reduced.{lam-step, fix-step}
 use Rattle.omega_machine.proofs.redexes.call.Goals as goal

@@ -1,6 +1,5 @@
 use Rattle.std.proofs.Common.{sym, ◌∙◌, ap, subst}
 use Rattle.std.proofs.lemmas.Result.{IfOk-weaker}
-use Rattle.omega_terms.specs.Steps.{IsValue}
 use Rattle.std.proofs.Common.{◌*◌, ◌+◌}
 use Rattle.omega_terms.specs.View.{term_of}
 use Rattle.omega_terms.specs.Size.{pairs_size}

@@ -1,5 +1,4 @@
-use Rattle.std.proofs.Common.{◌≡◌, ◌<◌, sym, ◌∙◌, ap, subst, length, get_or}
-use Rattle.omega_machine.specs.Contexts.{fields_of}
+use Rattle.std.proofs.Common.{◌≡◌, sym, ◌∙◌, subst, length, get_or}
 use Rattle.omega_machine.proofs.Moved.{fields-are, one-more, may-follow, not-more, at-done}
 use Rattle.omega_machine.proofs.refocus.one_more.Goals as goal
 

@@ -2,7 +2,7 @@ use Rattle.std.proofs.Common.{◌*◌, sym, ap, subst, refl, arith}
 use Rattle.omega_terms.specs.Size.{term_size}
 use Rattle.omega_machine.specs.Contexts.{fill_waiting, plug, term_in}
 use Rattle.omega_machine.specs.Moves.{Moves, waiting_work}
-use Rattle.omega_machine.proofs.Refocused.{Onward, left_work, typed-term, from-term, value-stands, popped, waiting-sound, from-frame, ready-found, value-found, no-frames, down-stands, down-less, up-stands, up-less}
+use Rattle.omega_machine.proofs.Refocused.{Onward, left_work, typed-term, from-term, value-in, popped, waiting-sound, from-frame, ready-found, value-found, no-frames, down-stands, down-less, up-stands, up-less}
 use Rattle.omega_machine.proofs.refocus.refocus.Goals as goal
 use Rattle.omega_machine.proofs.refocus.refocus.Goals.{in-Term+in_ok-next-in-Term, in-Value+in-Some-Waiting+in_ok-next-in-Some-Waiting}
 
@@ -18,12 +18,12 @@ resume-requires-clause-sound c =
     waiting-sound _ _ _ c.in-Some-Waiting.frame _ _ p c.in-Some-Waiting.field-0-is
 
 pub resume-requires-clause-value : goal.resume-requires-clause-value
-resume-requires-clause-value c = value-stands _ c.loop-focus.frames.items c.loop-focus.focus c.in-Value.value c.loop-focus.invariant c.in-Value.is
+resume-requires-clause-value c = value-in _ c.loop-focus.frames.items c.loop-focus.focus c.in-Value.value c.loop-focus.invariant c.in-Value.is
 
 pub returns-in-Some-Ready : goal.returns-in-Some-Ready
 returns-in-Some-Ready c =
     let p = popped _ c.loop-focus.frames.items c.pop.new.self.items c.loop-focus.focus c.in-Value.value c.in-Some-Ready.field-0 c.loop-focus.invariant c.in-Value.is c.in-Some-Ready.ensures.items in
-    ready-found _ _ _ c.in-Some-Ready.frame _ _ p c.in-Some-Ready.field-0-is (value-stands _ c.loop-focus.frames.items c.loop-focus.focus c.in-Value.value c.loop-focus.invariant c.in-Value.is)
+    ready-found _ _ _ c.in-Some-Ready.frame _ _ p c.in-Some-Ready.field-0-is (value-in _ c.loop-focus.frames.items c.loop-focus.focus c.in-Value.value c.loop-focus.invariant c.in-Value.is)
 
 pub returns-in-None : goal.returns-in-None
 returns-in-None c =
