@@ -3,7 +3,7 @@ use Rattle.std.proofs.Common.{◌≡◌, ℕ, zero, suc, ◌<◌, List, [], ◌�
 use Rattle.omega_kinds.specs.Kind.{Kind}
 use Rattle.omega_kinds.specs.declared.label.Label.{Label}
 use Rattle.omega_kinds.specs.declared.effect.Effect.{Effect}
-use Rattle.omega_types.specs.Ty.{Ty, Row}
+use Rattle.omega_types.specs.Ty.{Ty}
 use Rattle.omega_types.specs.Kinding.{HasKind}
 use Rattle.omega_types.specs.Binders.{all_over}
 use Rattle.omega_types.specs.Fields.{Rises, MayFollow}

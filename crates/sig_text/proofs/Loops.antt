@@ -17,7 +17,7 @@ use Rattle.sig_text.specs.declared.trees.Piece.{Piece}
 use Rattle.sig_text.specs.declared.trees.Piece.TheVariants as piece
 use Rattle.sig_text.specs.Pieces.{field_text, piece_text, pieces_text, PieceInScope, PiecesInScope}
 use Rattle.sig_text.specs.SigInScope.{SigInScope, SigRowInScope}
-use Rattle.sig_text.specs.SigText.{more_kinds_text, sig_text, sig_row_text}
+use Rattle.sig_text.specs.SigText.{more_kinds_text, sig_row_text}
 
 -- a call that ends where an inner one failed
 pub wrote-err : {T E : Type 0} (old new : Told) (text : List ℕ) (r : Result T E) → IsErr r → Broke old new text → Wrote old new text r
