@@ -1,6 +1,6 @@
 use Rattle.std.proofs.Common.{ℕ, List, subst, sym}
 use Rattle.fing_text.specs.Writes.{Grew, Broke}
-use Rattle.fing_text.proofs.InARow.{grew-next, broke-next, grew-all}
+use Rattle.fing_text.proofs.InARow.{broke-next, grew-all}
 use Rattle.refusal_lines.specs.declared.pieces.Piece.{Piece}
 use Rattle.refusal_lines.specs.Pieces.{piece_text, pieces_text, PieceInScope}
 use Rattle.refusal_lines.proofs.Loops.{wrote-err, pieces-text, scope-at}
