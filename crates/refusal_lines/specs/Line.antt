@@ -1,7 +1,6 @@
 -- The lines of refusals.
 use Rattle.std.specs.Prelude.{ℕ, List, [], ◌∷◌, Option, Some, None, codes, decimal}
 use Rattle.omega_kinds.specs.Text.{◌then◌}
-use Rattle.omega_kinds.specs.Kind.{Kind}
 use Rattle.omega_types.specs.Ty.{Ty}
 use Rattle.omega_terms.specs.KindText.{kind_text}
 use Rattle.omega_terms.specs.TypeText.{ty_text}
