@@ -1,0 +1,4 @@
+pub mod Plain
+pub mod Line
+pub mod InScope
+pub mod Pieces

@@ -1,0 +1,15 @@
+// The refusals of elaboration in code, and the line of each, written to a sink with no memory.
+// Stands on fing_refusals, whose plain reasons the code's are seen as, and on semantic_sigs, fing_syntax and omega_write.
+// Proved: `write_line` writes exactly the line, and fails only where the sink counted a fault, a front of the line
+// being written.
+#![tactic(auto)]
+
+mod path;
+mod pieces;
+pub mod refusal;
+#[cfg(test)]
+mod tests;
+mod writing;
+
+pub use refusal::{ElabWhy, Refusal};
+pub use writing::write_line;
