@@ -1,0 +1,17 @@
+// The grammar of the language: a relation between a list of tokens and a tree, its laws, and a recogniser.
+// Stands on fing_lexer (tokens) and fing_syntax (trees).
+// Proved: a list of tokens is a phrase of a class in at most one way; a list is a program, or has exactly one place
+// at which it stops being one, the length of its longest front that begins a program; and `recognise` gives the steps
+// in which a program's one tree is read, or refuses with exactly that length. The grammar's tables are code.
+#![tactic(auto)]
+
+pub mod choices;
+pub mod facts;
+pub mod grammar;
+pub mod recogniser;
+pub mod refusal;
+pub mod sides;
+
+pub use facts::{one_answer, one_place, one_tree};
+pub use recogniser::{Step, recognise};
+pub use refusal::ParseRefusal;
