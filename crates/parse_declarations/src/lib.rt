@@ -1,0 +1,10 @@
+// Productions of bindings, declarations, kinds and paths.
+// Stands on parse_forms.
+// Proved: each takes its parts off the stack and puts the tree of the definitions there, or misfits exactly where the
+// stack does not hold its parts.
+#![tactic(auto)]
+
+pub mod binds;
+pub mod decls;
+pub mod kinds;
+pub mod paths;

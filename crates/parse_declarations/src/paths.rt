@@ -1,0 +1,87 @@
+// Paths.
+ghost use Rattle.std.specs.Prelude.{◌≡◌, Some, None, IfOk, IfErr};
+ghost use Rattle.fing_grammar.specs.Grammar as the;
+ghost use Rattle.fing_grammar.specs.View.{path_rule_in};
+ghost use Rattle.parse_forms.specs.Part.{held};
+ghost use Rattle.parse_forms.specs.Play.{played, played_any};
+ghost use Rattle.parse_forms.specs.declared.refusal.BuildRefusal.TheVariants.{Misfit};
+
+use fing_grammar::grammar::PathRule;
+use fing_syntax::{Mod, ModWhat};
+use parse_forms::chains::{project_all, projected};
+use parse_forms::part::Part;
+use parse_forms::refusal::BuildRefusal;
+use parse_forms::stack::Stack;
+use parse_forms::tokens::{named, up_to};
+use std::alloc::Global;
+
+fn name(stack: &mut Stack<'_>, alloc: Global) -> Result<(), BuildRefusal>
+    ensures made { IfOk result (λ _. played the.path_name (held stack.old) ≡ Some (held stack.new)) }
+    ensures misfit { IfErr result (λ e. e ≡ Misfit → played the.path_name (held stack.old) ≡ None) }
+{
+    let first = stack.token()?;
+    let names = stack.names()?;
+    let whole = Mod {
+        span: first.span,
+        what: ModWhat::Name(named(alloc, first)?),
+    };
+    let path = project_all(alloc, whole, names)?;
+    stack.push(Part::Mod(path))?;
+    Ok(())
+}
+
+fn from(stack: &mut Stack<'_>, alloc: Global) -> Result<(), BuildRefusal>
+    ensures made { IfOk result (λ _. played the.path_from (held stack.old) ≡ Some (held stack.new)) }
+    ensures misfit { IfErr result (λ e. e ≡ Misfit → played the.path_from (held stack.old) ≡ None) }
+{
+    let word = stack.token()?;
+    stack.token()?;
+    let module = stack.module()?;
+    stack.token()?;
+    stack.token()?;
+    let name = stack.token()?;
+    let names = stack.names()?;
+    let whole = projected(
+        alloc,
+        up_to(word.span, name.span),
+        module,
+        named(alloc, name)?,
+    )?;
+    let path = project_all(alloc, whole, names)?;
+    stack.push(Part::Mod(path))?;
+    Ok(())
+}
+
+fn no_dots(stack: &mut Stack<'_>, alloc: Global) -> Result<(), BuildRefusal>
+    ensures made { IfOk result (λ _. played the.no_dots (held stack.old) ≡ Some (held stack.new)) }
+    ensures misfit { IfErr result (λ e. e ≡ Misfit → played the.no_dots (held stack.old) ≡ None) }
+{
+    stack.push(Part::Names(Vec::new(alloc)))?;
+    Ok(())
+}
+
+#[tactic(auto, using(parse_forms::proofs::Chained::reverse_push))]
+fn more_dots(stack: &mut Stack<'_>, alloc: Global) -> Result<(), BuildRefusal>
+    ensures made { IfOk result (λ _. played the.more_dots (held stack.old) ≡ Some (held stack.new)) }
+    ensures misfit { IfErr result (λ e. e ≡ Misfit → played the.more_dots (held stack.old) ≡ None) }
+{
+    stack.token()?;
+    let name = named(alloc, stack.token()?)?;
+    let mut rest = stack.names()?;
+    rest.push(name)?;
+    stack.push(Part::Names(rest))?;
+    Ok(())
+}
+
+/// Plays a production: its parts are taken off the stack, and what it gives is put there.
+pub fn path(stack: &mut Stack<'_>, alloc: Global, rule: PathRule) -> Result<(), BuildRefusal>
+    ensures made { IfOk result (λ _. played_any (path_rule_in rule) (held stack.old) ≡ Some (held stack.new)) }
+    ensures misfit { IfErr result (λ e. e ≡ Misfit → played_any (path_rule_in rule) (held stack.old) ≡ None) }
+{
+    match rule {
+        PathRule::Name => name(stack, alloc),
+        PathRule::From => from(stack, alloc),
+        PathRule::NoDots => no_dots(stack, alloc),
+        PathRule::MoreDots => more_dots(stack, alloc),
+    }
+}

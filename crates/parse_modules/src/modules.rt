@@ -1,0 +1,230 @@
+// Modules.
+ghost use Rattle.std.specs.Prelude.{◌≡◌, Some, None, IfOk, IfErr};
+ghost use Rattle.fing_grammar.specs.Grammar as the;
+ghost use Rattle.fing_grammar.specs.View.{mod_rule_in};
+ghost use Rattle.parse_forms.specs.Part.{held};
+ghost use Rattle.parse_forms.specs.Play.{played, played_any};
+ghost use Rattle.parse_forms.specs.declared.refusal.BuildRefusal.TheVariants.{Misfit};
+
+use fing_grammar::grammar::ModRule;
+use fing_syntax::{Mod, ModWhat};
+use parse_forms::chains::{apply_all, ascribe_all};
+use parse_forms::forms::let_mod;
+use parse_forms::part::{Ascription, Part};
+use parse_forms::refusal::BuildRefusal;
+use parse_forms::stack::Stack;
+use parse_forms::tokens::{named, up_to};
+use std::alloc::Global;
+
+fn fun(stack: &mut Stack<'_>, alloc: Global) -> Result<(), BuildRefusal>
+    ensures made { IfOk result (λ _. played the.mod_fun (held stack.old) ≡ Some (held stack.new)) }
+    ensures misfit { IfErr result (λ e. e ≡ Misfit → played the.mod_fun (held stack.old) ≡ None) }
+{
+    let word = stack.token()?;
+    stack.token()?;
+    let name = named(alloc, stack.token()?)?;
+    stack.token()?;
+    let param = Box::new(alloc, stack.sig()?)?;
+    stack.token()?;
+    stack.token()?;
+    let body = stack.module()?;
+    let span = up_to(word.span, body.span);
+    let body = Box::new(alloc, body)?;
+    stack.push(Part::Mod(Mod {
+        span,
+        what: ModWhat::Functor {
+            generative: false,
+            name,
+            param,
+            body,
+        },
+    }))?;
+    Ok(())
+}
+
+fn generative(stack: &mut Stack<'_>, alloc: Global) -> Result<(), BuildRefusal>
+    ensures made { IfOk result (λ _. played the.mod_gen (held stack.old) ≡ Some (held stack.new)) }
+    ensures misfit { IfErr result (λ e. e ≡ Misfit → played the.mod_gen (held stack.old) ≡ None) }
+{
+    let word = stack.token()?;
+    stack.token()?;
+    let name = named(alloc, stack.token()?)?;
+    stack.token()?;
+    let param = Box::new(alloc, stack.sig()?)?;
+    stack.token()?;
+    stack.token()?;
+    let body = stack.module()?;
+    let span = up_to(word.span, body.span);
+    let body = Box::new(alloc, body)?;
+    stack.push(Part::Mod(Mod {
+        span,
+        what: ModWhat::Functor {
+            generative: true,
+            name,
+            param,
+            body,
+        },
+    }))?;
+    Ok(())
+}
+
+fn unpack(stack: &mut Stack<'_>, alloc: Global) -> Result<(), BuildRefusal>
+    ensures made { IfOk result (λ _. played the.mod_unpack (held stack.old) ≡ Some (held stack.new)) }
+    ensures misfit { IfErr result (λ e. e ≡ Misfit → played the.mod_unpack (held stack.old) ≡ None) }
+{
+    let word = stack.token()?;
+    let value = Box::new(alloc, stack.exp()?)?;
+    stack.token()?;
+    let sig = stack.sig()?;
+    let span = up_to(word.span, sig.span);
+    let sig = Box::new(alloc, sig)?;
+    stack.push(Part::Mod(Mod {
+        span,
+        what: ModWhat::Unpack(value, sig),
+    }))?;
+    Ok(())
+}
+
+fn chain(stack: &mut Stack<'_>, alloc: Global) -> Result<(), BuildRefusal>
+    ensures made { IfOk result (λ _. played the.mod_chain (held stack.old) ≡ Some (held stack.new)) }
+    ensures misfit { IfErr result (λ e. e ≡ Misfit → played the.mod_chain (held stack.old) ≡ None) }
+{
+    let first = stack.module()?;
+    let args = stack.mods()?;
+    let seals = stack.ascriptions()?;
+    let applied = apply_all(alloc, first, args)?;
+    let module = ascribe_all(alloc, applied, seals)?;
+    stack.push(Part::Mod(module))?;
+    Ok(())
+}
+
+fn no_args(stack: &mut Stack<'_>, alloc: Global) -> Result<(), BuildRefusal>
+    ensures made { IfOk result (λ _. played the.no_mod_args (held stack.old) ≡ Some (held stack.new)) }
+    ensures misfit { IfErr result (λ e. e ≡ Misfit → played the.no_mod_args (held stack.old) ≡ None) }
+{
+    stack.push(Part::Mods(Vec::new(alloc)))?;
+    Ok(())
+}
+
+#[tactic(auto, using(parse_forms::proofs::Chained::reverse_push))]
+fn more_args(stack: &mut Stack<'_>) -> Result<(), BuildRefusal>
+    ensures made { IfOk result (λ _. played the.more_mod_args (held stack.old) ≡ Some (held stack.new)) }
+    ensures misfit { IfErr result (λ e. e ≡ Misfit → played the.more_mod_args (held stack.old) ≡ None) }
+{
+    let first = stack.module()?;
+    let mut rest = stack.mods()?;
+    rest.push(first)?;
+    stack.push(Part::Mods(rest))?;
+    Ok(())
+}
+
+fn no_seals(stack: &mut Stack<'_>, alloc: Global) -> Result<(), BuildRefusal>
+    ensures made { IfOk result (λ _. played the.no_seals (held stack.old) ≡ Some (held stack.new)) }
+    ensures misfit { IfErr result (λ e. e ≡ Misfit → played the.no_seals (held stack.old) ≡ None) }
+{
+    stack.push(Part::Ascriptions(Vec::new(alloc)))?;
+    Ok(())
+}
+
+#[tactic(auto, using(parse_forms::proofs::Chained::reverse_push))]
+fn seal(stack: &mut Stack<'_>) -> Result<(), BuildRefusal>
+    ensures made { IfOk result (λ _. played the.seal (held stack.old) ≡ Some (held stack.new)) }
+    ensures misfit { IfErr result (λ e. e ≡ Misfit → played the.seal (held stack.old) ≡ None) }
+{
+    stack.token()?;
+    let sig = stack.sig()?;
+    let mut rest = stack.ascriptions()?;
+    rest.push(Ascription::Sealed(sig))?;
+    stack.push(Part::Ascriptions(rest))?;
+    Ok(())
+}
+
+#[tactic(auto, using(parse_forms::proofs::Chained::reverse_push))]
+fn ascribe(stack: &mut Stack<'_>) -> Result<(), BuildRefusal>
+    ensures made { IfOk result (λ _. played the.ascribe (held stack.old) ≡ Some (held stack.new)) }
+    ensures misfit { IfErr result (λ e. e ≡ Misfit → played the.ascribe (held stack.old) ≡ None) }
+{
+    stack.token()?;
+    let sig = stack.sig()?;
+    let mut rest = stack.ascriptions()?;
+    rest.push(Ascription::Shown(sig))?;
+    stack.push(Part::Ascriptions(rest))?;
+    Ok(())
+}
+
+fn path(stack: &mut Stack<'_>) -> Result<(), BuildRefusal>
+    ensures made { IfOk result (λ _. played the.mod_path (held stack.old) ≡ Some (held stack.new)) }
+    ensures misfit { IfErr result (λ e. e ≡ Misfit → played the.mod_path (held stack.old) ≡ None) }
+{
+    let path = stack.module()?;
+    stack.push(Part::Mod(path))?;
+    Ok(())
+}
+
+fn structure(stack: &mut Stack<'_>) -> Result<(), BuildRefusal>
+    ensures made { IfOk result (λ _. played the.mod_struct (held stack.old) ≡ Some (held stack.new)) }
+    ensures misfit { IfErr result (λ e. e ≡ Misfit → played the.mod_struct (held stack.old) ≡ None) }
+{
+    let word = stack.token()?;
+    let mut binds = stack.binds()?;
+    let last = stack.token()?;
+    binds.reverse();
+    let span = up_to(word.span, last.span);
+    stack.push(Part::Mod(Mod {
+        span,
+        what: ModWhat::Struct(binds),
+    }))?;
+    Ok(())
+}
+
+fn let_in(stack: &mut Stack<'_>, alloc: Global) -> Result<(), BuildRefusal>
+    ensures made { IfOk result (λ _. played the.mod_let (held stack.old) ≡ Some (held stack.new)) }
+    ensures misfit { IfErr result (λ e. e ≡ Misfit → played the.mod_let (held stack.old) ≡ None) }
+{
+    let word = stack.token()?;
+    let mut binds = stack.binds()?;
+    stack.token()?;
+    let body = stack.module()?;
+    let last = stack.token()?;
+    binds.reverse();
+    let module = let_mod(alloc, up_to(word.span, last.span), binds, body)?;
+    stack.push(Part::Mod(module))?;
+    Ok(())
+}
+
+fn paren(stack: &mut Stack<'_>) -> Result<(), BuildRefusal>
+    ensures made { IfOk result (λ _. played the.mod_paren (held stack.old) ≡ Some (held stack.new)) }
+    ensures misfit { IfErr result (λ e. e ≡ Misfit → played the.mod_paren (held stack.old) ≡ None) }
+{
+    let mark = stack.token()?;
+    let module = stack.module()?;
+    let last = stack.token()?;
+    let span = up_to(mark.span, last.span);
+    stack.push(Part::Mod(Mod {
+        span,
+        what: module.what,
+    }))?;
+    Ok(())
+}
+
+/// Plays a production: its parts are taken off the stack, and what it gives is put there.
+pub fn module(stack: &mut Stack<'_>, alloc: Global, rule: ModRule) -> Result<(), BuildRefusal>
+    ensures made { IfOk result (λ _. played_any (mod_rule_in rule) (held stack.old) ≡ Some (held stack.new)) }
+    ensures misfit { IfErr result (λ e. e ≡ Misfit → played_any (mod_rule_in rule) (held stack.old) ≡ None) }
+{
+    match rule {
+        ModRule::Fun => fun(stack, alloc),
+        ModRule::Gen => generative(stack, alloc),
+        ModRule::Unpack => unpack(stack, alloc),
+        ModRule::Chain => chain(stack, alloc),
+        ModRule::NoArgs => no_args(stack, alloc),
+        ModRule::MoreArgs => more_args(stack),
+        ModRule::NoSeals => no_seals(stack, alloc),
+        ModRule::Seal => seal(stack),
+        ModRule::Ascribe => ascribe(stack),
+        ModRule::Path => path(stack),
+        ModRule::Struct => structure(stack),
+        ModRule::Let => let_in(stack, alloc),
+        ModRule::Paren => paren(stack),
+    }
+}

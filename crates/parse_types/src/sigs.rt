@@ -1,0 +1,158 @@
+// Signatures.
+ghost use Rattle.std.specs.Prelude.{◌≡◌, Some, None, IfOk, IfErr};
+ghost use Rattle.fing_grammar.specs.Grammar as the;
+ghost use Rattle.fing_grammar.specs.View.{sig_rule_in};
+ghost use Rattle.parse_forms.specs.Part.{held};
+ghost use Rattle.parse_forms.specs.Play.{played, played_any};
+ghost use Rattle.parse_forms.specs.declared.refusal.BuildRefusal.TheVariants.{Misfit};
+
+use fing_grammar::grammar::SigRule;
+use fing_syntax::{SigEx, SigWhat};
+use parse_forms::chains::refine_all;
+use parse_forms::part::{Part, Where};
+use parse_forms::refusal::BuildRefusal;
+use parse_forms::stack::Stack;
+use parse_forms::tokens::{named, up_to};
+use std::alloc::Global;
+
+fn fun(stack: &mut Stack<'_>, alloc: Global) -> Result<(), BuildRefusal>
+    ensures made { IfOk result (λ _. played the.sig_fun (held stack.old) ≡ Some (held stack.new)) }
+    ensures misfit { IfErr result (λ e. e ≡ Misfit → played the.sig_fun (held stack.old) ≡ None) }
+{
+    let word = stack.token()?;
+    stack.token()?;
+    let name = named(alloc, stack.token()?)?;
+    stack.token()?;
+    let param = Box::new(alloc, stack.sig()?)?;
+    stack.token()?;
+    let pure = stack.pure()?;
+    let result = stack.sig()?;
+    let span = up_to(word.span, result.span);
+    let result = Box::new(alloc, result)?;
+    stack.push(Part::Sig(SigEx {
+        span,
+        what: SigWhat::Fun {
+            pure,
+            name,
+            param,
+            result,
+        },
+    }))?;
+    Ok(())
+}
+
+fn refined(stack: &mut Stack<'_>, alloc: Global) -> Result<(), BuildRefusal>
+    ensures made { IfOk result (λ _. played the.sig_where (held stack.old) ≡ Some (held stack.new)) }
+    ensures misfit { IfErr result (λ e. e ≡ Misfit → played the.sig_where (held stack.old) ≡ None) }
+{
+    let sig = stack.sig()?;
+    let wheres = stack.wheres()?;
+    let sig = refine_all(alloc, sig, wheres)?;
+    stack.push(Part::Sig(sig))?;
+    Ok(())
+}
+
+fn generative(stack: &mut Stack<'_>) -> Result<(), BuildRefusal>
+    ensures made { IfOk result (λ _. played the.generative (held stack.old) ≡ Some (held stack.new)) }
+    ensures misfit { IfErr result (λ e. e ≡ Misfit → played the.generative (held stack.old) ≡ None) }
+{
+    stack.token()?;
+    stack.push(Part::Pure(false))?;
+    Ok(())
+}
+
+fn applicative(stack: &mut Stack<'_>) -> Result<(), BuildRefusal>
+    ensures made { IfOk result (λ _. played the.applicative (held stack.old) ≡ Some (held stack.new)) }
+    ensures misfit { IfErr result (λ e. e ≡ Misfit → played the.applicative (held stack.old) ≡ None) }
+{
+    stack.token()?;
+    stack.push(Part::Pure(true))?;
+    Ok(())
+}
+
+fn no_wheres(stack: &mut Stack<'_>, alloc: Global) -> Result<(), BuildRefusal>
+    ensures made { IfOk result (λ _. played the.no_wheres (held stack.old) ≡ Some (held stack.new)) }
+    ensures misfit { IfErr result (λ e. e ≡ Misfit → played the.no_wheres (held stack.old) ≡ None) }
+{
+    stack.push(Part::Wheres(Vec::new(alloc)))?;
+    Ok(())
+}
+
+#[tactic(auto, using(parse_forms::proofs::Chained::reverse_push))]
+fn more_wheres(stack: &mut Stack<'_>, alloc: Global) -> Result<(), BuildRefusal>
+    ensures made { IfOk result (λ _. played the.more_wheres (held stack.old) ≡ Some (held stack.new)) }
+    ensures misfit { IfErr result (λ e. e ≡ Misfit → played the.more_wheres (held stack.old) ≡ None) }
+{
+    stack.token()?;
+    stack.token()?;
+    let first = named(alloc, stack.token()?)?;
+    let mut rest = stack.names()?;
+    stack.token()?;
+    let ty = stack.ty()?;
+    let mut wheres = stack.wheres()?;
+    rest.reverse();
+    wheres.push(Where { first, rest, ty })?;
+    stack.push(Part::Wheres(wheres))?;
+    Ok(())
+}
+
+fn path(stack: &mut Stack<'_>) -> Result<(), BuildRefusal>
+    ensures made { IfOk result (λ _. played the.sig_path (held stack.old) ≡ Some (held stack.new)) }
+    ensures misfit { IfErr result (λ e. e ≡ Misfit → played the.sig_path (held stack.old) ≡ None) }
+{
+    let path = stack.module()?;
+    stack.push(Part::Sig(SigEx {
+        span: path.span,
+        what: SigWhat::Path(path),
+    }))?;
+    Ok(())
+}
+
+fn decls(stack: &mut Stack<'_>) -> Result<(), BuildRefusal>
+    ensures made { IfOk result (λ _. played the.sig_decls (held stack.old) ≡ Some (held stack.new)) }
+    ensures misfit { IfErr result (λ e. e ≡ Misfit → played the.sig_decls (held stack.old) ≡ None) }
+{
+    let word = stack.token()?;
+    let mut decls = stack.decls()?;
+    let last = stack.token()?;
+    decls.reverse();
+    let span = up_to(word.span, last.span);
+    stack.push(Part::Sig(SigEx {
+        span,
+        what: SigWhat::Sig(decls),
+    }))?;
+    Ok(())
+}
+
+fn paren(stack: &mut Stack<'_>) -> Result<(), BuildRefusal>
+    ensures made { IfOk result (λ _. played the.sig_paren (held stack.old) ≡ Some (held stack.new)) }
+    ensures misfit { IfErr result (λ e. e ≡ Misfit → played the.sig_paren (held stack.old) ≡ None) }
+{
+    let mark = stack.token()?;
+    let sig = stack.sig()?;
+    let last = stack.token()?;
+    let span = up_to(mark.span, last.span);
+    stack.push(Part::Sig(SigEx {
+        span,
+        what: sig.what,
+    }))?;
+    Ok(())
+}
+
+/// Plays a production: its parts are taken off the stack, and what it gives is put there.
+pub fn sig(stack: &mut Stack<'_>, alloc: Global, rule: SigRule) -> Result<(), BuildRefusal>
+    ensures made { IfOk result (λ _. played_any (sig_rule_in rule) (held stack.old) ≡ Some (held stack.new)) }
+    ensures misfit { IfErr result (λ e. e ≡ Misfit → played_any (sig_rule_in rule) (held stack.old) ≡ None) }
+{
+    match rule {
+        SigRule::Fun => fun(stack, alloc),
+        SigRule::Where => refined(stack, alloc),
+        SigRule::Generative => generative(stack),
+        SigRule::Applicative => applicative(stack),
+        SigRule::NoWheres => no_wheres(stack, alloc),
+        SigRule::MoreWheres => more_wheres(stack, alloc),
+        SigRule::Path => path(stack),
+        SigRule::Decls => decls(stack),
+        SigRule::Paren => paren(stack),
+    }
+}
