@@ -12,10 +12,7 @@ use Rattle.omega_terms.specs.Term.{Term, TermRow}
 use Rattle.omega_terms.specs.Typing.{HasType}
 use Rattle.omega_terms.specs.Coercions.{result_label, MatchPart, AbsPart}
 use Rattle.omega_terms.specs.CoercionRows.{of_field, PartsTyped, at_types}
-
--- types for the quantifiers in front of a type, all of them normal
-abbrev pub Fills : List Kind → List Ty → Ty → Type 0
-Fills ctx ts to = (ks : List Kind) × (t : Ty) × (to ≡ ex_over ks t) × Normal ctx to Kind.Star × NormalForms ctx ts ks ts
+use Rattle.term_shorthands.specs.Packed.{Fills}
 
 -- the term is that of the rule, in each context where the types fill the quantifiers
 abbrev pub IsMatchPart : (from : Ty) (ts : List Ty) (f : Term) (to : Ty) → Term → Type 0

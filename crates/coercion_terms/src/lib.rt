@@ -1,11 +1,11 @@
 // The coercion terms of subtyping between signatures, one call for each rule, over encoded types.
-// Stands on the crates of types and terms, whose definitions say what the terms are and which types they have.
+// Stands on term_shorthands and the crates of types and terms, whose definitions say what the terms are and which types
+// they have.
 // Proved: each call gives exactly the term of its rule, which has its type where the coercions inside have theirs.
 #![tactic(auto)]
 
 pub mod packing;
 pub mod parts;
-mod shorthands;
 #[cfg(test)]
 mod tests;
 

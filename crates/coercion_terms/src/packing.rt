@@ -1,14 +1,14 @@
 // The coercions to signatures that hide types.
 ghost use Rattle.std.specs.Prelude.{◌≡◌, IfOk};
 ghost use Rattle.omega_terms.specs.Term.{Call, Var};
-ghost use Rattle.coercion_terms.specs.Packed.{pack_up as pack_up_of};
+ghost use Rattle.term_shorthands.specs.Packed.{pack_up as pack_up_of};
 ghost use Rattle.coercion_terms.specs.Rows.{HasAbsType, HasMatchType, IsAbsPart, IsMatchPart};
 
-use crate::shorthands::{opens, pack_up, variable};
 use omega_kinds::Mem;
 use omega_terms::{Term, TermNode};
 use omega_types::Ty;
 use std::alloc::Global;
+use term_shorthands::{opens, pack_up, variable};
 use type_normal::NormalTy;
 
 /// The coercion of a signature that hides nothing, whose encoding is `from`, to one that hides types, whose encoding
@@ -42,7 +42,7 @@ pub fn abs_part(
     ensures typed { IfOk result (λ e. HasAbsType from.now count types.now inner.now to.now e) }
 {
     let body = coerced(alloc, types, inner, to)?;
-    let opened = opens(alloc, count, from, body)?;
+    let opened = opens(alloc, count, variable(alloc, 0)?, from, body)?;
     Term::make(alloc, TermNode::Lam(from.share()?, opened))
 }
 

@@ -2,12 +2,8 @@
 use Rattle.std.proofs.Common.{◌≡◌, ℕ, [], ◌∷◌, refl, subst}
 use Rattle.std.specs.Prelude.{codes}
 use Rattle.omega_kinds.specs.Name.{Name}
-use Rattle.fing_elab.specs.Bindings.{IsOperand, IsSum, AreBindings}
-use Rattle.fing_elab.specs.BindingRules.{Finds, OperandGives, AddedGives, Field, HasField, FieldsOf, Gives}
-use Rattle.fing_elab.specs.Example.{example_tokens, example_program, example_type, example_term}
-
-pub spelled : AreBindings example_tokens example_program
-spelled = AreBindings.next refl refl refl (IsSum.more (IsOperand.number refl) refl (IsSum.one (IsOperand.number refl))) AreBindings.none refl
+use Rattle.fing_elab.specs.BindingRules.{Finds, ExpGives, AddedGives, BindGives, Field, HasField, FieldsOf, Gives}
+use Rattle.fing_elab.specs.Example.{example_program, example_type, example_term}
 
 the_field : {x : Name} {i : ℕ} {f : Field} → HasField (f ∷ []) x i → (f ≡ (x, i))
 the_field HasField.here = refl
@@ -28,4 +24,4 @@ fields = record {
 }
 
 pub derived : Gives [] example_program example_type example_term
-derived = Gives.next (record { front = _; first = OperandGives.number; others = AddedGives.next OperandGives.number AddedGives.none }) (Gives.done fields)
+derived = Gives.next (BindGives.val (ExpGives.sum ExpGives.number (AddedGives.next ExpGives.number AddedGives.none))) (Gives.done fields)

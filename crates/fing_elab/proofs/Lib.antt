@@ -1,8 +1,5 @@
-pub mod SumReading
-pub mod BindingReading
-pub mod ProgramReading
-pub mod ByteReading
 pub mod EnvLaws
+pub mod BuiltLaws
 pub mod ElabSteps
 pub mod StructureSteps
 pub mod Closed

@@ -1,25 +1,18 @@
--- A program of number bindings has one meaning or one refusal, and bytes spell one program.
+-- A program has one meaning, or one name that is refused; and what has a meaning is built.
 use Rattle.std.proofs.Common.{◌≡◌, ℕ, suc, ◌⊎◌, inl, inr, List, [], ◌∷◌, true, refl, sym, ap, ap₂, subst, ◌∙◌}
-use Rattle.fing_text.specs.declared.span.Span.{Span}
 use Rattle.omega_kinds.specs.Name.{Name}
 use Rattle.omega_kinds.specs.declared.label.Label.TheVariants.{Val}
 use Rattle.omega_kinds.specs.LabelOrder.{name_before}
 use Rattle.omega_kinds.proofs.NameLaws.{name-irreflexive, name-transitive}
-use Rattle.omega_terms.specs.declared.op.Op.TheVariants.{Add}
+use Rattle.omega_terms.specs.declared.op.Op.TheVariants as op
 use Rattle.omega_types.specs.Ty.{Ty}
 use Rattle.omega_terms.specs.Term.{Term}
 use Rattle.omega_terms.specs.PartTerms.{value_term}
 use Rattle.omega_terms.specs.Shorthands.{let_in}
-use Rattle.fing_lexer.specs.declared.token.Token.{Token}
-use Rattle.fing_elab.specs.declared.first.program.Operand.{Operand}
-use Rattle.fing_elab.specs.declared.first.program.Operand.TheVariants as operand
-use Rattle.fing_elab.specs.declared.first.program.Sum.{Sum}
-use Rattle.fing_elab.specs.declared.first.program.Bind.{Bind}
-use Rattle.fing_elab.specs.Bindings.{AreBindings, Spells}
-use Rattle.fing_elab.specs.BindingRules.{Finds, OperandGives, AddedGives, SumGives, Field, HasField, NamesRise, FieldsOf, Gives, IsUnboundIn, IsUnbound, int_part, structure_type, structure_term}
-use Rattle.fing_elab.proofs.BindingReading.{some_is, bind_complete}
-use Rattle.fing_elab.proofs.ProgramReading.{no_tokens, nothing_read}
-use Rattle.fing_elab.proofs.ByteReading.{one_tokens}
+use Rattle.fing_syntax.specs.Phrase.{Span, Exp, OpExps, Bind, Binds}
+use Rattle.fing_elab.specs.Built.{exp_is_built, ops_are_built, bind_is_built, IsBuilt}
+use Rattle.fing_elab.specs.BindingRules.{Finds, ExpGives, AddedGives, BindGives, Field, HasField, NamesRise, FieldsOf, Gives, IsUnboundIn, IsUnboundAmong, IsUnboundBind, IsUnbound, int_part, structure_type, structure_term}
+use Rattle.fing_elab.proofs.BuiltLaws.{both_true}
 
 finds_one : {env : List Name} {x y : Name} {i j : ℕ} → x ≡ y → Finds env x i → Finds env y j → i ≡ j
 finds_one e Finds.here Finds.here = refl
@@ -27,16 +20,18 @@ finds_one e Finds.here (Finds.there n g) = absurd (n e)
 finds_one e (Finds.there n f) Finds.here = absurd (n (sym e))
 finds_one e (Finds.there n f) (Finds.there m g) = ap suc (finds_one e f g)
 
-operand_one : {env : List Name} {o : Operand} {e d : Term} → OperandGives env o e → OperandGives env o d → e ≡ d
-operand_one (OperandGives.name f) (OperandGives.name g) = ap (λ (i : ℕ). Term.Get (Term.Var i) Val) (finds_one refl f g)
-operand_one OperandGives.number OperandGives.number = refl
+mutual
+  exp_one : {env : List Name} {x : Exp} {e d : Term} → ExpGives env x e → ExpGives env x d → e ≡ d
+  exp_one (ExpGives.name f) (ExpGives.name g) = ap (λ (i : ℕ). Term.Get (Term.Var i) Val) (finds_one refl f g)
+  exp_one ExpGives.number ExpGives.number = refl
+  exp_one (ExpGives.sum g a) (ExpGives.sum h b) = added_one (exp_one g h) a b
 
-added_one : {env : List Name} {e f d u : Term} {os : List Operand} → e ≡ f → AddedGives env e os d → AddedGives env f os u → d ≡ u
-added_one s AddedGives.none AddedGives.none = s
-added_one s (AddedGives.next g a) (AddedGives.next h b) = added_one (ap₂ (Term.Arith Add) s (operand_one g h)) a b
+  added_one : {env : List Name} {e f d u : Term} {r : OpExps} → e ≡ f → AddedGives env e r d → AddedGives env f r u → d ≡ u
+  added_one s AddedGives.none AddedGives.none = s
+  added_one s (AddedGives.next g a) (AddedGives.next h b) = added_one (ap₂ (Term.Arith op.Add) s (exp_one g h)) a b
 
-sum_one : {env : List Name} {s : Sum} {e d : Term} → SumGives env s e → SumGives env s d → e ≡ d
-sum_one g h = added_one (operand_one g.first h.first) g.others h.others
+bind_one : {env : List Name} {b : Bind} {x y : Name} {e d : Term} → BindGives env b x e → BindGives env b y d → (x ≡ y) × (e ≡ d)
+bind_one (BindGives.val g) (BindGives.val h) = (refl, exp_one g h)
 
 -- ---- the fields of a structure are determined
 
@@ -83,57 +78,77 @@ fields_one {env} {fs} {gs} h k = fields_same fs gs h.rise k.rise (λ x i m. k.wh
 
 -- ---- one meaning or one refusal
 
-pub gives_one : {env : List Name} {bs : List Bind} {t u : Ty} {e d : Term} → Gives env bs t e → Gives env bs u d → (t ≡ u) × (e ≡ d)
+under_one : {env other : List Name} {bs : Binds} {t : Ty} {e : Term} → other ≡ env → Gives other bs t e → Gives env bs t e
+under_one {env} {other} {bs} {t} {e} s g = subst (λ (names : List Name). Gives names bs t e) s g
+
+unbound_under : {env other : List Name} {bs : Binds} {x : Name} {at : Span} → other ≡ env → IsUnbound other bs x at → IsUnbound env bs x at
+unbound_under {env} {other} {bs} {x} {at} s u = subst (λ (names : List Name). IsUnbound names bs x at) s u
+
+pub gives_one : {env : List Name} {bs : Binds} {t u : Ty} {e d : Term} → Gives env bs t e → Gives env bs u d → (t ≡ u) × (e ≡ d)
 gives_one (Gives.done h) (Gives.done k) = (ap structure_type (fields_one h k), ap structure_term (fields_one h k))
-gives_one (Gives.next s g) (Gives.next r h) = let rest = gives_one g h in (rest.0, ap₂ (λ (x y : Term). let_in int_part (value_term x) y) (sum_one s r) rest.1)
+gives_one {env} (Gives.next s g) (Gives.next r h) =
+    let first = bind_one s r in
+    let rest = gives_one g (under_one (ap (λ (x : Name). x ∷ env) (sym first.0)) h) in
+    (rest.0, ap₂ (λ (x y : Term). let_in int_part (value_term x) y) first.1 rest.1)
 
-operand_bound : {env : List Name} {o : Operand} {e : Term} {x : Name} {at : Span} → OperandGives env o e → o ≡ operand.Name x at → ((i : ℕ) → Finds env x i → ⊥) → ⊥
-operand_bound {env} (OperandGives.name {x = y} {at = bt} {i = i} f) e n = n i (subst (λ (z : Name). Finds env z i) (ap (λ (o : Operand). elim o [ operand.Name z c ↦ z | operand.Number n ↦ y ]) e) f)
-operand_bound OperandGives.number e n = cc
+mutual
+  exp_bound : {env : List Name} {v : Exp} {e : Term} {x : Name} {at : Span} → ExpGives env v e → IsUnboundIn env v x at → ⊥
+  exp_bound (ExpGives.name {i = i} f) (IsUnboundIn.name n) = n i f
+  exp_bound ExpGives.number u = elim u [ ]
+  exp_bound (ExpGives.sum g a) (IsUnboundIn.first u) = exp_bound g u
+  exp_bound (ExpGives.sum g a) (IsUnboundIn.later h u) = added_bound a u
 
-added_bound : {env : List Name} {e d : Term} {os : List Operand} {x : Name} {at : Span} → AddedGives env e os d → IsUnboundIn env os x at → ⊥
-added_bound AddedGives.none u = elim u [ ]
-added_bound (AddedGives.next g a) (IsUnboundIn.here n) = operand_bound g refl n
-added_bound (AddedGives.next g a) (IsUnboundIn.later h u) = added_bound a u
+  added_bound : {env : List Name} {e d : Term} {r : OpExps} {x : Name} {at : Span} → AddedGives env e r d → IsUnboundAmong env r x at → ⊥
+  added_bound AddedGives.none u = elim u [ ]
+  added_bound (AddedGives.next g a) (IsUnboundAmong.here u) = exp_bound g u
+  added_bound (AddedGives.next g a) (IsUnboundAmong.behind h u) = added_bound a u
 
-first_bound : {env : List Name} {o : Operand} {e d : Term} {os : List Operand} {x : Name} {at : Span} → OperandGives env o e → AddedGives env e os d → IsUnboundIn env (o ∷ os) x at → ⊥
-first_bound g a (IsUnboundIn.here n) = operand_bound g refl n
-first_bound g a (IsUnboundIn.later h u) = added_bound a u
+bind_bound : {env : List Name} {b : Bind} {x y : Name} {e : Term} {at : Span} → BindGives env b x e → IsUnboundBind env b y at → ⊥
+bind_bound (BindGives.val g) (IsUnboundBind.val u) = exp_bound g u
 
-sum_bound : {env : List Name} {s : Sum} {e : Term} {x : Name} {at : Span} → SumGives env s e → IsUnboundIn env (s.first ∷ s.others) x at → ⊥
-sum_bound g u = first_bound g.first g.others u
-
-pub gives_bound : {env : List Name} {bs : List Bind} {t : Ty} {e : Term} {x : Name} {at : Span} → Gives env bs t e → IsUnbound env bs x at → ⊥
+pub gives_bound : {env : List Name} {bs : Binds} {t : Ty} {e : Term} {x : Name} {at : Span} → Gives env bs t e → IsUnbound env bs x at → ⊥
 gives_bound (Gives.done h) u = elim u [ ]
-gives_bound (Gives.next s g) (IsUnbound.here u) = sum_bound s u
-gives_bound (Gives.next s g) (IsUnbound.later r u) = gives_bound g u
+gives_bound (Gives.next s g) (IsUnbound.here u) = bind_bound s u
+gives_bound {env} (Gives.next s g) (IsUnbound.later r u) = gives_bound g (unbound_under (ap (λ (x : Name). x ∷ env) (sym (bind_one s r).0)) u)
 
-operands_one : {env : List Name} {os : List Operand} {x y : Name} {at bt : Span} → IsUnboundIn env os x at → IsUnboundIn env os y bt → (x ≡ y) × (at ≡ bt)
-operands_one (IsUnboundIn.here n) (IsUnboundIn.here m) = (refl, refl)
-operands_one (IsUnboundIn.here n) (IsUnboundIn.later g u) = absurd (operand_bound g refl n)
-operands_one (IsUnboundIn.later g u) (IsUnboundIn.here m) = absurd (operand_bound g refl m)
-operands_one (IsUnboundIn.later g u) (IsUnboundIn.later h v) = operands_one u v
+mutual
+  in_one : {env : List Name} {v : Exp} {x y : Name} {at bt : Span} → IsUnboundIn env v x at → IsUnboundIn env v y bt → (x ≡ y) × (at ≡ bt)
+  in_one (IsUnboundIn.name n) (IsUnboundIn.name m) = (refl, refl)
+  in_one (IsUnboundIn.first u) (IsUnboundIn.first v) = in_one u v
+  in_one (IsUnboundIn.first u) (IsUnboundIn.later g v) = absurd (exp_bound g u)
+  in_one (IsUnboundIn.later g u) (IsUnboundIn.first v) = absurd (exp_bound g v)
+  in_one (IsUnboundIn.later g u) (IsUnboundIn.later h v) = among_one u v
 
-pub unbound_one : {env : List Name} {bs : List Bind} {x y : Name} {at bt : Span} → IsUnbound env bs x at → IsUnbound env bs y bt → (x ≡ y) × (at ≡ bt)
-unbound_one (IsUnbound.here u) (IsUnbound.here v) = operands_one u v
-unbound_one (IsUnbound.here u) (IsUnbound.later s v) = absurd (sum_bound s u)
-unbound_one (IsUnbound.later s u) (IsUnbound.here v) = absurd (sum_bound s v)
-unbound_one (IsUnbound.later s u) (IsUnbound.later r v) = unbound_one u v
+  among_one : {env : List Name} {r : OpExps} {x y : Name} {at bt : Span} → IsUnboundAmong env r x at → IsUnboundAmong env r y bt → (x ≡ y) × (at ≡ bt)
+  among_one (IsUnboundAmong.here u) (IsUnboundAmong.here v) = in_one u v
+  among_one (IsUnboundAmong.here u) (IsUnboundAmong.behind g v) = absurd (exp_bound g u)
+  among_one (IsUnboundAmong.behind g u) (IsUnboundAmong.here v) = absurd (exp_bound g v)
+  among_one (IsUnboundAmong.behind g u) (IsUnboundAmong.behind h v) = among_one u v
 
--- ---- one program
+bind_unbound_one : {env : List Name} {b : Bind} {x y : Name} {at bt : Span} → IsUnboundBind env b x at → IsUnboundBind env b y bt → (x ≡ y) × (at ≡ bt)
+bind_unbound_one (IsUnboundBind.val u) (IsUnboundBind.val v) = in_one u v
 
-no_bindings : (bs : List Bind) → AreBindings [] bs → bs ≡ []
-no_bindings [] r = refl
-no_bindings (b ∷ bs) r = let x = bind_complete [] b bs r in absurd (nothing_read b x.0 x.1)
+pub unbound_one : {env : List Name} {bs : Binds} {x y : Name} {at bt : Span} → IsUnbound env bs x at → IsUnbound env bs y bt → (x ≡ y) × (at ≡ bt)
+unbound_one (IsUnbound.here u) (IsUnbound.here v) = bind_unbound_one u v
+unbound_one (IsUnbound.here u) (IsUnbound.later s v) = absurd (bind_bound s u)
+unbound_one (IsUnbound.later s u) (IsUnbound.here v) = absurd (bind_bound s v)
+unbound_one {env} (IsUnbound.later s u) (IsUnbound.later r v) = unbound_one u (unbound_under (ap (λ (x : Name). x ∷ env) (sym (bind_one s r).0)) v)
 
-bindings_one : (ps qs : List Bind) (ts : List Token) → AreBindings ts ps → AreBindings ts qs → ps ≡ qs
-bindings_one [] qs ts r s = sym (no_bindings qs (subst (λ (ts : List Token). AreBindings ts qs) (no_tokens r) s))
-bindings_one (p ∷ ps) [] ts r s = no_bindings (p ∷ ps) (subst (λ (ts : List Token). AreBindings ts (p ∷ ps)) (no_tokens s) r)
-bindings_one (p ∷ ps) (q ∷ qs) ts r s =
-    let x = bind_complete ts p ps r in
-    let y = bind_complete ts q qs s in
-    let same = some_is (p, x.0) (q, y.0) (sym x.1 ∙ y.1) in
-    ap₂ (λ (b : Bind) (bs : List Bind). b ∷ bs) (ap (λ (z : Bind × List Token). z.0) same) (bindings_one ps qs x.0 x.2 (subst (λ (us : List Token). AreBindings us qs) (sym (ap (λ (z : Bind × List Token). z.1) same)) y.2))
+-- ---- what has a meaning is built
 
-pub spells_one : {bytes : List ℕ} {ps qs : List Bind} → Spells bytes ps → Spells bytes qs → ps ≡ qs
-spells_one {bytes} {ps} {qs} r s = bindings_one ps qs r.tokens r.bindings (subst (λ (ts : List Token). AreBindings ts qs) (one_tokens bytes s.tokens r.tokens s.lexed r.lexed) s.bindings)
+mutual
+  exp_built : {env : List Name} {x : Exp} {e : Term} → ExpGives env x e → exp_is_built x ≡ true
+  exp_built (ExpGives.name f) = refl
+  exp_built ExpGives.number = refl
+  exp_built (ExpGives.sum g a) = both_true _ _ (exp_built g) (added_built a)
+
+  added_built : {env : List Name} {e d : Term} {r : OpExps} → AddedGives env e r d → ops_are_built r ≡ true
+  added_built AddedGives.none = refl
+  added_built (AddedGives.next g a) = both_true _ _ (exp_built g) (added_built a)
+
+bind_built : {env : List Name} {b : Bind} {x : Name} {e : Term} → BindGives env b x e → bind_is_built b ≡ true
+bind_built (BindGives.val g) = exp_built g
+
+pub gives_built : {env : List Name} {bs : Binds} {t : Ty} {e : Term} → Gives env bs t e → IsBuilt bs
+gives_built (Gives.done h) = refl
+gives_built (Gives.next s g) = both_true _ _ (bind_built s) (gives_built g)

@@ -8,6 +8,7 @@ use Rattle.omega_types.specs.Ty.{Ty}
 use Rattle.omega_types.specs.Fields.{row, MayFollow}
 use Rattle.omega_terms.specs.Term.{Term}
 use Rattle.omega_terms.specs.Fields.{term_row}
+use Rattle.fing_syntax.specs.Phrase.{NoBinds}
 use Rattle.fing_elab.specs.BindingRules.{Field, NamesRise, FieldsOf, Gives, type_field, term_field, structure_type, structure_term}
 
 -- a label may come first
@@ -30,9 +31,9 @@ follows {T} part fields items i f env xs x k e h at so_far same =
     subst (λ (ys : List (Label × T)). MayFollow ys (Label.Name x)) (sym so_far) (subst (λ (y : Name). MayFollow (map (λ (g : Field). (Label.Name g.0, part g)) (take i items)) (Label.Name y)) (ap (λ (g : Field). g.0) (sym at) ∙ sym same) next)
 
 -- all fields make the structure
-pub structure_gives : (env : List Name) (fields items : List Field) (i : ℕ) (types : List (Label × Ty)) (terms : List (Label × Term)) (t : Ty) (e : Term) → FieldsOf env fields → items ≡ fields → length items ≤ i → types ≡ map type_field (take i items) → terms ≡ map term_field (take i items) → t ≡ Ty.Fields (row types) → e ≡ Term.Fields (term_row terms) → Gives env [] t e
+pub structure_gives : (env : List Name) (fields items : List Field) (i : ℕ) (types : List (Label × Ty)) (terms : List (Label × Term)) (t : Ty) (e : Term) → FieldsOf env fields → items ≡ fields → length items ≤ i → types ≡ map type_field (take i items) → terms ≡ map term_field (take i items) → t ≡ Ty.Fields (row types) → e ≡ Term.Fields (term_row terms) → Gives env NoBinds t e
 structure_gives env fields items i types terms t e k same h p q r s =
     let all : take i items ≡ fields = take_all i items h ∙ same in
     let at : t ≡ structure_type fields = r ∙ ap (λ (xs : List (Label × Ty)). Ty.Fields (row xs)) (p ∙ ap (map type_field) all) in
     let et : e ≡ structure_term fields = s ∙ ap (λ (xs : List (Label × Term)). Term.Fields (term_row xs)) (q ∙ ap (map term_field) all) in
-    subst (λ (u : Ty). Gives env [] u e) (sym at) (subst (λ (d : Term). Gives env [] (structure_type fields) d) (sym et) (Gives.done k))
+    subst (λ (u : Ty). Gives env NoBinds u e) (sym at) (subst (λ (d : Term). Gives env NoBinds (structure_type fields) d) (sym et) (Gives.done k))

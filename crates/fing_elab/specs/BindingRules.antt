@@ -2,42 +2,39 @@
 -- (Rossberg, Russo and Dreyer, "F-ing modules", section 4).
 -- An environment lists the names that are bound, the innermost first; each stands for a term variable of type [int].
 use Rattle.std.specs.Prelude.{◌≢◌, ℕ, zero, suc, ℤ, List, [], ◌∷◌, IsTrue, map}
-use Rattle.fing_text.specs.declared.span.Span.{Span}
 use Rattle.omega_kinds.specs.Name.{Name}
 use Rattle.omega_kinds.specs.LabelOrder.{name_before}
 use Rattle.omega_kinds.specs.declared.label.Label.{Label}
 use Rattle.omega_kinds.specs.declared.label.Label.TheVariants.{Val}
 use Rattle.omega_types.specs.Ty.{Ty, Row}
 use Rattle.omega_types.specs.Fields.{row}
-use Rattle.omega_terms.specs.declared.op.Op.TheVariants.{Add}
+use Rattle.omega_terms.specs.declared.op.Op.TheVariants as op
 use Rattle.omega_terms.specs.Term.{Term}
 use Rattle.omega_terms.specs.Fields.{term_row}
 use Rattle.omega_terms.specs.PartTerms.{value_term}
 use Rattle.omega_terms.specs.Shorthands.{let_in}
-use Rattle.fing_elab.specs.declared.first.program.Operand.{Operand}
-use Rattle.fing_elab.specs.declared.first.program.Operand.TheVariants as operand
-use Rattle.fing_elab.specs.declared.first.program.Sum.{Sum}
-use Rattle.fing_elab.specs.declared.first.program.Bind.{Bind}
+use Rattle.fing_syntax.specs.Phrase.{Span, SpanName, Spelled, Exp, OpExps, Op, Bind, Binds, ModAt, ModName, ExpAt, PathExp, ExpInt, ExpOps, NoOps, MoreOps, Add, BindAt, BindVal, NoBinds, MoreBinds}
 
 -- a name and the term variable that it stands for: its last binding's
 pub data Finds : List Name → Name → ℕ → Type 0 where
   here : {x : Name} {env : List Name} → Finds (x ∷ env) x zero
   there : {x y : Name} {env : List Name} {i : ℕ} → y ≢ x → Finds env x i → Finds (y ∷ env) x (suc i)
 
--- an operand's term: of a name, the field of its value part
-pub data OperandGives (env : List Name) : Operand → Term → Type 0 where
-  name : {x : Name} {at : Span} {i : ℕ} → Finds env x i → OperandGives env (operand.Name x at) (Term.Get (Term.Var i) Val)
-  number : {z : ℤ} → OperandGives env (operand.Number z) (Term.Int z)
+-- An expression's term: of a name, the field of its value part; of operands with `+` between them, their sum.
+mutual
+  pub data ExpGives (env : List Name) : Exp → Term → Type 0 where
+    name : {s t at : Span} {x : Name} {i : ℕ} → Finds env x i → ExpGives env (ExpAt s (PathExp (ModAt t (ModName (Spelled x at))))) (Term.Get (Term.Var i) Val)
+    number : {s : Span} {z : ℤ} → ExpGives env (ExpAt s (ExpInt z)) (Term.Int z)
+    sum : {s : Span} {first : Exp} {rest : OpExps} {e d : Term} → ExpGives env first e → AddedGives env e rest d → ExpGives env (ExpAt s (ExpOps first rest)) d
 
--- the term of operands that are added to a term, from the left
-pub data AddedGives (env : List Name) : Term → List Operand → Term → Type 0 where
-  none : {e : Term} → AddedGives env e [] e
-  next : {e f d : Term} {o : Operand} {os : List Operand} → OperandGives env o f → AddedGives env (Term.Arith Add e f) os d → AddedGives env e (o ∷ os) d
+  -- the term of operands that are added to a term, from the left
+  pub data AddedGives (env : List Name) : Term → OpExps → Term → Type 0 where
+    none : {e : Term} → AddedGives env e NoOps e
+    next : {e f d : Term} {right : Exp} {rest : OpExps} → ExpGives env right f → AddedGives env (Term.Arith op.Add e f) rest d → AddedGives env e (MoreOps Add right rest) d
 
-pub record SumGives (env : List Name) (s : Sum) (e : Term) : Type 0 where
-  pub front : Term
-  pub first : OperandGives env s.first front
-  pub others : AddedGives env front s.others e
+-- what a binding binds: a name, and the term of its value
+pub data BindGives (env : List Name) : Bind → Name → Term → Type 0 where
+  val : {s at : Span} {x : Name} {value : Exp} {e : Term} → ExpGives env value e → BindGives env (BindAt s (BindVal (Spelled x at) value)) x e
 
 -- a field of a structure: a name, and the term variable that it stands for
 abbrev pub Field : Type 0
@@ -77,16 +74,27 @@ abbrev pub structure_term : List Field → Term
 structure_term fields = Term.Fields (term_row (map term_field fields))
 
 -- the type and the term of bindings: a let for each, and in the end the structure of all names that are bound
-pub data Gives : List Name → List Bind → Ty → Term → Type 0 where
-  done : {env : List Name} {fields : List Field} → FieldsOf env fields → Gives env [] (structure_type fields) (structure_term fields)
-  next : {env : List Name} {b : Bind} {bs : List Bind} {t : Ty} {e d : Term} → SumGives env b.sum e → Gives (b.name ∷ env) bs t d → Gives env (b ∷ bs) t (let_in int_part (value_term e) d)
+pub data Gives : List Name → Binds → Ty → Term → Type 0 where
+  done : {env : List Name} {fields : List Field} → FieldsOf env fields → Gives env NoBinds (structure_type fields) (structure_term fields)
+  next : {env : List Name} {b : Bind} {bs : Binds} {x : Name} {t : Ty} {e d : Term} → BindGives env b x e → Gives (x ∷ env) bs t d → Gives env (MoreBinds b bs) t (let_in int_part (value_term e) d)
 
--- Refusals. The first operand whose name is not bound:
-pub data IsUnboundIn (env : List Name) : List Operand → Name → Span → Type 0 where
-  here : {x : Name} {at : Span} {os : List Operand} → ((i : ℕ) → Finds env x i → ⊥) → IsUnboundIn env (operand.Name x at ∷ os) x at
-  later : {x : Name} {at : Span} {o : Operand} {os : List Operand} {e : Term} → OperandGives env o e → IsUnboundIn env os x at → IsUnboundIn env (o ∷ os) x at
+-- Refusals: the first name that no earlier binding binds, in the order of the source, and where it stands.
+mutual
+  pub data IsUnboundIn (env : List Name) : Exp → Name → Span → Type 0 where
+    name : {s t at : Span} {x : Name} → ((i : ℕ) → Finds env x i → ⊥) → IsUnboundIn env (ExpAt s (PathExp (ModAt t (ModName (Spelled x at))))) x at
+    first : {s at : Span} {x : Name} {e : Exp} {rest : OpExps} → IsUnboundIn env e x at → IsUnboundIn env (ExpAt s (ExpOps e rest)) x at
+    later : {s at : Span} {x : Name} {e : Exp} {rest : OpExps} {d : Term} → ExpGives env e d → IsUnboundAmong env rest x at → IsUnboundIn env (ExpAt s (ExpOps e rest)) x at
 
--- the first name of bindings that no earlier one binds, and where it stands
-pub data IsUnbound : List Name → List Bind → Name → Span → Type 0 where
-  here : {env : List Name} {b : Bind} {bs : List Bind} {x : Name} {at : Span} → IsUnboundIn env (b.sum.first ∷ b.sum.others) x at → IsUnbound env (b ∷ bs) x at
-  later : {env : List Name} {b : Bind} {bs : List Bind} {x : Name} {at : Span} {e : Term} → SumGives env b.sum e → IsUnbound (b.name ∷ env) bs x at → IsUnbound env (b ∷ bs) x at
+  -- the first one among the right operands
+  pub data IsUnboundAmong (env : List Name) : OpExps → Name → Span → Type 0 where
+    here : {at : Span} {x : Name} {o : Op} {right : Exp} {rest : OpExps} → IsUnboundIn env right x at → IsUnboundAmong env (MoreOps o right rest) x at
+    behind : {at : Span} {x : Name} {o : Op} {right : Exp} {rest : OpExps} {e : Term} → ExpGives env right e → IsUnboundAmong env rest x at → IsUnboundAmong env (MoreOps o right rest) x at
+
+-- the first one of a binding
+pub data IsUnboundBind (env : List Name) : Bind → Name → Span → Type 0 where
+  val : {s at : Span} {x : SpanName} {y : Name} {value : Exp} → IsUnboundIn env value y at → IsUnboundBind env (BindAt s (BindVal x value)) y at
+
+-- the first one of bindings
+pub data IsUnbound : List Name → Binds → Name → Span → Type 0 where
+  here : {env : List Name} {b : Bind} {bs : Binds} {y : Name} {at : Span} → IsUnboundBind env b y at → IsUnbound env (MoreBinds b bs) y at
+  later : {env : List Name} {b : Bind} {bs : Binds} {x y : Name} {at : Span} {e : Term} → BindGives env b x e → IsUnbound (x ∷ env) bs y at → IsUnbound env (MoreBinds b bs) y at

@@ -1,7 +1,5 @@
-pub mod Bindings
+pub mod Built
 pub mod BindingRules
 pub mod Levels
 pub mod Elaborating
-pub mod Reading
-pub mod RefusalLine
 pub mod Example

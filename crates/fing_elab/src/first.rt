@@ -1,14 +1,11 @@
-// Programs of number bindings: `val X = A + .. + A`, each A a name or a number.
+// Programs of number bindings: `val X = E`, where E is a number, a name, or a sum of such expressions.
 
+pub mod built;
 pub mod elaboration;
 pub mod env;
 pub mod example;
-pub mod parsing;
-pub mod program;
 pub mod refusal;
 
 pub use elaboration::{Elaborated, elab};
 pub use example::sum_example;
-pub use parsing::parse;
-pub use program::{Bind, Operand, Operands, Program, Sum};
-pub use refusal::{Refused, write_line};
+pub use refusal::Refused;

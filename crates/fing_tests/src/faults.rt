@@ -36,6 +36,19 @@ fn other_words(rt: HostRuntime) -> Result<(), Fail> {
 }
 
 #[test]
+fn words_behind_the_end_of_options(rt: HostRuntime) -> Result<(), Fail> {
+    let found = run(
+        rt.alloc(),
+        &["--", "emit"],
+        sum(rt.alloc())?,
+        sink(rt.alloc())?,
+    )?;
+    assert_eq!(rt; found.status, Status::Ok);
+    assert!(rt; found.is_confirmed);
+    Ok(())
+}
+
+#[test]
 fn lengths(rt: HostRuntime) -> Result<(), Fail> {
     let long = vec![in rt.alloc(); b' '; 1048577]?;
     let source = MemSource::new(long, 4096, Vec::new(rt.alloc()));

@@ -1,6 +1,6 @@
 -- What is compiled and what is verified is replied, and a source whose bytes are known is answered by its one reply.
-use Rattle.std.proofs.Common.{◌≡◌, ◌⊎◌, inl, inr, ℕ, List, [], ◌∷◌, ◌++◌, length, Option, Some, None, Ok, Err, Result, arith, refl, sym, ap, subst, ◌∙◌}
-use Rattle.std.specs.Prelude.{IfOk, IfErr, codes}
+use Rattle.std.proofs.Common.{◌≡◌, ◌⊎◌, inl, inr, ℕ, ◌+◌, ◌≤◌, List, [], ◌∷◌, ◌++◌, length, Option, Some, None, Ok, Err, Result, arith, refl, sym, ap, subst, ◌∙◌}
+use Rattle.std.specs.Prelude.{MatchOption, codes}
 use Rattle.std.specs.Io.KnownBytes.{Consumes, IsAtEnd}
 use Rattle.std.proofs.lemmas.List.{append-nil}
 use Rattle.fing_text.specs.Told.{Told}
@@ -14,44 +14,61 @@ use Rattle.omega_read.specs.declared.whole.ReadRefusal.{ReadRefusal}
 use Rattle.omega_read.specs.declared.whole.ReadRefusal.TheVariants as read
 use Rattle.omega_read.specs.ReadAs.{RefusedAs, ReadAs}
 use Rattle.omega_spelling.specs.Refused.{IsVersion, IsTooDeep, IsWide, IsNotOmega}
-use Rattle.fing_elab.specs.declared.first.program.Bind.{Bind}
-use Rattle.fing_elab.specs.declared.first.elaboration.Elaborated.{Elaborated}
+use Rattle.fing_lexer.specs.declared.lexer.LexRefusal.{LexRefusal}
+use Rattle.fing_lexer.specs.declared.lexer.LexRefusal.TheVariants as lex
+use Rattle.fing_lexer.specs.declared.token.Token.{Token}
+use Rattle.fing_lexer.specs.Tokens.{TokensOf, RefusalOf, Sliced}
+use Rattle.fing_lexer.proofs.Slices.{sliced}
+use Rattle.fing_syntax.specs.Phrase.{Binds as Program}
+use Rattle.fing_grammar.specs.declared.refusal.ParseRefusal.{ParseRefusal}
+use Rattle.fing_grammar.specs.declared.refusal.ParseRefusal.TheVariants as parse
+use Rattle.fing_grammar.specs.Refusal.{Refuses}
+use Rattle.fing_words.specs.CommandLines.{IsCommandLine}
+use Rattle.fing_words.specs.declared.command_line.CommandLine.{CommandLine}
+use Rattle.fing_words.proofs.OneLine.{one_line as one_command_line}
 use Rattle.fing_elab.specs.declared.first.refusal.Refused.{Refused}
 use Rattle.fing_elab.specs.declared.first.refusal.Refused.TheVariants as why
-use Rattle.fing_elab.specs.Bindings.{Spells}
-use Rattle.fing_elab.specs.BindingRules.{Gives}
 use Rattle.fing_elab.specs.Elaborating.{ElabRefuses}
-use Rattle.fing_elab.specs.Reading.{ParseRefuses}
-use Rattle.fing_elab.specs.RefusalLine.{refusal_line, HasLine}
+use Rattle.fing_top.specs.Refusing.{untokened, unparsed, unelaborated, refusal_line, HasLine}
 use Rattle.fing_top.specs.declared.command.Command.{Command}
 use Rattle.fing_top.specs.declared.command.Command.TheVariants as command
 use Rattle.fing_top.specs.declared.status.Status.{Status}
 use Rattle.fing_top.specs.declared.status.Status.TheVariants as status
-use Rattle.fing_top.specs.Words.{word_of, Line}
-use Rattle.fing_top.specs.Reply.{accepted, refused, EmitReplies, VerifyReplies}
+use Rattle.fing_top.specs.Words.{line_of, Line, IsLine}
+use Rattle.fing_top.specs.Reply.{accepted, refused, Spells, EmitReplies, VerifyReplies}
 use Rattle.fing_top.specs.Verdict.{unread, verdict_line, HasLine as HasVerdict}
 use Rattle.fing_top.specs.Answer.{limit, Change, Output, IsWritten, AnswersBytes, IsAnswered, Untouched, Completes}
 use Rattle.fing_top.proofs.Replies.{one_reply}
 
 -- ---- what is compiled is replied
 
-pub reply_ok : (bytes : List ℕ) (program : List Bind) → Spells bytes program → (r : Result Elaborated Refused) → IfOk r (λ e. Gives [] program e.ty e.term) → IfOk r (λ e. EmitReplies bytes (accepted e.ty e.term (omega_text e.ty e.term)))
-reply_ok bytes program p (Ok e) g = EmitReplies.emitted p g
-reply_ok bytes program p (Err e) g = tt
+-- bytes have no more tokens than bytes
+few_sliced : (bytes : List ℕ) (at : ℕ) (ts : List Token) → at ≤ length bytes → Sliced bytes at ts → at + length ts ≤ length bytes
+few_sliced bytes at [] h s = omega (arith, h)
+few_sliced bytes at (t ∷ ts) h s = omega (arith, s.0, s.1, few_sliced bytes t.span.to ts s.2 s.4)
 
-reply_why : (bytes : List ℕ) (program : List Bind) → Spells bytes program → (e : Refused) → ElabRefuses program e → HasLine e → EmitReplies bytes (refused (refusal_line e))
-reply_why bytes program p why.Later u l = absurd u
-reply_why bytes program p (why.Unbound at name) u l = EmitReplies.unbound p u
-reply_why bytes program p why.Mem u l = absurd l
+pub few_tokens : (bytes : List ℕ) (ts : List Token) → length bytes ≤ limit → TokensOf bytes ts → length ts ≤ 1048576
+few_tokens bytes ts h t = omega (arith, h, few_sliced bytes 0 ts (omega arith) (sliced bytes ts t))
 
-pub reply_err : (bytes : List ℕ) (program : List Bind) → Spells bytes program → (r : Result Elaborated Refused) → IfErr r (λ e. ElabRefuses program e) → IfErr r (λ e. HasLine e → EmitReplies bytes (refused (refusal_line e)))
-reply_err bytes program p (Ok e) u = tt
-reply_err bytes program p (Err e) u = reply_why bytes program p e u
+pub lexed_replied : (bytes : List ℕ) (r : LexRefusal) → (r ≡ lex.Mem) ⊎ RefusalOf bytes r → HasLine (untokened r) → EmitReplies bytes (refused (refusal_line (untokened r)))
+lexed_replied bytes lex.Mem h l = absurd l
+lexed_replied bytes (lex.BadByte at) (inr q) l = EmitReplies.no_tokens q
+lexed_replied bytes (lex.BadText at) (inr q) l = EmitReplies.no_tokens q
+lexed_replied bytes (lex.Wide at) (inr q) l = EmitReplies.no_tokens q
+lexed_replied bytes (lex.TooDeep at) (inr q) l = EmitReplies.no_tokens q
+lexed_replied bytes (lex.BadByte at) (inl e) l = absurd (cc)
+lexed_replied bytes (lex.BadText at) (inl e) l = absurd (cc)
+lexed_replied bytes (lex.Wide at) (inl e) l = absurd (cc)
+lexed_replied bytes (lex.TooDeep at) (inl e) l = absurd (cc)
 
-pub reply_other : (bytes : List ℕ) (e : Refused) → ParseRefuses bytes e → HasLine e → EmitReplies bytes (refused (refusal_line e))
-reply_other bytes why.Later n l = EmitReplies.later n
-reply_other bytes (why.Unbound at name) n l = absurd n
-reply_other bytes why.Mem n l = absurd l
+pub parsed_replied : (bytes : List ℕ) (ts : List Token) (r : ParseRefusal) → TokensOf bytes ts → Refuses ts r → HasLine (unparsed r) → EmitReplies bytes (refused (refusal_line (unparsed r)))
+parsed_replied bytes ts (parse.Syntax at) t h l = EmitReplies.syntax_error t h.0 h.1
+parsed_replied bytes ts parse.Mem t h l = absurd l
+
+pub elab_replied : (bytes : List ℕ) (program : Program) (r : Refused) → Spells bytes program → ElabRefuses program r → HasLine (unelaborated r) → EmitReplies bytes (refused (refusal_line (unelaborated r)))
+elab_replied bytes program why.Later p h l = EmitReplies.later p h
+elab_replied bytes program (why.Unbound at name) p h l = EmitReplies.unbound p h.0 h.1
+elab_replied bytes program why.Mem p h l = absurd l
 
 -- ---- what is not read is replied
 
@@ -71,17 +88,23 @@ ill_replied bytes t e r n = VerifyReplies.ill_typed r.1 r.0 n
 
 -- ---- one command line
 
-first_word : (ws : List (List ℕ)) (x y : List ℕ) → ws ≡ x ∷ [] → ws ≡ y ∷ [] → x ≡ y
-first_word ws x y e f = ap (λ (l : List (List ℕ)). elim l [ [] ↦ x | (z ∷ zs) ↦ z ]) (sym e ∙ f)
-
-one_word : (a b : Command) → word_of a ≡ word_of b → a ≡ b
+one_word : (a b : Command) → line_of a ≡ line_of b → a ≡ b
 one_word command.Emit command.Emit e = refl
-one_word command.Emit command.Verify e = absurd (omega (arith, ap length e))
-one_word command.Verify command.Emit e = absurd (omega (arith, ap length e))
+one_word command.Emit command.Verify e = absurd (cc)
+one_word command.Verify command.Emit e = absurd (cc)
 one_word command.Verify command.Verify e = refl
 
 one_line : (words : List (List ℕ)) (a b : Command) → Line words a → Line words b → a ≡ b
-one_line words a b p q = one_word a b (first_word words (word_of a) (word_of b) p q)
+one_line words a b p q = one_word a b (one_command_line words (line_of a) (line_of b) p q)
+
+-- words that are no command line are the command line of no command
+pub no_line : (words : List (List ℕ)) → ((l : CommandLine) → IsCommandLine words l → ⊥) → IsLine words → ⊥
+no_line words n is = n (line_of is.0) is.1
+
+-- the command of words that are a command line
+pub built_line : (words : List (List ℕ)) (l : CommandLine) (found : Option Command) → IsCommandLine words l → MatchOption found ((c : Command) → l ≡ line_of c → ⊥) (λ c. l ≡ line_of c) → MatchOption found (IsLine words → ⊥) (λ c. Line words c)
+built_line words l None p n = λ is. n is.0 (one_command_line words l (line_of is.0) p is.1)
+built_line words l (Some c) p e = subst (λ (m : CommandLine). IsCommandLine words m) e p
 
 -- ---- a source whose bytes are known
 

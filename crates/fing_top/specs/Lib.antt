@@ -1,4 +1,5 @@
 pub mod Words
+pub mod Refusing
 pub mod Reply
 pub mod Verdict
 pub mod Answer

@@ -1,6 +1,5 @@
 -- The one reply to a command and the bytes of a source.
 use Rattle.std.specs.Prelude.{◌≡◌, ℕ, List, [], codes, false, Option, Some, None}
-use Rattle.fing_text.specs.declared.span.Span.{Span}
 use Rattle.omega_kinds.specs.Name.{Name}
 use Rattle.omega_types.specs.Ty.{Ty}
 use Rattle.omega_terms.specs.Term.{Term}
@@ -10,10 +9,16 @@ use Rattle.omega_spelling.specs.Omega.{OmegaText}
 use Rattle.omega_spelling.specs.Refusals.{is_too_deep}
 use Rattle.omega_spelling.specs.Refused.{Refused, IsVersion, IsTooDeep, IsWide, IsNotOmega, Refuses}
 use Rattle.omega_checker.specs.Judgment.{Judgment}
-use Rattle.fing_elab.specs.declared.first.program.Bind.{Bind}
-use Rattle.fing_elab.specs.Bindings.{Spells, IsOther}
+use Rattle.fing_lexer.specs.declared.lexer.LexRefusal.{LexRefusal}
+use Rattle.fing_lexer.specs.declared.token.Token.{Token}
+use Rattle.fing_lexer.specs.Tokens.{TokensOf, RefusalOf}
+use Rattle.fing_syntax.specs.Phrase.{Span, Binds as Program}
+use Rattle.fing_grammar.specs.Grammar.{Binds}
+use Rattle.fing_grammar.specs.Program.{Farthest}
+use Rattle.fing_grammar.specs.Tree.{Phrase}
+use Rattle.fing_elab.specs.Built.{IsBuilt}
 use Rattle.fing_elab.specs.BindingRules.{Gives, IsUnbound}
-use Rattle.fing_elab.specs.RefusalLine.{unbound_line}
+use Rattle.fing_top.specs.Refusing.{lexical_line, syntax_line, later_line, unbound_line}
 use Rattle.fing_top.specs.declared.command.Command.{Command}
 use Rattle.fing_top.specs.declared.command.Command.TheVariants as command
 use Rattle.fing_top.specs.declared.status.Status.{Status}
@@ -31,11 +36,21 @@ accepted t e text = record { status = status.Ok; text = text; confirmed = Some (
 abbrev pub refused : List ℕ → Reply
 refused line = record { status = status.Refused; text = line; confirmed = None }
 
--- `emit`: the text of what the rules derive for the program, or the line of its refusal
+-- the bytes spell the program: their one list of tokens is the phrase of the grammar with this tree
+pub record Spells (bytes : List ℕ) (program : Program) : Type 0 where
+  pub tokens : List Token
+  pub lexed : TokensOf bytes tokens
+  pub tree : Phrase Binds tokens program
+
+-- `emit`: the text of what the rules derive for the program; or the line of its first unbound name; or `Later` where the
+-- program is not built; or the length of the tokens' longest front that begins a program, where they are none; or the
+-- first place that has no token
 pub data EmitReplies (bytes : List ℕ) : Reply → Type 0 where
-  emitted : {program : List Bind} {t : Ty} {e : Term} → Spells bytes program → Gives [] program t e → EmitReplies bytes (accepted t e (omega_text t e))
-  unbound : {program : List Bind} {x : Name} {at : Span} → Spells bytes program → IsUnbound [] program x at → EmitReplies bytes (refused (unbound_line at x))
-  later : IsOther bytes → EmitReplies bytes (refused (codes "refused Later\n"))
+  emitted : {program : Program} {t : Ty} {e : Term} → Spells bytes program → Gives [] program t e → EmitReplies bytes (accepted t e (omega_text t e))
+  unbound : {program : Program} {x : Name} {at : Span} → Spells bytes program → IsBuilt program → IsUnbound [] program x at → EmitReplies bytes (refused (unbound_line at x))
+  later : {program : Program} → Spells bytes program → (IsBuilt program → ⊥) → EmitReplies bytes (refused later_line)
+  syntax_error : {tokens : List Token} {at : ℕ} → TokensOf bytes tokens → Farthest tokens at → ((program : Program) → Phrase Binds tokens program → ⊥) → EmitReplies bytes (refused (syntax_line at))
+  no_tokens : {why : LexRefusal} → RefusalOf bytes why → EmitReplies bytes (refused (lexical_line why))
 
 -- the line of bytes that are no text, or that have too many parentheses open
 abbrev pub text_line : Refused → List ℕ

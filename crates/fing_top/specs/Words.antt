@@ -1,16 +1,19 @@
--- Command lines.
-use Rattle.std.specs.Prelude.{◌≡◌, ℕ, List, [], ◌∷◌, codes}
+-- Command lines that are built.
+use Rattle.std.specs.Prelude.{ℕ, List}
+use Rattle.fing_words.specs.CommandLines.{IsCommandLine}
+use Rattle.fing_words.specs.declared.command_line.CommandLine.{CommandLine}
+use Rattle.fing_words.specs.declared.command_line.CommandLine.TheVariants as line
 use Rattle.fing_top.specs.declared.command.Command.{Command}
 use Rattle.fing_top.specs.declared.command.Command.TheVariants as command
 
--- the word of a command
-abbrev pub word_of : Command → List ℕ
-word_of command.Emit = codes "emit"
-word_of command.Verify = codes "verify"
+-- the command line of a command that is built
+abbrev pub line_of : Command → CommandLine
+line_of command.Emit = line.Emit
+line_of command.Verify = line.Verify
 
--- the words are the one word of the command
+-- the words are the command line of the command
 abbrev pub Line : List (List ℕ) → Command → Type 0
-Line words c = words ≡ word_of c ∷ []
+Line words c = IsCommandLine words (line_of c)
 
 abbrev pub IsLine : List (List ℕ) → Type 0
 IsLine words = (c : Command) × Line words c

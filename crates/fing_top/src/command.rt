@@ -1,10 +1,14 @@
-// Command lines.
-ghost use Rattle.std.specs.Prelude.{◌≡◌, map, MatchOption};
+// Command lines that are built.
+ghost use Rattle.std.specs.Prelude.{◌≡◌, map, IfOk, MatchOption};
 ghost use Rattle.std.specs.String.{string_bytes};
-ghost use Rattle.fing_top.specs.Words.{word_of, Line, IsLine};
+ghost use Rattle.fing_top.specs.Words.{line_of, Line, IsLine};
 ghost use Rattle.fing_top.specs.declared.command.Command.{Command as CommandTree};
 
-/// What the program is asked to do.
+use fing_words::{CommandLine, read_words};
+use omega_kinds::Mem;
+use std::alloc::Global;
+
+/// What the program is asked to do, of what it can do so far.
 #[derive(Clone, Copy, Debug, PartialEq, Eq)]
 pub enum Command {
     /// Compile a program into a type and a term of System Fω.
@@ -13,25 +17,25 @@ pub enum Command {
     Verify,
 }
 
-// The command of a word, where it is one.
-fn command_named(word: &str) -> Option<Command>
-    ensures { MatchOption result ((c : CommandTree) → word.now ≡ word_of c → ⊥) (λ c. word.now ≡ word_of c) }
+// The command of a command line, where it is built.
+fn command_in(line: CommandLine) -> Option<Command>
+    ensures { MatchOption result ((c : CommandTree) → line ≡ line_of c → ⊥) (λ c. line ≡ line_of c) }
 {
-    if word == "emit" {
-        Some(Command::Emit)
-    } else if word == "verify" {
-        Some(Command::Verify)
-    } else {
-        None
+    match line {
+        CommandLine::Emit => Some(Command::Emit),
+        CommandLine::Verify => Some(Command::Verify),
+        _ => None,
     }
 }
 
-/// The command that the words ask for. `None` comes exactly where they are no command line.
-pub fn command_of(words: &[String]) -> Option<Command>
-    ensures { MatchOption result (IsLine (map string_bytes words.now) → ⊥) (λ c. Line (map string_bytes words.now) c) }
+/// The command that the words ask for. `None` comes exactly where they are no command line that is built, and `Err` is
+/// want of memory.
+pub fn command_of(alloc: Global, words: &[String]) -> Result<Option<Command>, Mem>
+    ensures { IfOk result (λ found. MatchOption found (IsLine (map string_bytes words.now) → ⊥) (λ c. Line (map string_bytes words.now) c)) }
 {
-    match words {
-        [word] => command_named(word.as_str()),
-        _ => None,
+    let found = read_words(alloc, words)?;
+    match found {
+        Some(line) => Ok(command_in(line)),
+        None => Ok(None),
     }
 }

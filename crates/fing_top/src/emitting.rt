@@ -3,29 +3,43 @@ ghost use Rattle.std.specs.Prelude.{◌≡◌, ◌≤◌, [], length, IfOk, IfEr
 ghost use Rattle.omega_terms.specs.InScope.{TyInScope, TermInScope};
 ghost use Rattle.omega_terms.specs.OmegaText.{omega_text};
 ghost use Rattle.omega_terms.specs.Typing.{HasType};
-ghost use Rattle.fing_elab.specs.RefusalLine.{refusal_line, HasLine};
-ghost use Rattle.fing_top.specs.Reply.{accepted, refused, EmitReplies};
+ghost use Rattle.fing_top.specs.Refusing.{refusal_line, HasLine};
+ghost use Rattle.fing_top.specs.Reply.{accepted, refused, EmitReplies, Spells};
 ghost use Rattle.fing_top.specs.Answer.{limit, AnswersBytes, change, output};
 ghost use Rattle.fing_top.specs.declared.command.Command.TheVariants as command;
 
+use crate::refusing::{Unemitted, write_line};
 use crate::status::{Status, status_of};
-use fing_elab::first::{Elaborated, Refused, elab, parse, write_line};
+use fing_elab::first::{Elaborated, elab};
+use fing_lexer::tokens;
+use fing_parser::program;
+use fing_syntax::Program;
 use fing_text::Sink;
 use omega_checker::{Checked, check};
 use omega_kinds::Mem;
 use omega_write::write_omega;
 use std::alloc::Global;
 
+// The program that a source's bytes are, or why they are none.
+fn parsed(alloc: Global, bytes: &[u8]) -> Result<Program, Unemitted>
+    requires { length bytes.now ≤ limit }
+    ensures spelled { IfOk result (λ p. Spells bytes.now p) }
+    ensures refused { IfErr result (λ why. HasLine why → EmitReplies bytes.now (refused (refusal_line why))) }
+{
+    let tokens = tokens(alloc, bytes)?;
+    Ok(program(alloc, &tokens)?)
+}
+
 // The type and the term of a source's bytes, or why they are refused.
-fn compiled(alloc: Global, bytes: &[u8]) -> Result<Elaborated, Refused>
+fn compiled(alloc: Global, bytes: &[u8]) -> Result<Elaborated, Unemitted>
     requires { length bytes.now ≤ limit }
     ensures emitted { IfOk result (λ e. EmitReplies bytes.now (accepted e.ty e.term (omega_text e.ty e.term))) }
     ensures closed { IfOk result (λ e. TyInScope 0 e.ty × TermInScope 0 0 e.term) }
     ensures typed { IfOk result (λ e. HasType [] [] e.term e.ty) }
     ensures refused { IfErr result (λ why. HasLine why → EmitReplies bytes.now (refused (refusal_line why))) }
 {
-    let program = parse(alloc, bytes)?;
-    elab(alloc, &program)
+    let program = parsed(alloc, bytes)?;
+    Ok(elab(alloc, &program)?)
 }
 
 // What the checker makes of a term that has its type. `Err` is want of memory.
@@ -61,7 +75,7 @@ pub fn emit<K: Sink>(
             }
             Err(Mem) => Status::NoMemory,
         },
-        Err(Refused::Mem) => Status::NoMemory,
+        Err(Unemitted::Mem) => Status::NoMemory,
         Err(refusal) => status_of(write_line(sink, &refusal), Status::Refused),
     }
 }

@@ -1,8 +1,9 @@
 // The top call.
-ghost use Rattle.std.specs.Prelude.{◌≡◌, ◌≤◌, length, map};
+ghost use Rattle.std.specs.Prelude.{◌≡◌, ◌≤◌, ℕ, List, length, map};
 ghost use Rattle.std.specs.String.{string_bytes};
 ghost use Rattle.fing_top.specs.Reply.{OneReply};
 ghost use Rattle.fing_top.specs.Answer.{limit, AnswersBytes, Answers, Completes, change, output};
+ghost use Rattle.fing_top.specs.Words.{Line};
 
 use crate::command::{Command, command_of};
 use crate::emitting::emit;
@@ -10,6 +11,7 @@ use crate::status::Status;
 use crate::verifying::verify;
 use fing_text::{ReadEnd, Sink, Source, read_all};
 use omega_checker::Checked;
+use omega_kinds::Mem;
 use std::alloc::Global;
 
 // The most bytes that a source has.
@@ -33,6 +35,27 @@ fn reply<K: Sink>(
     }
 }
 
+// Answers a command for a source, read to its end.
+fn answered<S: Source, K: Sink>(
+    alloc: Global,
+    command: Command,
+    source: &mut S,
+    sink: &mut K,
+    confirmed: &mut Option<Checked>,
+) -> Status
+    ensures answers { (words : List (List ℕ)) → Line words command → Answers words (change (S.told source.old) (S.told source.new))
+        (output (change (K.told sink.old) (K.told sink.new)) (change confirmed.old confirmed.new)) result }
+    ensures completes { (words : List (List ℕ)) → Line words command → Completes words (change (S.told source.old) (S.told source.new))
+        (output (change (K.told sink.old) (K.told sink.new)) (change confirmed.old confirmed.new)) result }
+{
+    match read_all(alloc, source, LIMIT) {
+        Ok(bytes) => reply(alloc, command, &bytes, sink, confirmed),
+        Err(ReadEnd::ReadFault) => Status::ReadFault,
+        Err(ReadEnd::TooLong) => Status::TooLong,
+        Err(ReadEnd::Mem) => Status::NoMemory,
+    }
+}
+
 /// Does all that the program does: `words` are those after the program's name.
 ///
 /// It reads the source to its end. For the command line `emit` it writes the Omega text of the program's type and term
@@ -42,10 +65,10 @@ fn reply<K: Sink>(
 /// term and the type that were derived or read; else it stands as it was.
 ///
 /// The other statuses come in this order:
-/// `Words` exactly where the words are no command line; `ReadFault` only where a read failed; `TooLong` exactly where
-/// the source has more than 1,048,576 bytes; `WriteFault`, in place of the reply's own status, only where a write
-/// failed. `NoMemory` is want of memory. With `Words`, `ReadFault`, `TooLong` and `NoMemory` nothing is written, and with
-/// `WriteFault` a front of the reply.
+/// `Words` exactly where the words are no command line that is built; `ReadFault` only where a read failed; `TooLong`
+/// exactly where the source has more than 1,048,576 bytes; `WriteFault`, in place of the reply's own status, only where
+/// a write failed. `NoMemory` is want of memory. With `Words`, `ReadFault`, `TooLong` and `NoMemory` nothing is written,
+/// and with `WriteFault` a front of the reply.
 pub fn fing<S: Source, K: Sink>(
     alloc: Global,
     words: &[String],
@@ -58,14 +81,10 @@ pub fn fing<S: Source, K: Sink>(
     ensures completes { Completes (map string_bytes words.now) (change (S.told source.old) (S.told source.new))
         (output (change (K.told sink.old) (K.told sink.new)) (change confirmed.old confirmed.new)) result }
 {
-    let Some(command) = command_of(words) else {
-        return Status::Words;
-    };
-    match read_all(alloc, source, LIMIT) {
-        Ok(bytes) => reply(alloc, command, &bytes, sink, confirmed),
-        Err(ReadEnd::ReadFault) => Status::ReadFault,
-        Err(ReadEnd::TooLong) => Status::TooLong,
-        Err(ReadEnd::Mem) => Status::NoMemory,
+    match command_of(alloc, words) {
+        Ok(Some(command)) => answered(alloc, command, source, sink, confirmed),
+        Ok(None) => Status::Words,
+        Err(Mem) => Status::NoMemory,
     }
 }
 

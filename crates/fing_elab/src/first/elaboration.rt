@@ -1,16 +1,21 @@
 // Number bindings as a closed type and a closed term of System Fω.
-ghost use Rattle.std.specs.Prelude.{◌≡◌, [], ◌∷◌, IfOk, IfErr, MatchResult};
+ghost use Rattle.std.specs.Prelude.{◌≡◌, ◌<◌, ◌^◌, [], ◌∷◌, length, IsTrue, IfOk, IfErr, MatchResult};
 ghost use Rattle.omega_terms.specs.PartTerms.{value_term};
 ghost use Rattle.omega_terms.specs.InScope.{TyInScope, TermInScope};
 ghost use Rattle.omega_terms.specs.Typing.{HasType};
-ghost use Rattle.fing_elab.specs.BindingRules.{OperandGives, SumGives, Gives, int_part as int_part_ty};
-ghost use Rattle.fing_elab.specs.Elaborating.{OperandRefuses, SumRefuses, ElabRefuses, lets};
+ghost use Rattle.fing_syntax.specs.Leaves.{spelled};
+ghost use Rattle.fing_syntax.specs.Phrase.{Span, ModAt, ModName, ExpAt, PathExp, ExpOps, NoBinds};
+ghost use Rattle.fing_syntax.specs.View.{binds, ops};
+ghost use Rattle.fing_elab.specs.Built.{binds_are_built};
+ghost use Rattle.fing_elab.specs.BindingRules.{ExpGives, BindGives, Gives, int_part as int_part_ty};
+ghost use Rattle.fing_elab.specs.Elaborating.{ExpRefuses, BindRefuses, ElabRefuses, lets};
 
+use crate::first::built::{are_built, is_add};
 use crate::first::env::Env;
-use crate::first::program::{Operand, Program, Sum};
 use crate::first::refusal::Refused;
-use omega_kinds::{Label, Mem};
-use omega_terms::{Op, Term, TermFields, TermNode};
+use fing_syntax::{Bind, BindWhat, Exp, ExpWhat, Mod, ModWhat, Op, Program, SpanName};
+use omega_kinds::{Label, Mem, Name};
+use omega_terms::{Op as TermOp, Term, TermFields, TermNode};
 use omega_types::{Ty, TyFields, TyNode};
 use std::alloc::Global;
 
@@ -21,35 +26,75 @@ pub struct Elaborated {
     pub term: Term,
 }
 
-// The term of an operand.
-fn operand_term(alloc: Global, env: &Env, operand: &Operand) -> Result<Term, Refused>
-    ensures { MatchResult result (λ e. OperandGives env.now operand.now e) (λ why. OperandRefuses env.now operand.now why) }
+// The term of a name.
+fn name_term(alloc: Global, env: &Env, found: &SpanName) -> Result<Term, Refused>
+    ensures { (s t : Span) → MatchResult result
+        (λ e. ExpGives env.now (ExpAt s (PathExp (ModAt t (ModName (spelled found.now))))) e)
+        (λ why. ExpRefuses env.now (ExpAt s (PathExp (ModAt t (ModName (spelled found.now))))) why) }
 {
-    match operand {
-        Operand::Name(name, at) => {
-            let Some(index) = env.find(name) else {
-                return Err(Refused::Unbound {
-                    at: *at,
-                    name: name.share()?,
-                });
-            };
-            let part = Term::make(alloc, TermNode::Var(index))?;
-            Ok(Term::make(alloc, TermNode::Get(part, Label::Val))?)
-        }
-        Operand::Number(number) => Ok(Term::make(alloc, TermNode::Int(*number))?),
+    let Some(index) = env.find(&found.name) else {
+        return Err(Refused::Unbound {
+            at: found.span,
+            name: found.name.share()?,
+        });
+    };
+    let part = Term::make(alloc, TermNode::Var(index))?;
+    Ok(Term::make(alloc, TermNode::Get(part, Label::Val))?)
+}
+
+// The term of a path.
+fn path_term(alloc: Global, env: &Env, path: &Mod) -> Result<Term, Refused>
+    ensures { (s : Span) → MatchResult result
+        (λ e. ExpGives env.now (ExpAt s (PathExp path.now)) e) (λ why. ExpRefuses env.now (ExpAt s (PathExp path.now)) why) }
+{
+    match &path.what {
+        ModWhat::Name(found) => name_term(alloc, env, found),
+        _ => Err(Refused::Later),
     }
 }
 
-// The term of a sum.
-fn sum_term(alloc: Global, env: &Env, sum: &Sum) -> Result<Term, Refused>
-    ensures { MatchResult result (λ e. SumGives env.now sum.now e) (λ why. SumRefuses env.now (sum.now.first ∷ sum.now.others) why) }
+// The term of an expression.
+#[cycle(terms)]
+fn exp_term(alloc: Global, env: &Env, exp: &Exp) -> Result<Term, Refused>
+    ensures { MatchResult result (λ e. ExpGives env.now exp.now e) (λ why. ExpRefuses env.now exp.now why) }
 {
-    let mut term = operand_term(alloc, env, &sum.first)?;
-    for operand in sum.others.items() {
-        let right = operand_term(alloc, env, operand)?;
-        term = Term::make(alloc, TermNode::Arith(Op::Add, term, right))?;
+    match &exp.what {
+        ExpWhat::Path(path) => path_term(alloc, env, path),
+        ExpWhat::Int(number) => Ok(Term::make(alloc, TermNode::Int(*number))?),
+        ExpWhat::Ops(first, rest) => sum_term(alloc, env, first, rest),
+        _ => Err(Refused::Later),
+    }
+}
+
+// The term of a first operand and the others, which are added to it from the left.
+#[cycle(terms)]
+fn sum_term(alloc: Global, env: &Env, first: &Exp, rest: &[(Op, Exp)]) -> Result<Term, Refused>
+    ensures { (s : Span) → MatchResult result
+        (λ e. ExpGives env.now (ExpAt s (ExpOps first.now (ops rest.now))) e)
+        (λ why. ExpRefuses env.now (ExpAt s (ExpOps first.now (ops rest.now))) why) }
+{
+    let mut term = exp_term(alloc, env, first)?;
+    for item in rest {
+        if !is_add(item.0) {
+            return Err(Refused::Later);
+        }
+        let right = exp_term(alloc, env, &item.1)?;
+        term = Term::make(alloc, TermNode::Arith(TermOp::Add, term, right))?;
     }
     Ok(term)
+}
+
+// The name of a binding, and the term of its value.
+fn bind_term(alloc: Global, env: &Env, bind: &Bind) -> Result<(Name, Term), Refused>
+    ensures { MatchResult result (λ r. BindGives env.now bind.now r.0 r.1) (λ why. BindRefuses env.now bind.now why) }
+{
+    match &bind.what {
+        BindWhat::Val(found, value) => {
+            let term = exp_term(alloc, env, value)?;
+            Ok((found.name.share()?, term))
+        }
+        _ => Err(Refused::Later),
+    }
 }
 
 // The type of a value part that is a number.
@@ -63,7 +108,7 @@ fn int_part(alloc: Global) -> Result<Ty, Mem>
 
 // The structure of all names that are bound.
 fn structure(alloc: Global, env: Env) -> Result<Elaborated, Mem>
-    ensures { IfOk result (λ e. Gives env [] e.ty e.term) }
+    ensures { IfOk result (λ e. Gives env NoBinds e.ty e.term) }
 {
     let fields = env.into_fields(alloc)?;
     let part = int_part(alloc)?;
@@ -102,25 +147,51 @@ fn let_numbers(alloc: Global, mut numbers: Vec<Term>, body: Term) -> Result<Term
     Ok(body)
 }
 
-/// The type and the term of the program. Both are closed, and the term has the type by the typing rules.
-///
-/// `Unbound` comes exactly where a name is bound by no earlier binding, with the first such name and its place. `Mem`
-/// is want of memory. There is no other refusal.
-pub fn elab(alloc: Global, program: &Program) -> Result<Elaborated, Refused>
-    ensures derived { IfOk result (λ e. Gives [] program.now e.ty e.term) }
+// The type and the term of bindings that are built.
+fn elab_all(alloc: Global, all: &[Bind]) -> Result<Elaborated, Refused>
+    requires built { IsTrue (binds_are_built (binds all.now)) }
+    requires few { length all.now < 2 ^ 63 }
+    ensures derived { IfOk result (λ e. Gives [] (binds all.now) e.ty e.term) }
     ensures closed { IfOk result (λ e. TyInScope 0 e.ty × TermInScope 0 0 e.term) }
     ensures typed { IfOk result (λ e. HasType [] [] e.term e.ty) }
-    ensures refused { IfErr result (λ why. ElabRefuses program.now why) }
+    ensures refused { IfErr result (λ why. ElabRefuses (binds all.now) why) }
 {
     let mut env = Env::new(alloc);
     let mut numbers = Vec::new(alloc);
-    for bind in program.items() {
-        numbers.push(sum_term(alloc, &env, &bind.sum)?)?;
-        env.push(bind.name.share()?)?;
+    for bind in all {
+        let (name, number) = bind_term(alloc, &env, bind)?;
+        numbers.push(number)?;
+        env.push(name)?;
     }
     let last = structure(alloc, env)?;
     Ok(Elaborated {
         ty: last.ty,
         term: let_numbers(alloc, numbers, last.term)?,
     })
+}
+
+// The bindings of the program.
+fn bindings(program: &Program) -> &[Bind]
+    ensures value { binds result.now ≡ program.now }
+    ensures small { length result.now < 2 ^ 63 }
+{
+    program.binds.as_slice()
+}
+
+/// The type and the term of the program. Both are closed, and the term has the type by the typing rules.
+///
+/// `Later` comes exactly where the program is none of number bindings, whatever else it holds; else `Unbound` exactly
+/// where a name is bound by no earlier binding, with the first such name and its place. `Mem` is want of memory.
+pub fn elab(alloc: Global, program: &Program) -> Result<Elaborated, Refused>
+    ensures derived { IfOk result (λ e. Gives [] program.now e.ty e.term) }
+    ensures closed { IfOk result (λ e. TyInScope 0 e.ty × TermInScope 0 0 e.term) }
+    ensures typed { IfOk result (λ e. HasType [] [] e.term e.ty) }
+    ensures refused { IfErr result (λ why. ElabRefuses program.now why) }
+{
+    let all = bindings(program);
+    if are_built(all) {
+        elab_all(alloc, all)
+    } else {
+        Err(Refused::Later)
+    }
 }

@@ -1,12 +1,10 @@
 // A worked program, by which the definitions are tried.
 ghost use Rattle.std.specs.Prelude.{[]};
-ghost use Rattle.fing_elab.specs.Bindings.{AreBindings};
 ghost use Rattle.fing_elab.specs.BindingRules.{Gives};
-ghost use Rattle.fing_elab.specs.Example.{example_tokens, example_program, example_type, example_term};
+ghost use Rattle.fing_elab.specs.Example.{example_program, example_type, example_term};
 
-/// The tokens of `val x = 1 + 2` are the bindings of its tree, which has the type `(rec (x (rec (.val int))))` and the
-/// term `(call (fn (rec (.val int)) (rec (x x0))) (rec (.val (+ 1 2))))`.
+/// `val x = 1 + 2` has the type `(rec (x (rec (.val int))))` and the term
+/// `(call (fn (rec (.val int)) (rec (x x0))) (rec (.val (+ 1 2))))`.
 pub fn sum_example()
-    ensures spelled { AreBindings example_tokens example_program }
-    ensures derived { Gives [] example_program example_type example_term }
+    ensures { Gives [] example_program example_type example_term }
 {}

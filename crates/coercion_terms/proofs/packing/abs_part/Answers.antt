@@ -1,13 +1,14 @@
 use Rattle.std.proofs.Common.{ap, ◌∙◌}
 use Rattle.std.proofs.lemmas.Result.{IfOk-weaker}
 use Rattle.omega_terms.specs.Term.{Term}
+use Rattle.term_shorthands.specs.Packed.{opened}
 use Rattle.coercion_terms.proofs.PackSteps.{abs-made, abs-typed}
 use Rattle.coercion_terms.proofs.packing.abs_part.Goals as goal
 
 pub returns-clause-value : goal.returns-clause-value
 returns-clause-value c =
-    IfOk-weaker _ _ _ (λ e q. abs-made c.args.from.now c.args.count c.args.types.now c.args.inner.now c.args.to.now c.in_ok-body.body c.in_ok-opened.opened e c.in_ok-body.ensures c.in_ok-opened.ensures (q ∙ ap (λ u. Term.Lam u c.in_ok-opened.opened) c.in_ok-share.ensures)) c.make.ensures
+    IfOk-weaker _ _ _ (λ e q. abs-made c.args.from.now c.args.count c.args.types.now c.args.inner.now c.args.to.now c.in_ok-body.body c.in_ok-opened.opened e c.in_ok-body.ensures (c.in_ok-opened.ensures.value ∙ ap (λ v. opened c.args.count v c.args.from.now c.in_ok-body.body) c.in_ok-variable.ensures) (q ∙ ap (λ u. Term.Lam u c.in_ok-opened.opened) c.in_ok-share.ensures)) c.make.ensures
 
 pub returns-clause-typed : goal.returns-clause-typed
 returns-clause-typed c =
-    IfOk-weaker _ _ _ (λ e q. abs-typed c.args.from.now c.args.count c.args.types.now c.args.inner.now c.args.to.now e (abs-made c.args.from.now c.args.count c.args.types.now c.args.inner.now c.args.to.now c.in_ok-body.body c.in_ok-opened.opened e c.in_ok-body.ensures c.in_ok-opened.ensures (q ∙ ap (λ u. Term.Lam u c.in_ok-opened.opened) c.in_ok-share.ensures))) c.make.ensures
+    IfOk-weaker _ _ _ (λ e q. abs-typed c.args.from.now c.args.count c.args.types.now c.args.inner.now c.args.to.now e (abs-made c.args.from.now c.args.count c.args.types.now c.args.inner.now c.args.to.now c.in_ok-body.body c.in_ok-opened.opened e c.in_ok-body.ensures (c.in_ok-opened.ensures.value ∙ ap (λ v. opened c.args.count v c.args.from.now c.in_ok-body.body) c.in_ok-variable.ensures) (q ∙ ap (λ u. Term.Lam u c.in_ok-opened.opened) c.in_ok-share.ensures))) c.make.ensures

@@ -1,0 +1,10 @@
+// Generated sources: a legal program of any size, for measuring.
+// Stands on omega_kinds and itoa (numbers in decimal).
+// Proved: `source_of` gives exactly the text of the definition.
+#![tactic(auto)]
+
+pub mod source;
+#[cfg(test)]
+mod tests;
+
+pub use source::source_of;

@@ -1,0 +1,11 @@
+use Rattle.std.proofs.Common.{◌≡◌, [], length}
+use Rattle.fing_grammar.specs.Steps.{moves}
+use Rattle.parse_forms.specs.Part.{held}
+use Rattle.parse_forms.specs.Play.{play_all}
+use Rattle.fing_parser.proofs.build.build.Given as goal
+
+abbrev pub invariant-play : goal.invariant-play
+invariant-play l = play_all (moves l.left.items) (held l.stack) ≡ play_all (moves l.fn.steps.items) []
+
+abbrev pub decreases-play : goal.decreases-play
+decreases-play l = length l.left.items

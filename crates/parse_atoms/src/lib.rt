@@ -1,0 +1,7 @@
+// Productions of the expressions that need no parentheses.
+// Stands on parse_forms.
+// Proved: each takes its parts off the stack and puts the tree of the definitions there, or misfits exactly where the
+// stack does not hold its parts.
+#![tactic(auto)]
+
+pub mod atoms;

@@ -1,0 +1,133 @@
+// Expressions.
+ghost use Rattle.std.specs.Prelude.{◌≡◌, Some, None, IfOk, IfErr};
+ghost use Rattle.fing_grammar.specs.Grammar as the;
+ghost use Rattle.fing_grammar.specs.View.{exp_rule_in};
+ghost use Rattle.parse_forms.specs.Part.{held};
+ghost use Rattle.parse_forms.specs.Play.{played, played_any};
+ghost use Rattle.parse_forms.specs.declared.refusal.BuildRefusal.TheVariants.{Misfit};
+
+use fing_grammar::grammar::ExpRule;
+use fing_syntax::{Exp, ExpWhat};
+use parse_forms::chains::ops_chain;
+use parse_forms::forms::abstracted;
+use parse_forms::part::{Abstraction, Part};
+use parse_forms::refusal::BuildRefusal;
+use parse_forms::stack::Stack;
+use parse_forms::tokens::{named, up_to};
+use std::alloc::Global;
+
+fn fun(stack: &mut Stack<'_>, alloc: Global) -> Result<(), BuildRefusal>
+    ensures made { IfOk result (λ _. played the.exp_fun (held stack.old) ≡ Some (held stack.new)) }
+    ensures misfit { IfErr result (λ e. e ≡ Misfit → played the.exp_fun (held stack.old) ≡ None) }
+{
+    let word = stack.token()?;
+    let abstraction = stack.abstraction()?;
+    let exp = abstracted(alloc, word, abstraction)?;
+    stack.push(Part::Exp(exp))?;
+    Ok(())
+}
+
+fn fix(stack: &mut Stack<'_>, alloc: Global) -> Result<(), BuildRefusal>
+    ensures made { IfOk result (λ _. played the.exp_fix (held stack.old) ≡ Some (held stack.new)) }
+    ensures misfit { IfErr result (λ e. e ≡ Misfit → played the.exp_fix (held stack.old) ≡ None) }
+{
+    let word = stack.token()?;
+    let function = named(alloc, stack.token()?)?;
+    stack.token()?;
+    let name = named(alloc, stack.token()?)?;
+    stack.token()?;
+    let param = stack.ty()?;
+    stack.token()?;
+    stack.token()?;
+    let result = stack.ty()?;
+    stack.token()?;
+    let body = stack.exp()?;
+    let span = up_to(word.span, body.span);
+    let body = Box::new(alloc, body)?;
+    stack.push(Part::Exp(Exp {
+        span,
+        what: ExpWhat::Fix {
+            function,
+            name,
+            param,
+            result,
+            body,
+        },
+    }))?;
+    Ok(())
+}
+
+fn if_else(stack: &mut Stack<'_>, alloc: Global) -> Result<(), BuildRefusal>
+    ensures made { IfOk result (λ _. played the.exp_if (held stack.old) ≡ Some (held stack.new)) }
+    ensures misfit { IfErr result (λ e. e ≡ Misfit → played the.exp_if (held stack.old) ≡ None) }
+{
+    let word = stack.token()?;
+    let test = Box::new(alloc, stack.exp()?)?;
+    stack.token()?;
+    let yes = Box::new(alloc, stack.exp()?)?;
+    stack.token()?;
+    let no = stack.exp()?;
+    let span = up_to(word.span, no.span);
+    let no = Box::new(alloc, no)?;
+    stack.push(Part::Exp(Exp {
+        span,
+        what: ExpWhat::If(test, yes, no),
+    }))?;
+    Ok(())
+}
+
+fn compare(stack: &mut Stack<'_>, alloc: Global) -> Result<(), BuildRefusal>
+    ensures made { IfOk result (λ _. played the.exp_compare (held stack.old) ≡ Some (held stack.new)) }
+    ensures misfit { IfErr result (λ e. e ≡ Misfit → played the.exp_compare (held stack.old) ≡ None) }
+{
+    let first = stack.exp()?;
+    let rest = stack.ops()?;
+    let exp = ops_chain(alloc, first, rest)?;
+    stack.push(Part::Exp(exp))?;
+    Ok(())
+}
+
+fn lam_value(stack: &mut Stack<'_>, alloc: Global) -> Result<(), BuildRefusal>
+    ensures made { IfOk result (λ _. played the.lam_value (held stack.old) ≡ Some (held stack.new)) }
+    ensures misfit { IfErr result (λ e. e ≡ Misfit → played the.lam_value (held stack.old) ≡ None) }
+{
+    stack.token()?;
+    let name = named(alloc, stack.token()?)?;
+    stack.token()?;
+    let ty = stack.ty()?;
+    stack.token()?;
+    stack.token()?;
+    let body = stack.exp()?;
+    stack.push(Part::Abstraction(Abstraction::Value(name, ty, body)))?;
+    Ok(())
+}
+
+fn lam_type(stack: &mut Stack<'_>, alloc: Global) -> Result<(), BuildRefusal>
+    ensures made { IfOk result (λ _. played the.lam_type (held stack.old) ≡ Some (held stack.new)) }
+    ensures misfit { IfErr result (λ e. e ≡ Misfit → played the.lam_type (held stack.old) ≡ None) }
+{
+    stack.token()?;
+    let name = named(alloc, stack.token()?)?;
+    stack.token()?;
+    let kind = stack.kind()?.kind;
+    stack.token()?;
+    stack.token()?;
+    let body = stack.exp()?;
+    stack.push(Part::Abstraction(Abstraction::Type(name, kind, body)))?;
+    Ok(())
+}
+
+/// Plays a production: its parts are taken off the stack, and what it gives is put there.
+pub fn exp(stack: &mut Stack<'_>, alloc: Global, rule: ExpRule) -> Result<(), BuildRefusal>
+    ensures made { IfOk result (λ _. played_any (exp_rule_in rule) (held stack.old) ≡ Some (held stack.new)) }
+    ensures misfit { IfErr result (λ e. e ≡ Misfit → played_any (exp_rule_in rule) (held stack.old) ≡ None) }
+{
+    match rule {
+        ExpRule::Fun => fun(stack, alloc),
+        ExpRule::Fix => fix(stack, alloc),
+        ExpRule::If => if_else(stack, alloc),
+        ExpRule::Compare => compare(stack, alloc),
+        ExpRule::LamValue => lam_value(stack, alloc),
+        ExpRule::LamType => lam_type(stack, alloc),
+    }
+}

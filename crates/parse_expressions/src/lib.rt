@@ -1,0 +1,8 @@
+// Productions of expressions and operators.
+// Stands on parse_forms.
+// Proved: each takes its parts off the stack and puts the tree of the definitions there, or misfits exactly where the
+// stack does not hold its parts.
+#![tactic(auto)]
+
+pub mod exps;
+pub mod operators;
