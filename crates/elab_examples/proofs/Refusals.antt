@@ -14,7 +14,7 @@ use Rattle.omega_types.specs.Normality.Normal.{n_int, n_neutral}
 use Rattle.omega_types.specs.Normality.Neutral.{n_var}
 use Rattle.signatures.specs.Signatures.Sig.{Sig, Abs, SigRow, HasField, made}
 use Rattle.signatures.specs.Explicit.SigPath.{SigPath, Item, PartAt, ParamOn, PathBefore, ItemBefore}
-use Rattle.signatures.specs.Explicit.RootPath.{Rooted, RootPath, LeastRoot}
+use Rattle.signatures.specs.Explicit.RootPath.{Rooted, RootPath, LeastRoot, RootOf}
 use Rattle.signatures.specs.Matching.LookUp.{Found, FoundAt, FoundAfter}
 use Rattle.signatures.specs.Matching.MatchRefusal.{Why, MatchRefusal, RefusesMatch, RefusesSub, RefusesFields}
 use Rattle.signatures.specs.Signatures.Alike.{AlikeSig, AlikeRow}
@@ -87,10 +87,10 @@ before-itself HasField.here b = false≢true b
 before-itself (HasField.there d h) b = no-field-of-end h
 
 no-root-at-end : RootPath [] (Kind.Star ∷ []) wanted 0 [] → ⊥
-no-root-at-end (RootPath.root_path lt (Rooted.at p c) a) = elim p [ ]
+no-root-at-end (RootPath.root_path lt (RootOf.root_of (Rooted.at p c) a)) = elim p [ ]
 
 no-root-before : {a : Item} {q : SigPath} → RootPath [] (Kind.Star ∷ []) wanted 0 (a ∷ q) → ItemBefore a (Item.Part t) → ⊥
-no-root-before (RootPath.root_path lt (Rooted.at (PartAt.field h p) c) a) (ItemBefore.by_name b) = before-itself h b
+no-root-before (RootPath.root_path lt (RootOf.root_of (Rooted.at (PartAt.field h p) c) a)) (ItemBefore.by_name b) = before-itself h b
 
 none-before : (q : SigPath) → RootPath [] (Kind.Star ∷ []) wanted 0 q → PathBefore q (Item.Part t ∷ []) → ⊥
 none-before _ r PathBefore.begins = no-root-at-end r
@@ -102,8 +102,9 @@ root =
     LeastRoot.least
     (RootPath.root_path
     (omega arith)
+    (RootOf.root_of
     (Rooted.at (PartAt.field HasField.here PartAt.end) (c_refl (k_var here)))
-    (λ j a b ds ks q p. absurd (no-params p)))
+    (λ j a ds ks q p. absurd (no-params p))))
     none-before
 
 none-found : (u : Ty) → FoundAt [] nothing (Kind.Star ∷ []) wanted [] u → ⊥

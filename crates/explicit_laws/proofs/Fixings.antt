@@ -13,7 +13,8 @@ use Rattle.omega_types.proofs.Preservation.{Substitutes, kind-rename}
 use Rattle.signatures.specs.Signatures.Sig.{Sig, Abs}
 use Rattle.signatures.specs.Signatures.SigSubst.{substitute_sig}
 use Rattle.signatures.specs.Explicit.SigPath.{SigPath}
-use Rattle.signatures.specs.Explicit.RootPath.{ParamsAvoid, RootPath, root_path}
+use Rattle.signatures.specs.Explicit.RootPath.{ParamsAvoid, RootPath, root_path, root_of}
+use Rattle.sig_laws.proofs.Formed.RootNumbers.{own_falls, by_numbers}
 use Rattle.signatures.specs.Explicit.WellFormed.{WellFormed, Explicit, explicit}
 use Rattle.sig_laws.proofs.Algebra.BinderLaws.{extend-append, unders-past}
 use Rattle.sig_laws.proofs.Algebra.SigMention.{mentions-rename}
@@ -104,11 +105,11 @@ module _ (before after : List Kind) (k : Kind) (u : Ty) where
       (unders-substitutes after (front-substitutes (kind-rename (past before) (past-maps before ctx) h))))
 
   fixed_root : (ctx : List Kind) (s : Sig) {i n : ℕ} {p : SigPath} → HasKind ctx u k → WellFormed (inside ctx) s → Kept i n → i < length (before ++ after) → RootPath ctx (before ++ (k ∷ after)) s n p → RootPath ctx (before ++ after) (substitute_sig fixing s) i p
-  fixed_root ctx s {i} {n} {p} h w e b (root_path bound x y) = root_path b
+  fixed_root ctx s {i} {n} {p} h w e b (root_path bound (root_of x y)) = by_numbers b
       (shows-rooted (kept-shows e) (shows-substitute fixing (fixing-substitutes ctx h) (rooted-shows x)))
       (λ j le lt. let f = kept j lt in
       params-moved s p (own (before ++ after) j) fixing (fixing-substitutes ctx h) (well_formed-kinds w)
-      (λ z m. subst (ParamsAvoid (inside ctx) s p) (sym (kept-only z f.1 m)) (y f.0 (kept-order e f.1 le) f.2)))
+      (λ z m. subst (ParamsAvoid (inside ctx) s p) (sym (kept-only z f.1 m)) (y (own (before ++ (k ∷ after)) f.0) (own_falls (before ++ (k ∷ after)) n f.0 (kept-order e f.1 le)))))
 
   pub fixed_explicit : (ctx : List Kind) (s : Sig) → HasKind ctx u k → Explicit ctx (Abs.Ex (before ++ (k ∷ after)) s) → Explicit ctx (Abs.Ex (before ++ after) (substitute_sig fixing s))
   fixed_explicit ctx s h (explicit w r e) = explicit

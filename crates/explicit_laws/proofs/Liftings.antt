@@ -20,7 +20,8 @@ use Rattle.signatures.specs.Signatures.Sig.{Sig, Abs}
 use Rattle.signatures.specs.Signatures.SigSubst.{rename_sig, substitute_sig}
 use Rattle.signatures.specs.Signatures.SigMentions.{Avoids}
 use Rattle.signatures.specs.Explicit.SigPath.{SigPath, Item, PartAt, ParamOn}
-use Rattle.signatures.specs.Explicit.RootPath.{ParamsAvoid, RootPath, root_path}
+use Rattle.signatures.specs.Explicit.RootPath.{ParamsAvoid, RootPath, root_path, root_of}
+use Rattle.sig_laws.proofs.Formed.RootNumbers.{own_falls, by_numbers}
 use Rattle.signatures.specs.Explicit.WellFormed.{EachRooted, WellFormed, Explicit, explicit, in_pure}
 use Rattle.signatures.specs.Lifting.{lifted_kinds, lifting, lifted}
 use Rattle.sig_laws.proofs.Algebra.BinderLaws.{extend-append, applied-append, past-append, lifts-past, unders-vars, past-length}
@@ -160,14 +161,14 @@ lifted_explicit ctx ks bs s r h (explicit w q e) = explicit
             go (inr (y, f)) = absurd (fresh v y lt (sym (in_var (subst (Mentions (past ks v)) (ap (lifting ks bs) f ∙ lifting-past ks bs y) m))))
 
     root : (i : ℕ) (p : SigPath) → i < length bs → RootPath (extend ctx ks) bs r i p → RootPath ctx (lifted_kinds ks bs) (Sig.Fun Pure ks (rename_sig (lifts ks (past bs)) s) (Abs.Ex [] (substitute_sig (lifting ks bs) r))) i (Item.Res ∷ p)
-    root i p lt (root_path b x y) = root_path (let q = length-map bs (arrow_over ks) in omega (arith, q, lt))
+    root i p lt (root_path b (root_of x y)) = by_numbers (let q = length-map bs (arrow_over ks) in omega (arith, q, lt))
         (shows-rooted (ap Ty.Var (sym (same-own i)))
         (shows-result (extend ctx (lifted_kinds ks bs)) ks
         (subst (λ u. Shows (extend (extend ctx (lifted_kinds ks bs)) ks) (substitute_sig (lifting ks bs) r) u p) (lifting-below ks bs (own bs i) (own-below bs i lt))
         (shows-substitute (lifting ks bs) (lifting-substitutes ks bs ctx) (rooted-shows x)))))
         (λ j le f. subst (ParamsAvoid (extend ctx (lifted_kinds ks bs)) (Sig.Fun Pure ks (rename_sig (lifts ks (past bs)) s) (Abs.Ex [] (substitute_sig (lifting ks bs) r))) (Item.Res ∷ p)) (sym (same-own j))
         (params-result (extend ctx (lifted_kinds ks bs)) ks p (own bs j) (param-avoids (own bs j) (own-below bs j (bound j f)))
-        (result-avoids p (own bs j) (own-below bs j (bound j f)) (y j le (bound j f)))))
+        (result-avoids p (own bs j) (own-below bs j (bound j f)) (y (own bs j) (own_falls bs i j le)))))
 
     each : EachRooted ctx (lifted_kinds ks bs) (Sig.Fun Pure ks (rename_sig (lifts ks (past bs)) s) (Abs.Ex [] (substitute_sig (lifting ks bs) r)))
     each i lt = let b = e i (bound i lt) in (Item.Res ∷ b.0, root i b.0 (bound i lt) b.1)

@@ -17,7 +17,8 @@ use Rattle.signatures.specs.Signatures.Sig.{Sig, Abs, SigRow, here}
 use Rattle.signatures.specs.Signatures.SigSubst.{raise_abs, abs_at}
 use Rattle.signatures.specs.Signatures.Alike.{ConvAbs, NormalAbsForm}
 use Rattle.signatures.specs.Explicit.SigPath.{SigPath, Item, PartAt, ParamOn}
-use Rattle.signatures.specs.Explicit.RootPath.{Rooted, ParamsAvoid, RootPath, root_path}
+use Rattle.signatures.specs.Explicit.RootPath.{Rooted, ParamsAvoid, RootPath, root_path, root_of}
+use Rattle.sig_laws.proofs.Formed.RootNumbers.{own_falls, by_numbers}
 use Rattle.signatures.specs.Lifting.{Lift, lift, lifted_kinds, lifted_types}
 use Rattle.signatures.specs.Explicit.WellFormed.{EachRooted, WellFormed, WellFormedRow, WellFormedAbs, ExplicitResults, Explicit, abs, explicit, in_typ, in_str, in_impure, in_end, in_more}
 use Rattle.sig_laws.proofs.Algebra.AlikeLaws.{conv_abs-sym, form-conv_abs}
@@ -48,7 +49,7 @@ field_explicit ctx ks l s (explicit w r e) = explicit
     params p v a ds js q (ParamOn.field h on) = a ds js q (subst (λ z. ParamOn z p ds js q) (one-field h here refl) on)
 
     root : (i : ℕ) (p : SigPath) → RootPath ctx ks s i p → RootPath ctx ks (Sig.Str (SigRow.More l s SigRow.End)) i (Item.Part l ∷ p)
-    root i p (root_path b x y) = root_path b (shows-rooted refl (shown (rooted-shows x))) (λ j le lt. params p (own ks j) (y j le lt))
+    root i p (root_path b (root_of x y)) = by_numbers b (shows-rooted refl (shown (rooted-shows x))) (λ j le lt. params p (own ks j) (y (own ks j) (own_falls ks i j le)))
 
 -- a hidden type that is shown
 pub opaque_explicit : (ctx : List Kind) (k : Kind) → Explicit ctx (Abs.Ex (k ∷ []) (Sig.Typ (eta k (Ty.Var 0)) k))
@@ -57,7 +58,7 @@ opaque_explicit ctx k = explicit (WellFormed.typ (normal-kind (eta-normal k (n_v
     each : EachRooted ctx (k ∷ []) (Sig.Typ (eta k (Ty.Var 0)) k)
     each i lt = (
       [],
-      root_path lt
+      by_numbers lt
           (subst (λ n. Rooted (k ∷ ctx) (Sig.Typ (eta k (Ty.Var 0)) k) n []) (omega arith) (Rooted.at PartAt.end (c_sym (eta-normal k (n_var {ctx = k ∷ ctx} Kinding.here)).1)))
           (λ j le f ds js q on. elim on [ ]),
     )

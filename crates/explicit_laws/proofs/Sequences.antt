@@ -10,7 +10,8 @@ use Rattle.signatures.specs.Signatures.Sig.{Sig, Abs, SigRow}
 use Rattle.signatures.specs.Signatures.SigSubst.{rename_sig, raise_sig_row}
 use Rattle.signatures.specs.Signatures.Alike.{ConvSig}
 use Rattle.signatures.specs.Explicit.SigPath.{SigPath}
-use Rattle.signatures.specs.Explicit.RootPath.{Rooted, ParamsAvoid, RootPath, root_path}
+use Rattle.signatures.specs.Explicit.RootPath.{Rooted, ParamsAvoid, RootPath, root_path, root_of}
+use Rattle.sig_laws.proofs.Formed.RootNumbers.{own_falls, by_numbers}
 use Rattle.signatures.specs.Signatures.FieldOrder.{merge}
 use Rattle.signatures.specs.Explicit.WellFormed.{Rising, EachRooted, WellFormed, WellFormedRow, ExplicitResults, Explicit, explicit, in_str}
 use Rattle.sig_laws.proofs.Algebra.BinderLaws.{extend-append}
@@ -71,23 +72,23 @@ sequence_explicit ctx ks js fs gs (explicit w r h) (explicit v q g) a = explicit
 
     -- the root path of a number in the joint signature
     made : (i : ℕ) (p : SigPath) → i < length (ks ++ js) → Rooted (extend (extend ctx ks) js) (Sig.Str (merge (raise_sig_row js fs) gs)) (own (ks ++ js) i) p → ((j : ℕ) → i ≤ j → j < length (ks ++ js) → ParamsAvoid (extend (extend ctx ks) js) (Sig.Str (merge (raise_sig_row js fs) gs)) p (own (ks ++ js) j)) → RootPath ctx (ks ++ js) (Sig.Str (merge (raise_sig_row js fs) gs)) i p
-    made i p b x y = root_path b
+    made i p b x y = by_numbers b
         (subst (λ c. Rooted c (Sig.Str (merge (raise_sig_row js fs) gs)) (own (ks ++ js) i) p) (sym (extend-append ks js ctx)) x)
         (λ j le lt. subst (λ c. ParamsAvoid c (Sig.Str (merge (raise_sig_row js fs) gs)) p (own (ks ++ js) j)) (sym (extend-append ks js ctx)) (y j le lt))
 
     first : (i : ℕ) (p : SigPath) → i < length ks → RootPath ctx ks (Sig.Str fs) i p → RootPath ctx (ks ++ js) (Sig.Str (merge (raise_sig_row js fs) gs)) i p
-    first i p e (root_path b x y) =
+    first i p e (root_path b (root_of x y)) =
         let shown = rooted-shows (root-raised (extend ctx ks) js x) in
         made i p (let q = length-append ks js in omega (arith, q, e))
         (shows-rooted (ap Ty.Var (sym (own-first ks js i e))) (shows-grown left shown))
         (λ j le lt. params-grown (own (ks ++ js) j) left shown (avoid j le (split-number ks js j lt)))
       where
         avoid : (j : ℕ) → i ≤ j → (j < length ks) ⊎ ((n : ℕ) × (j ≡ length ks + n) × (n < length js)) → ParamsAvoid (extend (extend ctx ks) js) (Sig.Str (raise_sig_row js fs)) p (own (ks ++ js) j)
-        avoid j le (inl lt) = subst (ParamsAvoid (extend (extend ctx ks) js) (Sig.Str (raise_sig_row js fs)) p) (sym (own-first ks js j lt)) (params-raised (extend ctx ks) js (Sig.Str fs) p (own ks j) (well_formed-kinds w) (y j le lt))
+        avoid j le (inl lt) = subst (ParamsAvoid (extend (extend ctx ks) js) (Sig.Str (raise_sig_row js fs)) p) (sym (own-first ks js j lt)) (params-raised (extend ctx ks) js (Sig.Str fs) p (own ks j) (well_formed-kinds w) (y (own ks j) (own_falls ks i j le)))
         avoid j le (inr (n, f, lt)) = subst (ParamsAvoid (extend (extend ctx ks) js) (Sig.Str (raise_sig_row js fs)) p) (sym (ap (own (ks ++ js)) f ∙ own-second ks js n)) (params-fresh (extend ctx ks) js (Sig.Str fs) p (own js n) (well_formed-kinds w) (own-below js n lt))
 
     second : (n : ℕ) (p : SigPath) → RootPath (extend ctx ks) js (Sig.Str gs) n p → RootPath ctx (ks ++ js) (Sig.Str (merge (raise_sig_row js fs) gs)) (length ks + n) p
-    second n p (root_path b x y) =
+    second n p (root_path b (root_of x y)) =
         let shown = rooted-shows x in
         made (length ks + n) p (let q = length-append ks js in omega (arith, q, b))
         (shows-rooted (ap Ty.Var (sym (own-second ks js n))) (shows-grown right shown))
@@ -95,7 +96,7 @@ sequence_explicit ctx ks js fs gs (explicit w r h) (explicit v q g) a = explicit
       where
         avoid : (j : ℕ) → length ks + n ≤ j → (j < length ks) ⊎ ((m : ℕ) × (j ≡ length ks + m) × (m < length js)) → ParamsAvoid (extend (extend ctx ks) js) (Sig.Str gs) p (own (ks ++ js) j)
         avoid j le (inl lt) = absurd (omega (arith, le, lt))
-        avoid j le (inr (m, f, lt)) = subst (ParamsAvoid (extend (extend ctx ks) js) (Sig.Str gs) p) (sym (ap (own (ks ++ js)) f ∙ own-second ks js m)) (y m (omega (arith, le, f)) lt)
+        avoid j le (inr (m, f, lt)) = subst (ParamsAvoid (extend (extend ctx ks) js) (Sig.Str gs) p) (sym (ap (own (ks ++ js)) f ∙ own-second ks js m)) (y (own js m) (own_falls js n m (omega (arith, le, f))))
 
     each : EachRooted ctx (ks ++ js) (Sig.Str (merge (raise_sig_row js fs) gs))
     each i lt = go (split-number ks js i lt)

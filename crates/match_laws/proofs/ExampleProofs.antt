@@ -14,7 +14,7 @@ use Rattle.omega_types.specs.Binders.{OfKinds, NormalForms}
 use Rattle.signatures.specs.Signatures.Sig.{Sig, SigRow, HasField}
 use Rattle.signatures.specs.Signatures.Alike.{typ, str, end, more}
 use Rattle.signatures.specs.Explicit.SigPath.{SigPath, Item, PathBefore, PartAt, ParamOn, by_name, first, later}
-use Rattle.signatures.specs.Explicit.RootPath.{Rooted, RootPath, root_path, LeastRoot, least}
+use Rattle.signatures.specs.Explicit.RootPath.{Rooted, RootPath, root_path, LeastRoot, least, root_of}
 use Rattle.signatures.specs.Explicit.WellFormed.{WellFormed, WellFormedRow, EachRooted, explicit, in_str, in_more, in_typ, in_end}
 use Rattle.signatures.specs.Matching.Subtyping.{Sub, SubFields, Match}
 use Rattle.signatures.specs.Matching.LookUp.{Found, FoundAt, found_at, FoundAfter}
@@ -33,7 +33,7 @@ abbrev body_t : Sig
 body_t = Sig.Str (SigRow.More name_t (Sig.Typ (Ty.Var zero) Kind.Star) SigRow.End)
 
 root_t : (number : ℕ) → number ≡ zero → RootPath [] (Kind.Star ∷ []) body_t number path_t
-root_t number e = subst (λ n. RootPath [] (Kind.Star ∷ []) body_t n path_t) (sym e) (root_path (omega arith) (Rooted.at (PartAt.field HasField.here PartAt.end) (c_refl (k_var here))) (λ j le lt ds ks q on. absurd (no_param on)))
+root_t number e = subst (λ n. RootPath [] (Kind.Star ∷ []) body_t n path_t) (sym e) (root_path (omega arith) (root_of (Rooted.at (PartAt.field HasField.here PartAt.end) (c_refl (k_var here))) (λ j le ds ks q on. absurd (no_param on))))
   where
     no_inner : {ds ks : List Kind} {q : Sig} → ParamOn (Sig.Typ (Ty.Var zero) Kind.Star) [] ds ks q → ⊥
     no_inner on = elim on [ ]
@@ -76,7 +76,7 @@ least_t : LeastRoot [] (Kind.Star ∷ []) body_t 0 path_t
 least_t = least (root_t zero refl) earlier
   where
     earlier : (q : SigPath) → RootPath [] (Kind.Star ∷ []) body_t 0 q → PathBefore q path_t → ⊥
-    earlier q (root_path lt r h) b = no_earlier r b
+    earlier q (root_path lt (root_of r h)) b = no_earlier r b
 
 pub nothing_is_found : NothingIsFound
 nothing_is_found = ((match_sig_gives [] with_nothing hides_t good_nothing good_t).1 _).1 (RefusesMatch.no_root FoundAfter.none (omega arith) least_t (λ t f. none f))

@@ -21,6 +21,7 @@ use Rattle.signatures.specs.Signatures.Alike.{ConvSig}
 use Rattle.signatures.specs.Signatures.Encoding.{enc_abs}
 use Rattle.signatures.specs.Explicit.SigPath.{SigPath, Item, PartAt, ParamOn}
 use Rattle.signatures.specs.Explicit.RootPath.{Rooted, root_path}
+use Rattle.sig_laws.proofs.Formed.RootNumbers.{by_numbers}
 use Rattle.signatures.specs.Matching.Subtyping.{Sub, SubFields, SubAbs, Match}
 use Rattle.signatures.specs.QuantifierOrder.{NewOrder, reordered, renumber, NormSig, Norm, NormRow}
 use Rattle.signatures.specs.Explicit.WellFormed.{EachRooted, WellFormed, WellFormedRow, ExplicitResults, Explicit, explicit, in_typ, in_str, in_more, in_end}
@@ -58,7 +59,7 @@ one-number i lt = omega (arith, lt)
 at-part : (t u : Ty) (p : SigPath) → PartAt (two_parts t u) p [] (Sig.Typ direct binary) → EachRooted [] (binary ∷ []) (two_parts t u)
 at-part t u p x i lt = (
   p,
-  root_path lt (subst (λ n. Rooted (binary ∷ []) (two_parts t u) (own (binary ∷ []) n) p) (one-number i lt) (Rooted.at x (c_sym (eta-normal binary (n_var {ctx = binary ∷ []} Kinding.here)).1)))
+  by_numbers lt (subst (λ n. Rooted (binary ∷ []) (two_parts t u) (own (binary ∷ []) n) p) (one-number i lt) (Rooted.at x (c_sym (eta-normal binary (n_var {ctx = binary ∷ []} Kinding.here)).1)))
       (λ j le f ds ks q on. absurd (no-params on)),
 )
 

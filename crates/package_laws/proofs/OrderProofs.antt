@@ -23,6 +23,7 @@ use Rattle.signatures.specs.Signatures.SigMentions.{MentionsSig, Avoids, by_norm
 use Rattle.sig_laws.specs.NormalSig.{normal_sig}
 use Rattle.signatures.specs.Explicit.SigPath.{SigPath, Item, PartAt, ParamOn}
 use Rattle.signatures.specs.Explicit.RootPath.{Rooted, ParamsAvoid, root_path}
+use Rattle.sig_laws.proofs.Formed.RootNumbers.{by_numbers}
 use Rattle.signatures.specs.Matching.Subtyping.{Sub, SubFields, SubResult, SubAbs, Match}
 use Rattle.signatures.specs.QuantifierOrder.{reordered, renumber, NormSig, Norm, NormRow}
 use Rattle.signatures.specs.Explicit.WellFormed.{EachRooted, WellFormed, WellFormedRow, Explicit, explicit, in_typ, in_str, in_pure, in_more, in_end}
@@ -68,8 +69,8 @@ no-result-params (ParamOn.field here on) = elim on [ ]
 no-result-params (ParamOn.field (there n h) on) = elim h [ ]
 
 each-type : (t u : Ty) (p q : SigPath) → Rooted inner (two_types t u) 1 p → Rooted inner (two_types t u) 0 q → EachRooted outer two_stars (two_types t u)
-each-type t u p q x y zero lt = (p, root_path lt x (λ j le f ds ks z on. absurd (no-params on)))
-each-type t u p q x y (suc zero) lt = (q, root_path lt y (λ j le f ds ks z on. absurd (no-params on)))
+each-type t u p q x y zero lt = (p, by_numbers lt x (λ j le f ds ks z on. absurd (no-params on)))
+each-type t u p q x y (suc zero) lt = (q, by_numbers lt y (λ j le f ds ks z on. absurd (no-params on)))
 each-type t u p q x y (suc (suc i)) lt = absurd (omega (arith, lt))
 
 b-after-a : Path (List ℕ) (98 ∷ []) (97 ∷ []) → ⊥
@@ -100,7 +101,7 @@ functor-explicit t u h g m n e = explicit (WellFormed.pure e (result-good in_ord
     each : EachRooted [] (binary ∷ []) (functor t u)
     each i lt = (
       Item.Res ∷ (Item.Part (114 ∷ []) ∷ []),
-      root_path lt
+      by_numbers lt
           (subst (λ k. Rooted outer (functor t u) (own (binary ∷ []) k) (Item.Res ∷ (Item.Part (114 ∷ []) ∷ []))) (one-number i lt) (Rooted.at (PartAt.result (PartAt.field here PartAt.end)) (c_refl at-order)))
           (λ j le f. subst (λ k. ParamsAvoid outer (functor t u) (Item.Res ∷ (Item.Part (114 ∷ []) ∷ [])) (own (binary ∷ []) k)) (one-number j f) avoid),
     )

@@ -10,7 +10,7 @@ use Rattle.omega_types.specs.Binders.{extend, own, lifts}
 use Rattle.signatures.specs.Signatures.Sig.{Sig, Abs, SigRow, HasField, here, there}
 use Rattle.signatures.specs.Signatures.SigSubst.{rename_sig, rename_abs, rename_sig_row}
 use Rattle.signatures.specs.Explicit.SigPath.{SigPath}
-use Rattle.signatures.specs.Explicit.RootPath.{Rooted, RootPath, root_path}
+use Rattle.signatures.specs.Explicit.RootPath.{Rooted, RootPath, root_path, root_of}
 use Rattle.signatures.specs.Explicit.WellFormed.{EachRooted, WellFormed, explicit}
 use Rattle.package_laws.specs.SamePaths.{SameNumbers, SameAbs, SameSig}
 use Rattle.explicit_laws.proofs.Positions.{own-below}
@@ -78,7 +78,7 @@ joined ctx ks s other js t e f n m =
     (omega (arith, a, b), λ i lt. let b = e i lt in (b.0, root b.1, (n i b.0 lt (root b.1)).1))
   where
     root : {ctx ks : List Kind} {s : Sig} {i : ℕ} {p : SigPath} → RootPath ctx ks s i p → Rooted (extend ctx ks) s (own ks i) p
-    root (root_path b x a) = x
+    root (root_path b (root_of x a)) = x
 
 mixed-aligned : {ctx other ks js : List Kind} {s t : Sig} {x y : Abs} (e d : Effect) → e ≢ d → Aligned ctx other (Sig.Fun e ks s x) (Sig.Fun d js t y)
 mixed-aligned Pure Pure h = absurd (h refl)

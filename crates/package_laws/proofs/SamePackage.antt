@@ -18,7 +18,7 @@ use Rattle.signatures.specs.Signatures.Sig.{Sig, Abs, SigRow, HasField, here, th
 use Rattle.signatures.specs.Signatures.SigSubst.{rename_sig, rename_abs, rename_sig_row, substitute_sig, sig_at, raise_abs, abs_at_under}
 use Rattle.signatures.specs.Signatures.Alike.{ConvSig, NormalSigForm, NormalAbsForm, NormalSig, NormalAbs, NormalSigRow}
 use Rattle.signatures.specs.Explicit.SigPath.{SigPath, PartAt}
-use Rattle.signatures.specs.Explicit.RootPath.{Rooted, RootPath, root_path}
+use Rattle.signatures.specs.Explicit.RootPath.{Rooted, RootPath, root_path, root_of}
 use Rattle.signatures.specs.Matching.Subtyping.{Sub, SubFields, SubResult, SubAbs, Match}
 use Rattle.signatures.specs.QuantifierOrder.{NewOrder, reordered, renumber, NormSig, Norm, NormRow}
 use Rattle.signatures.specs.Explicit.WellFormed.{BeforeAll, Rising, WellFormed, WellFormedRow, ExplicitResults, ExplicitResultsRow, Explicit, explicit, in_pure, in_impure, in_str}
@@ -105,7 +105,7 @@ root-of : {ctx ks : List Kind} {s : Sig} {i : ℕ} → Explicit ctx (Abs.Ex ks s
 root-of {ctx} {ks} {s} {i} (explicit w r e) lt = ((e i lt).0, root (e i lt).1)
   where
     root : {p : SigPath} → RootPath ctx ks s i p → Rooted (extend ctx ks) s (own ks i) p
-    root (root_path b x a) = x
+    root (root_path b (root_of x a)) = x
 
 linked-right : (ctx ks js : List Kind) (s t : Sig) → SameAbs ctx ctx (Abs.Ex ks s) (Abs.Ex js t) → Explicit ctx (Abs.Ex js t) → (j : ℕ) → j < length js → (i : ℕ) × (i < length ks) × Linked ctx ks s ctx js t i j
 linked-right ctx ks js s t (SameAbs.ex f g a) e j lt = let x = root-of e lt in let w = g x.0 (j, lt, x.1) in (w.0, w.1, (x.0, w.2, x.1))

@@ -1,4 +1,6 @@
 // Worked signatures, with ample memory.
+ghost use Rattle.std.specs.Prelude.{◌≡◌, [], ◌∷◌, IfOk};
+
 use crate::roots;
 use omega_kinds::{Effect, Kind, Kinds, Mem, Name, arrow, name_of};
 use omega_types::{Ty, TyNode};
@@ -7,7 +9,9 @@ use std::alloc::Global;
 use std::test::Fail;
 use type_normal::as_normal;
 
-fn name(alloc: Global, text: u8) -> Result<Name, Mem> {
+fn name(alloc: Global, text: u8) -> Result<Name, Mem>
+    ensures { IfOk result (λ n. n ≡ text ∷ []) }
+{
     name_of(alloc, &[text])
 }
 
@@ -93,6 +97,23 @@ fn barred(alloc: Global) -> Result<bool, Mem> {
     Ok(matches!(found.as_slice(), [None]))
 }
 
+// ex (* *) {F : (fun app () {t : [= a0 : *]} {u : [= a1 : *], v : [= a0 : *]})}: the first type is barred, the second is not
+fn one_barred(alloc: Global) -> Result<bool, Mem> {
+    let param = one(alloc, b't', typ(alloc, var(alloc, 1)?)?)?;
+    let mut fields = SigFields::new(alloc);
+    fields.push((name(alloc, b'u')?, typ(alloc, var(alloc, 0)?)?))?;
+    fields.push((name(alloc, b'v')?, typ(alloc, var(alloc, 1)?)?))?;
+    let target = Sig::make(alloc, SigNode::Str(fields))?;
+    let functor = pure(alloc, Kinds::new(alloc), param, target)?;
+    let mut kinds = kinds_of(alloc, Kind::Star)?;
+    kinds.push(Kind::Star)?;
+    let found = roots(alloc, &Abs::make(alloc, kinds, one(alloc, b'F', functor)?)?)?;
+    match found.as_slice() {
+        [None, second] => Ok(leads(second, b"F-u")),
+        _ => Ok(false),
+    }
+}
+
 // ex (*) {t : [= int : *]}: no root path
 fn unrooted(alloc: Global) -> Result<bool, Mem> {
     let body = one(alloc, b't', typ(alloc, Ty::make(alloc, TyNode::Int)?)?)?;
@@ -107,6 +128,7 @@ fn unrooted(alloc: Global) -> Result<bool, Mem> {
 fn root_paths(rt: HostRuntime) -> Result<(), Fail> {
     assert!(rt; applied(rt.alloc())?);
     assert!(rt; barred(rt.alloc())?);
+    assert!(rt; one_barred(rt.alloc())?);
     assert!(rt; unrooted(rt.alloc())?);
     Ok(())
 }

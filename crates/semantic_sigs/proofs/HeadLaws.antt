@@ -102,7 +102,7 @@ good-raised : {other : List Kind} {s : Ty} {p : Head} {k : Kind} (l : Kind) → 
 good-raised {other} l (g_stands n c) = g_stands (neutral-rename suc (maps-suc l other) n) (conv-rename suc (maps-suc l other) c)
 good-raised {other} l (g_came n c) = g_came (normal-rename suc (maps-suc l other) n) (conv-rename suc (maps-suc l other) c)
 
-good-under : {ctx other : List Kind} {s : ℕ → Ty} {h : ℕ → Head} (l : Kind) → Good ctx other s h → Good (l ∷ ctx) (l ∷ other) (under s) (under_head h)
+pub good-under : {ctx other : List Kind} {s : ℕ → Ty} {h : ℕ → Head} (l : Kind) → Good ctx other s h → Good (l ∷ ctx) (l ∷ other) (under s) (under_head h)
 good-under l g _ _ here = g_stands (n_var here) (c_refl (k_var here))
 good-under l g _ _ (there {k = k} {i = i} x) = good-raised l (g i k x)
 
@@ -165,13 +165,13 @@ good-front : {ctx other : List Kind} {s : ℕ → Ty} {h : ℕ → Head} {t : Ty
 good-front n g _ _ here = g_came n.0 n.1
 good-front n g _ _ (there {k = k} {i = i} x) = g i k x
 
-good-puts : {ctx other : List Kind} {s : ℕ → Ty} {h : ℕ → Head} {ts : List Ty} {ks : List Kind} → NormalForms other ts ks ts → Good ctx other s h → Good (extend ctx ks) other (puts ts s) (put_heads ts h)
+pub good-puts : {ctx other : List Kind} {s : ℕ → Ty} {h : ℕ → Head} {ts : List Ty} {ks : List Kind} → NormalForms other ts ks ts → Good ctx other s h → Good (extend ctx ks) other (puts ts s) (put_heads ts h)
 good-puts {ts = []} {ks = []} n g = g
 good-puts {ts = []} {ks = k ∷ ks} n g = elim n [ ]
 good-puts {ts = t ∷ ts} {ks = []} n g = elim n [ ]
 good-puts {ts = t ∷ ts} {ks = k ∷ ks} (NormalForms.next n ns) g = good-puts ns (good-front n g)
 
-good-vars : (ctx : List Kind) → Good ctx ctx Ty.Var (λ i. stands (Ty.Var i))
+pub good-vars : (ctx : List Kind) → Good ctx ctx Ty.Var (λ i. stands (Ty.Var i))
 good-vars ctx i k x = g_stands (n_var x) (c_refl (k_var x))
 
 -- the body of an abstract signature at normal types of the right kinds

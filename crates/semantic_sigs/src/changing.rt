@@ -7,7 +7,7 @@ ghost use Rattle.signatures.specs.Signatures.Alike.{IsSigAt, NormalSig, NormalAb
 ghost use Rattle.signatures.specs.Signatures.SigMentions.{MentionsSig};
 ghost use Rattle.signatures.specs.Signatures.SigSubst.{rename_sig, rename_abs};
 ghost use Rattle.semantic_sigs.specs.Change.{change_of};
-ghost use Rattle.semantic_sigs.specs.Changes.{sig_in, abs_in, sig_row_in, sunk, sinks};
+ghost use Rattle.semantic_sigs.specs.Changes.{sig_in, abs_in, sig_row_in, sunk, sinks, ty_in, putting};
 ghost use Rattle.semantic_sigs.specs.Fields.{sig_row};
 ghost use Rattle.semantic_sigs.specs.View.{kinds_of, body_of};
 
@@ -26,6 +26,21 @@ pub fn instantiate(alloc: Global, abs: &Abs, types: &[NormalTy]) -> Result<Sig, 
     ensures { IfOk result (λ s. (ctx : List KindTree) → NormalAbs ctx abs.now → NormalForms ctx types.now (kinds_of abs.now) types.now → IsSigAt ctx (body_of abs.now) types.now s) }
 {
     change_sig(alloc, abs.body(), Change::Put(types), 0)
+}
+
+/// A type below `depth` binders, with normal types put in for the innermost variables outside these binders, one for
+/// each, the first for the outermost: what the definition of putting in gives, which is the normal form of the
+/// substitution where the types have the kinds of the variables. `Err` is want of memory, also where an index would pass
+/// the last number.
+pub fn put_types(
+    alloc: Global,
+    ty: &NormalTy,
+    types: &[NormalTy],
+    depth: u64,
+) -> Result<NormalTy, Mem>
+    ensures { IfOk result (λ t. t ≡ ty_in (sunk depth (putting types.now)) ty.now) }
+{
+    change_ty(alloc, ty, Change::Put(types), depth)
 }
 
 /// The signature with `by` added to each free index that is at least `from`. It stands in each context to which the shift

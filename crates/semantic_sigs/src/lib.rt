@@ -19,7 +19,7 @@ mod tests;
 pub mod tree;
 pub mod witnesses;
 
-pub use changing::{instantiate, lower_sig, raise_abs, raise_sig};
+pub use changing::{instantiate, lower_sig, put_types, raise_abs, raise_sig};
 pub use encoding::{encode, encode_sig};
 pub use env::{Entry, Env};
 pub use made::{Kinded, Module, Typed, Why};

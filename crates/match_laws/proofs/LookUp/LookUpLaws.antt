@@ -13,7 +13,8 @@ use Rattle.signatures.specs.Signatures.Sig.{Sig, Abs, HasField}
 use Rattle.signatures.specs.Signatures.SigSubst.{raise_abs, sig_at, sig_at_under, abs_at_under}
 use Rattle.signatures.specs.Signatures.Alike.{NormalSigForm, NormalAbsForm, ex}
 use Rattle.signatures.specs.Explicit.SigPath.{SigPath, Item, PartAt}
-use Rattle.signatures.specs.Explicit.RootPath.{Rooted, RootPath, root_path, LeastRoot, least}
+use Rattle.signatures.specs.Explicit.RootPath.{Rooted, RootPath, root_path, LeastRoot, least, root_of}
+use Rattle.sig_laws.proofs.Formed.RootNumbers.{own_falls}
 use Rattle.signatures.specs.Matching.Subtyping.{Sub, SubResult, Match}
 use Rattle.sig_laws.proofs.Algebra.BinderLaws.{lam_over-append}
 use Rattle.sig_laws.proofs.Algebra.AlikeLaws.{form_sig-unique}
@@ -81,8 +82,8 @@ pub root-agreed : {ctx ks : List Kind} {s r q : Sig} {p : SigPath} {ts us : List
     → RootPath ctx ks s (length before) p
     → NormalSigForm ctx (sig_at ts s) r → NormalSigForm ctx (sig_at us s) q
     → (bs : List Kind) × (u : Ty) × (k : Kind) × Conv (extend (extend ctx ks) bs) u (applied bs (Ty.Var (own ks (length before)))) k × PartAt s p bs (Sig.Typ u k) × Agreed ctx (puts ts Ty.Var) (puts us Ty.Var) r q p bs u k
-root-agreed {ctx} {ks} {s} {r} {q} {p} {ts} {us} before rest others e g n m lt (root_path b (Rooted.at {bs = bs} {t = u} {k = k} a c) avoid) nr nq =
-    (bs, u, k, c, a, agreed ctx (puts ts Ty.Var) (puts us Ty.Var) a (same_params before rest others e g n m lt avoid) nr nq)
+root-agreed {ctx} {ks} {s} {r} {q} {p} {ts} {us} before rest others e g n m lt (root_path b (root_of (Rooted.at {bs = bs} {t = u} {k = k} a c) avoid)) nr nq =
+    (bs, u, k, c, a, agreed ctx (puts ts Ty.Var) (puts us Ty.Var) a (same_params before rest others e g n m lt (λ j le e. avoid (own ks j) (own_falls ks (length before) j le))) nr nq)
 
 pub agree-part : {r q : Sig} {p : SigPath} {bs : List Kind} {t u : Ty} {k : Kind} → Agree r q p bs t u k → PartAt r p bs (Sig.Typ t k)
 agree-part Agree.end = PartAt.end

@@ -23,7 +23,7 @@ use Rattle.signatures.specs.Signatures.Sig.{Sig, Abs, SigRow, HasField, here, th
 use Rattle.signatures.specs.Signatures.Alike.{NormalSig, NormalSigRow}
 use Rattle.signatures.specs.Signatures.SigMentions.{MentionsSig, Avoids, by_normal_form}
 use Rattle.signatures.specs.Explicit.SigPath.{SigPath, Item, ItemBefore, PathBefore, PartAt, ParamOn, by_name, first, later}
-use Rattle.signatures.specs.Explicit.RootPath.{Rooted, ParamsAvoid, RootPath, root_path, LeastRoot, least}
+use Rattle.signatures.specs.Explicit.RootPath.{Rooted, ParamsAvoid, RootPath, root_path, LeastRoot, least, root_of}
 use Rattle.signatures.specs.Explicit.WellFormed.{BeforeAll, Rising, WellFormed, WellFormedRow}
 use Rattle.sig_laws.proofs.Algebra.BinderLaws.{extend-append, past-append, applied-append, past-length}
 use Rattle.sig_laws.proofs.Algebra.AlikeLaws.{normal_sig-form, normal_sig-self, form_sig-same}
@@ -89,20 +89,17 @@ root_in-kind {o = o} (RootIn.result {ks = ks} h r) = let q = root_in-kind r in (
 
 -- the two forms of a root path
 
-own-le : (ks : List Kind) (number x : ℕ) → number < length ks → x ≤ own ks number → (j : ℕ) × (number ≤ j) × (j < length ks) × (own ks j ≡ x)
-own-le ks number x lt le = (length ks - suc x, omega (arith, lt, le), omega (arith, lt, le), omega (arith, lt, le))
-
 pub root-in : {ctx ks : List Kind} {s : Sig} {number : ℕ} {p : SigPath} → number < length ks → RootPath ctx ks s number p → RootIn (extend ctx ks) (Ty.Var (own ks number)) (own ks number) (λ x. x) s p
-root-in {ctx} {ks} {s} {number} {p} lt (root_path b (Rooted.at a c) h) = to-root_in (extend ctx ks) (Ty.Var (own ks number)) (own ks number) (λ x. x) a c avoid
+root-in {ctx} {ks} {s} {number} {p} lt (root_path b (root_of (Rooted.at a c) h)) = to-root_in (extend ctx ks) (Ty.Var (own ks number)) (own ks number) (λ x. x) a c avoid
   where
     avoid : AvoidsAll (extend ctx ks) (own ks number) (λ x. x) s p
-    avoid ds js q on x le = let w = own-le ks number x lt le in subst (λ i. Avoids (extend (extend (extend ctx ks) ds) js) q (past js (past ds i))) w.3 (h w.0 w.1 w.2 ds js q on)
+    avoid ds js q on x le = h x le ds js q on
 
 pub root-out : {ctx ks : List Kind} {s : Sig} {number : ℕ} {p : SigPath} → number < length ks → RootIn (extend ctx ks) (Ty.Var (own ks number)) (own ks number) (λ x. x) s p → RootPath ctx ks s number p
-root-out {ctx} {ks} {s} {number} {p} b r = let q = from-root_in r in root_path b (Rooted.at q.3 q.4) avoid
+root-out {ctx} {ks} {s} {number} {p} b r = let q = from-root_in r in root_path b (root_of (Rooted.at q.3 q.4) avoid)
   where
-    avoid : (j : ℕ) → number ≤ j → j < length ks → ParamsAvoid (extend ctx ks) s p (own ks j)
-    avoid j le lt ds js q on = from-avoids r on (own ks j) (omega (arith, le, lt))
+    avoid : (j : ℕ) → j ≤ own ks number → ParamsAvoid (extend ctx ks) s p j
+    avoid j le ds js q on = from-avoids r on j le
 
 -- root paths are totally ordered
 

@@ -19,7 +19,8 @@ use Rattle.signatures.specs.Signatures.SigSubst.{sig_at, abs_at_under}
 use Rattle.signatures.specs.Signatures.Alike.{NormalSigForm, NormalAbsForm}
 use Rattle.signatures.specs.Signatures.Encoding.{enc, enc_abs}
 use Rattle.signatures.specs.Explicit.SigPath.{SigPath, PartAt}
-use Rattle.signatures.specs.Explicit.RootPath.{Rooted, RootPath, root_path}
+use Rattle.signatures.specs.Explicit.RootPath.{Rooted, RootPath, root_path, root_of}
+use Rattle.sig_laws.proofs.Formed.RootNumbers.{own_falls}
 use Rattle.signatures.specs.Explicit.WellFormed.{EachRooted, WellFormed, WellFormedRow, WellFormedAbs, ExplicitResultsRow, Explicit}
 use Rattle.signatures.specs.Matching.Subtyping.{Sub, SubFields, SubResult, SubAbs, Match}
 use Rattle.sig_laws.proofs.Algebra.AlikeLaws.{form_sig-unique, form_abs-unique}
@@ -43,8 +44,8 @@ pub first_agreed : {ctx ks : List Kind} {s r q : Sig} {p : SigPath} {ts us : Lis
     → RootPath ctx ks s (length before) p
     → NormalSigForm ctx (sig_at ts s) r → NormalSigForm ctx (sig_at us s) q
     → (bs : List Kind) × (u : Ty) × (k : Kind) × Conv (extend (extend ctx ks) bs) u (applied bs (Ty.Var (own ks (length before)))) k × PartAt s p bs (Sig.Typ u k) × Agreed ctx (puts ts Ty.Var) (puts us Ty.Var) r q p bs u k
-first_agreed {ctx} {ks} {s} {r} {q} {p} {ts} {us} before rest others e g n m lt (root_path b (Rooted.at {bs = bs} {t = u} {k = k} a c) avoid) nr nq =
-    (bs, u, k, c, a, agreed ctx (puts ts Ty.Var) (puts us Ty.Var) a (same_params before rest others e g (types-kinds n) (types-kinds m) lt avoid) nr nq)
+first_agreed {ctx} {ks} {s} {r} {q} {p} {ts} {us} before rest others e g n m lt (root_path b (root_of (Rooted.at {bs = bs} {t = u} {k = k} a c) avoid)) nr nq =
+    (bs, u, k, c, a, agreed ctx (puts ts Ty.Var) (puts us Ty.Var) a (same_params before rest others e g (types-kinds n) (types-kinds m) lt (λ j le e. avoid (own ks j) (own_falls ks (length before) j le))) nr nq)
 
 pub first_same : {ctx ks : List Kind} {s r q : Sig} {p : SigPath} {ts us : List Ty} (before rest others : List Ty) (t u : Ty)
     → ts ≡ before ++ (t ∷ rest) → us ≡ before ++ (u ∷ others)

@@ -14,7 +14,8 @@ use Rattle.signatures.specs.Signatures.SigSubst.{rename_sig, rename_abs}
 use Rattle.signatures.specs.Signatures.Alike.{AlikeRow, val, typ, meta, str, fun, ex, end, more, ConvBetween, ConvSig, ConvAbs}
 use Rattle.signatures.specs.Signatures.SigMentions.{MentionsSig, MentionsAbs, MentionsRow, Avoids, by_normal_form}
 use Rattle.signatures.specs.Explicit.SigPath.{SigPath, PartAt, ParamOn}
-use Rattle.signatures.specs.Explicit.RootPath.{Rooted, at, ParamsAvoid, RootPath, root_path}
+use Rattle.signatures.specs.Explicit.RootPath.{Rooted, at, ParamsAvoid, RootPath, root_path, root_of}
+use Rattle.sig_laws.proofs.Formed.RootNumbers.{by_numbers}
 use Rattle.signatures.specs.QuantifierOrder.{NewOrder, reordered, renumber, NormSig, Norm, NormRow}
 use Rattle.signatures.specs.Explicit.WellFormed.{BeforeAll, Rising, WellFormed, WellFormedRow, WellFormedAbs, ExplicitResults, ExplicitResultsRow, Explicit, abs, explicit, in_meta, in_str, in_pure, in_impure, in_more}
 use Rattle.sig_laws.proofs.Algebra.BinderLaws.{past-length, extend-append}
@@ -73,7 +74,7 @@ reorder {ctx} {ks} {s} {order} t w r = explicit
     own-new k lt = renumber-own ks order (nth order k) (nth-untaken k t lt).0 ∙ (ap (own ks) (place-nth k t lt) ∙ sym (ap (λ n. n - suc k) (reordered-length t)))
 
     root : (k : ℕ) → k < length order → Stage ctx ks s order k → (p : SigPath) × RootPath ctx (reordered ks order) (rename_sig (renumber ks order) s) k p
-    root k lt (stage {p = p} x a) = (p, root_path (let m = reordered-length t in let l = order-length t in omega (arith, m, l, lt)) rooted avoid)
+    root k lt (stage {p = p} x a) = (p, by_numbers (let m = reordered-length t in let l = order-length t in omega (arith, m, l, lt)) rooted avoid)
       where
         rooted : Rooted (extend ctx (reordered ks order)) (rename_sig (renumber ks order) s) (own (reordered ks order) k) p
         rooted = subst (λ z. Rooted (extend ctx (reordered ks order)) z (own (reordered ks order) k) p) (substitute-vars_sig (renumber ks order) s)
@@ -178,8 +179,8 @@ param-norm-back ctx (NormSig.pure {s = s} a b) ParamOn.here = (s, ParamOn.here, 
 param-norm-back ctx {q = q} (NormSig.pure {ks = ks} a b) (ParamOn.result {ds = ds} {js = js} on) = let w = param-norm-back (extend ctx ks) b on in (w.0, ParamOn.result w.1, subst (λ c. NormSig (extend c js) w.0 q) (sym (extend-append ks ds ctx)) w.2)
 
 pub root-norm : {ctx ks : List Kind} {s t : Sig} {i : ℕ} {p : SigPath} → NormSig (extend ctx ks) s t → RootPath ctx ks s i p → RootPath ctx ks t i p
-root-norm {ctx} {ks} {s} {t} {i} {p} n (root_path b (at x c) a) = root_path b (at (part-norm (extend ctx ks) x n) c)
-    (λ j le lt ds js q on. let w = param-norm-back (extend ctx ks) n on in avoids-norm (past js (past ds (own ks j))) w.2 (a j le lt ds js w.0 w.1))
+root-norm {ctx} {ks} {s} {t} {i} {p} n (root_path b (root_of (at x c) a)) = root_path b (root_of (at (part-norm (extend ctx ks) x n) c)
+    (λ j le ds js q on. let w = param-norm-back (extend ctx ks) n on in avoids-norm (past js (past ds j)) w.2 (a j le ds js w.0 w.1)))
 
 before_all-norm : {ctx : List Kind} {fs gs : SigRow} (l : Name) → NormRow ctx fs gs → BeforeAll l fs → BeforeAll l gs
 before_all-norm l NormRow.end h = tt

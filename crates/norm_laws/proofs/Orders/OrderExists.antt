@@ -12,7 +12,8 @@ use Rattle.omega_types.specs.Binders.{extend, own}
 use Rattle.signatures.specs.Signatures.Sig.{Sig, Abs, SigRow, HasField, here, there}
 use Rattle.signatures.specs.Signatures.Alike.{ConvSig}
 use Rattle.signatures.specs.Explicit.SigPath.{SigPath, Item, by_name, PathBefore, begins, first, later, PartAt}
-use Rattle.signatures.specs.Explicit.RootPath.{Rooted, at, ParamsAvoid, RootPath, root_path}
+use Rattle.signatures.specs.Explicit.RootPath.{Rooted, at, ParamsAvoid, RootPath, root_path, root_of}
+use Rattle.sig_laws.proofs.Formed.RootNumbers.{own_falls}
 use Rattle.signatures.specs.QuantifierOrder.{IsNoneOf, Untaken, Counts, counts, Taking, done, next, NewOrder, NormSig, Norm, NormRow}
 use Rattle.signatures.specs.Explicit.WellFormed.{BeforeAll, Rising, EachRooted, WellFormed, WellFormedRow, ExplicitResults, ExplicitResultsRow, Explicit, abs, explicit, in_str, in_pure, in_impure, in_more}
 use Rattle.sig_laws.proofs.Formed.WellFormedLaws.{well_formed-kinds}
@@ -248,7 +249,7 @@ some_dec ctx ks s taken p bs t k c x = go (least_below (length ks) (λ v. Counts
     go (LeastBelow.none h) = no (λ w. h w.0 (bound w.1) w.1)
 
 root-counts : (ctx ks : List Kind) (s : Sig) (taken : List ℕ) (v : ℕ) (p : SigPath) → Untaken ks taken v → ((i : ℕ) → i < v → Untaken ks taken i → ⊥) → RootPath ctx ks s v p → Counts ctx ks s taken v p
-root-counts ctx ks s taken v p u h (root_path b x a) = counts u x (λ j w. a j (later-than j w (dec_lt j v)) w.0)
+root-counts ctx ks s taken v p u h (root_path b (root_of x a)) = counts u x (λ j w. a (own ks j) (own_falls ks v j (later-than j w (dec_lt j v))))
   where
     later-than : (j : ℕ) → Untaken ks taken j → Dec (j < v) → v ≤ j
     later-than j w (yes e) = absurd (h j e w)

@@ -7,7 +7,8 @@ use Rattle.omega_types.specs.Binders.{extend, own}
 use Rattle.signatures.specs.Signatures.Sig.{Sig}
 use Rattle.signatures.specs.Signatures.Alike.{ConvSig}
 use Rattle.signatures.specs.Explicit.SigPath.{SigPath, PathBefore, PartAt}
-use Rattle.signatures.specs.Explicit.RootPath.{Rooted, at, ParamsAvoid, RootPath, root_path, LeastRoot, least}
+use Rattle.signatures.specs.Explicit.RootPath.{Rooted, at, ParamsAvoid, RootPath, root_path, LeastRoot, least, root_of}
+use Rattle.sig_laws.proofs.Formed.RootNumbers.{own_falls, by_numbers}
 use Rattle.signatures.specs.Explicit.WellFormed.{WellFormed}
 use Rattle.sig_laws.proofs.Formed.WellFormedLaws.{well_formed-kinds}
 use Rattle.explicit_laws.proofs.Names.{Compared, before, after, same}
@@ -16,7 +17,7 @@ use Rattle.norm_laws.proofs.Orders.Decided.{rooted_dec, params_dec}
 use Rattle.norm_laws.proofs.Orders.OrderExists.{all_below, LeastPath, least_path}
 
 root-of : {ctx ks : List Kind} {s : Sig} {i : ℕ} {p : SigPath} → RootPath ctx ks s i p → Rooted (extend ctx ks) s (own ks i) p
-root-of (root_path b r a) = r
+root-of (root_path b (root_of r a)) = r
 
 root-part : {ctx : List Kind} {s : Sig} {i : ℕ} {p : SigPath} {C : Type 0} → Rooted ctx s i p → ((bs : List Kind) (t : Ty) (k : Kind) → PartAt s p bs (Sig.Typ t k) → C) → C
 root-part (at {bs = bs} {t = t} {k = k} x c) f = f bs t k x
@@ -30,13 +31,13 @@ root_dec ctx ks s i p bs t k c x = go (dec_lt i (length ks)) (rooted_dec (own ks
     each j (no e) (no a) = yes (λ f. absurd (e f))
 
     avoids-of : RootPath ctx ks s i p → (j : ℕ) → j < length ks → i ≤ j → ParamsAvoid (extend ctx ks) s p (own ks j)
-    avoids-of (root_path b r a) j lt le = a j le lt
+    avoids-of (root_path b (root_of r a)) j lt le = a (own ks j) (own_falls ks i j le)
 
     bound : RootPath ctx ks s i p → i < length ks
-    bound (root_path b r a) = b
+    bound (root_path b r) = b
 
     go : Dec (i < length ks) → Dec (Rooted (extend ctx ks) s (own ks i) p) → Dec ((j : ℕ) → j < length ks → i ≤ j → ParamsAvoid (extend ctx ks) s p (own ks j)) → Dec (RootPath ctx ks s i p)
-    go (yes b) (yes r) (yes a) = yes (root_path b r (λ j le lt. a j lt le))
+    go (yes b) (yes r) (yes a) = yes (by_numbers b r (λ j le lt. a j lt le))
     go (no b) d e = no (λ q. b (bound q))
     go (yes b) (no r) d = no (λ q. r (root-of q))
     go (yes b) (yes r) (no a) = no (λ q. a (avoids-of q))

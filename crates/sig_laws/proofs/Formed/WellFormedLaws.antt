@@ -18,7 +18,7 @@ use Rattle.signatures.specs.Signatures.SigSubst.{rename_sig, rename_abs, substit
 use Rattle.signatures.specs.Signatures.Alike.{Between, AlikeSig, AlikeRow, val, typ, meta, str, fun, ex, end, more, ConvBetween, ConvSig, ConvAbs}
 use Rattle.signatures.specs.Signatures.SigMentions.{MentionsSig, Avoids, by_normal_form}
 use Rattle.signatures.specs.Explicit.SigPath.{SigPath, PartAt}
-use Rattle.signatures.specs.Explicit.RootPath.{Rooted, ParamsAvoid, RootPath, root_path}
+use Rattle.signatures.specs.Explicit.RootPath.{Rooted, ParamsAvoid, RootPath, root_path, root_of}
 use Rattle.signatures.specs.Explicit.WellFormed.{BeforeAll, Rising, WellFormed, WellFormedRow, WellFormedAbs, ExplicitResults, ExplicitResultsRow, Explicit, abs, explicit, in_val, in_typ, in_meta, in_str, in_pure, in_impure, in_end, in_more}
 use Rattle.sig_laws.proofs.Algebra.SigAlgebra.{substitute-vars_sig, substitute-vars_abs}
 use Rattle.sig_laws.proofs.Algebra.AlikeLaws.{conv_sig-sym, conv_sig-trans, form-conv_sig, conv-form_sig, form_sig-normal, conv_sig-gives, conv_sig-substitute, substitutes-convertible}
@@ -58,7 +58,7 @@ pub avoids-alike : {ctx : List Kind} {s t : Sig} {i : ℕ} → ConvSig ctx t s �
 avoids-alike c (by_normal_form f m) = by_normal_form (conv-form_sig c f) m
 
 pub root-alike : {ctx ks : List Kind} {s t : Sig} {number : ℕ} {p : SigPath} → ConvSig (extend ctx ks) s t → RootPath ctx ks s number p → RootPath ctx ks t number p
-root-alike {ctx} {ks} {s} {t} {number} {p} c (root_path b r h) = root_path b (rooted r) avoid
+root-alike {ctx} {ks} {s} {t} {number} {p} c (root_path b (root_of r h)) = root_path b (root_of (rooted r) avoid)
   where
     rooted : Rooted (extend ctx ks) s (own ks number) p → Rooted (extend ctx ks) t (own ks number) p
     rooted (Rooted.at {bs = bs} {t = a} {k = k} a_part a_conv) = go (part-alike (extend ctx ks) a_part c)
@@ -69,8 +69,8 @@ root-alike {ctx} {ks} {s} {t} {number} {p} c (root_path b r h) = root_path b (ro
         go : (u : Sig) × PartAt t p bs u × AlikeSig ConvBetween (extend (extend ctx ks) bs) (Sig.Typ a k) u → Rooted (extend ctx ks) t (own ks number) p
         go w = end_part w.1 w.2
 
-    avoid : (j : ℕ) → number ≤ j → j < length ks → ParamsAvoid (extend ctx ks) t p (own ks j)
-    avoid j le lt ds js q on = let w = param-alike (extend ctx ks) on (conv_sig-sym c) in avoids-alike w.2 (h j le lt ds js w.0 w.1)
+    avoid : (j : ℕ) → j ≤ own ks number → ParamsAvoid (extend ctx ks) t p j
+    avoid j le ds js q on = let w = param-alike (extend ctx ks) on (conv_sig-sym c) in avoids-alike w.2 (h j le ds js w.0 w.1)
 
 pub avoids-substitute : {ctx other : List Kind} (s : Sig) (i v : ℕ) (f : ℕ → Ty) → Substitutes ctx other f → ((j : ℕ) → Mentions v (f j) → j ≡ i) → Avoids ctx s i → Avoids other (substitute_sig f s) v
 avoids-substitute {ctx} {other} s i v f h own (by_normal_form {n = n} a m) =
@@ -82,10 +82,13 @@ avoids-substitute {ctx} {other} s i v f h own (by_normal_form {n = n} a m) =
     none q = let w = mentions_sig-substitute f n v q in m (subst (λ j. MentionsSig j n) (own w.0 w.2) w.1)
 
 pub root-substitute : {ctx other ks : List Kind} {s : Sig} {number : ℕ} {p : SigPath} (f : ℕ → Ty) → Substitutes ctx other f → number < length ks → RootPath ctx ks s number p → RootPath other ks (substitute_sig (unders ks f) s) number p
-root-substitute {ctx} {other} {ks} {s} {number} {p} f h lt (root_path b r a) = root_path b (rooted r) avoid
+root-substitute {ctx} {other} {ks} {s} {number} {p} f h lt (root_path b (root_of r a)) = root_path b (root_of (rooted r) avoid)
   where
     own-below : (j : ℕ) → j < length ks → own ks j < length ks
     own-below j e = omega (arith, e)
+
+    inner-below : (j : ℕ) → j ≤ own ks number → j < length ks
+    inner-below j e = omega (arith, e, lt)
 
     rooted : Rooted (extend ctx ks) s (own ks number) p → Rooted (extend other ks) (substitute_sig (unders ks f) s) (own ks number) p
     rooted (Rooted.at {bs = bs} {t = t} {k = k} q c) = Rooted.at (part-substitute (unders ks f) q)
@@ -93,18 +96,18 @@ root-substitute {ctx} {other} {ks} {s} {number} {p} f h lt (root_path b r a) = r
         (applied-substitute bs (unders ks f) (Ty.Var (own ks number)) ∙ ap (applied bs) (unders-below ks f (own ks number) (own-below number lt)))
         (conv-substitute (unders bs (unders ks f)) (unders-substitutes bs (unders-substitutes ks h)) c))
 
-    avoid : (j : ℕ) → number ≤ j → j < length ks → ParamsAvoid (extend other ks) (substitute_sig (unders ks f) s) p (own ks j)
-    avoid j le e ds js q on =
+    avoid : (j : ℕ) → j ≤ own ks number → ParamsAvoid (extend other ks) (substitute_sig (unders ks f) s) p j
+    avoid j le ds js q on =
         let w = param-back (unders ks f) s p on in
-        subst (λ z. Avoids (extend (extend (extend other ks) ds) js) z (past js (past ds (own ks j)))) (sym w.2)
-        (avoids-substitute w.0 (past js (past ds (own ks j))) (past js (past ds (own ks j))) (unders js (unders ds (unders ks f)))
-        (unders-substitutes js (unders-substitutes ds (unders-substitutes ks h))) only (a j le e ds js w.0 w.1))
+        subst (λ z. Avoids (extend (extend (extend other ks) ds) js) z (past js (past ds j))) (sym w.2)
+        (avoids-substitute w.0 (past js (past ds j)) (past js (past ds j)) (unders js (unders ds (unders ks f)))
+        (unders-substitutes js (unders-substitutes ds (unders-substitutes ks h))) only (a j le ds js w.0 w.1))
       where
-        only : (i : ℕ) → Mentions (past js (past ds (own ks j))) (unders js (unders ds (unders ks f)) i) → i ≡ past js (past ds (own ks j))
+        only : (i : ℕ) → Mentions (past js (past ds j)) (unders js (unders ds (unders ks f)) i) → i ≡ past js (past ds j)
         only i m =
-            let q1 = mentions-unders js (unders ds (unders ks f)) (λ z. i ≡ z) (past ds (own ks j)) (i, refl, m) in
-            let q2 = mentions-unders ds (unders ks f) (λ z. q1.0 ≡ z) (own ks j) (q1.0, refl, q1.2) in
-            let e3 = own_mention ks f (own ks j) q2.0 (own-below j e) q2.2 in
+            let q1 = mentions-unders js (unders ds (unders ks f)) (λ z. i ≡ z) (past ds j) (i, refl, m) in
+            let q2 = mentions-unders ds (unders ks f) (λ z. q1.0 ≡ z) j (q1.0, refl, q1.2) in
+            let e3 = own_mention ks f j q2.0 (inner-below j le) q2.2 in
             q1.1 ∙ ap (past js) (q2.1 ∙ ap (past ds) e3)
 
 -- names

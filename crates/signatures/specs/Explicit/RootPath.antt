@@ -20,12 +20,18 @@ pub data Rooted (ctx : List Kind) (s : Sig) (i : ℕ) (p : SigPath) : Type 0 whe
 abbrev pub ParamsAvoid : List Kind → Sig → SigPath → ℕ → Type 0
 ParamsAvoid ctx s p i = (ds ks : List Kind) (t : Sig) → ParamOn s p ds ks t → Avoids (extend (extend ctx ds) ks) t (past ks (past ds i))
 
--- RootPath ctx ks s number p: the signature that hides ks in s hides a variable of this number; it is rooted at p, and the
--- functor parameters on p mention, of the hidden variables, only those before it
+-- RootOf ctx s i p: the type variable i is rooted at p, and the functor parameters on p mention neither it nor a variable
+-- inside of it
+pub data RootOf (ctx : List Kind) (s : Sig) (i : ℕ) (p : SigPath) : Type 0 where
+  root_of : Rooted ctx s i p
+      → ((j : ℕ) → j ≤ i → ParamsAvoid ctx s p j)
+      → RootOf ctx s i p
+
+-- RootPath ctx ks s number p: the signature that hides ks in s hides a variable of this number, and p is a root path of it;
+-- so the functor parameters on p mention, of the hidden variables, only those before it
 pub data RootPath (ctx ks : List Kind) (s : Sig) (number : ℕ) (p : SigPath) : Type 0 where
   root_path : number < length ks
-      → Rooted (extend ctx ks) s (own ks number) p
-      → ((j : ℕ) → number ≤ j → j < length ks → ParamsAvoid (extend ctx ks) s p (own ks j))
+      → RootOf (extend ctx ks) s (own ks number) p
       → RootPath ctx ks s number p
 
 -- the least root path of a variable

@@ -1,0 +1,6 @@
+mod Conclusions
+mod Entries
+mod FieldSteps
+mod Forms
+mod Inserting
+mod RecordSteps

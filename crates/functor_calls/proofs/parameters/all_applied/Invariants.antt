@@ -1,0 +1,10 @@
+use Rattle.std.proofs.Common.{◌≡◌, ◌≤◌, ◌-◌, length}
+use Rattle.functor_calls.proofs.Loops.{spread}
+use Rattle.functor_calls.proofs.parameters.all_applied.Given as goal
+
+abbrev pub invariant-loop-left : goal.invariant-loop-left
+invariant-loop-left l =
+    (l.left ≤ length l.kinds) × (l.ty ≡ spread (length l.kinds) l.left (length l.kinds - l.left))
+
+abbrev pub decreases-loop-left : goal.decreases-loop-left
+decreases-loop-left l = l.left

@@ -1,0 +1,9 @@
+pub mod Packs
+pub mod Outside
+pub mod Made
+pub mod Own
+pub mod LookedFor
+pub mod Lets
+pub mod Ended
+pub mod PastOpens
+pub mod Options

@@ -1,0 +1,41 @@
+-- The types that a module keeps fill the quantifiers of its encoding, and so do the variables of binders below these.
+use Rattle.std.specs.Prelude.{ℕ, ◌+◌, List, [], ◌∷◌, ◌++◌, ◌≡◌, length}
+use Rattle.std.proofs.Common.{arith}
+use Rattle.std.proofs.Math.Path.{refl, sym, subst, ap, ◌∙◌, fun_ext}
+use Rattle.omega_kinds.specs.Kind.{Kind}
+use Rattle.omega_types.specs.Ty.{Ty}
+use Rattle.omega_types.specs.Normality.{Normal}
+use Rattle.omega_types.specs.Substitution.{rename}
+use Rattle.omega_types.specs.Index.{bump, shift}
+use Rattle.omega_types.specs.Binders.{extend, past, lifts, raise, vars, ex_over, NormalForms}
+use Rattle.omega_types.proofs.BinderLaws.{past-maps}
+use Rattle.omega_types.proofs.BinderPuts.{rename-ex_over, ex_over-append, vars-kinds, past-plus}
+use Rattle.omega_types.proofs.Preservation.{normal-rename}
+use Rattle.signatures.specs.Signatures.Sig.{Sig, Abs}
+use Rattle.signatures.specs.Signatures.Alike.{NormalAbs}
+use Rattle.signatures.specs.Signatures.Encoding.{enc, enc_abs}
+use Rattle.signatures.specs.Explicit.WellFormed.{WellFormedAbs}
+use Rattle.sig_laws.proofs.Encoded.EncodingLaws.{enc_well_formed-normal}
+use Rattle.term_shorthands.specs.Packed.{Fills}
+
+pub fills_own : (ctx ks : List Kind) (s : Sig) (ts : List Ty) → WellFormedAbs ctx (Abs.Ex ks s) → NormalAbs ctx (Abs.Ex ks s) → NormalForms ctx ts ks ts → Fills ctx ts (enc_abs (Abs.Ex ks s))
+fills_own ctx ks s ts w n ns = (ks, enc s, refl, enc_well_formed-normal w n, ns)
+
+pub fills_raised : (ctx ks : List Kind) (v : Ty) → Normal ctx (ex_over ks v) Kind.Star → Fills (extend ctx ks) (vars ks) (raise ks (ex_over ks v))
+fills_raised ctx ks v n = (ks, rename (lifts ks (past ks)) v, rename-ex_over (past ks) ks v, normal-rename (past ks) (past-maps ks ctx) n, vars-kinds ctx ks)
+
+-- the types of a binding, under which those of the rest come
+pub fills_both : (ctx ks js : List Kind) (t : Sig) → WellFormedAbs ctx (Abs.Ex (ks ++ js) t) → NormalAbs ctx (Abs.Ex (ks ++ js) t) → Fills (extend ctx ks) (vars ks) (raise ks (enc_abs (Abs.Ex (ks ++ js) t)))
+fills_both ctx ks js t w n =
+    let e = ex_over-append ks js (enc t) in
+    subst (λ u. Fills (extend ctx ks) (vars ks) (raise ks u)) (sym e) (fills_raised ctx ks (ex_over js (enc t)) (subst (λ u. Normal ctx u Kind.Star) e (enc_well_formed-normal w n)))
+
+-- a shift past binders, by their number
+pub bump-past : (ks : List Kind) (count : ℕ) → length ks ≡ count → bump count 0 ≡ past ks
+bump-past ks count e = fun_ext at
+  where
+    at : (i : ℕ) → count + i ≡ past ks i
+    at i = let p : past ks i ≡ i + length ks = past-plus ks i in omega (arith, p, e)
+
+pub shift-raise : (ks : List Kind) (count : ℕ) (t : Ty) → length ks ≡ count → shift count 0 t ≡ raise ks t
+shift-raise ks count t e = ap (λ r. rename r t) (bump-past ks count e)

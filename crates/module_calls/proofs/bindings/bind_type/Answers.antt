@@ -1,0 +1,14 @@
+use Rattle.std.proofs.Common.{ap, ap₂, ◌∙◌, sym, subst, []}
+use Rattle.omega_kinds.specs.View.{kind_tree}
+use Rattle.omega_kinds.specs.declared.effect.Effect.TheVariants.{Pure}
+use Rattle.omega_terms.specs.PartTerms.{type_term}
+use Rattle.signatures.specs.Signatures.Sig.{Sig, Abs, made}
+use Rattle.module_rules.specs.ModRules.{TypeGives}
+use Rattle.module_calls.proofs.bindings.bind_type.Goals as goal
+
+pub returns : goal.returns
+returns c =
+    let part = c.in_ok-sig.ensures ∙ ap₂ Sig.Typ c.in_ok-shared.ensures c.in_ok-kind.ensures in
+    let term = c.in_ok-term.ensures ∙ ap (λ t. type_term t (kind_tree c.args.ty.now.kind)) c.plain.ensures in
+    let same = c.in_ok-module.ensures ∙ ap₂ (λ s e. made Pure (Abs.Ex [] s) [] e) part term in
+    subst (TypeGives c.args.ty.now.ty (kind_tree c.args.ty.now.kind)) (sym same) TypeGives.type

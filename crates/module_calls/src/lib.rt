@@ -1,0 +1,25 @@
+// The rules of modules in code, one call for each rule, over premises that are elaborated already.
+// Stands on semantic_sigs, term_shorthands and term_instances, and on module_rules, whose definitions its contracts cite.
+// Proved: each call gives the conclusion of its rule, and each refusal exactly where its condition holds, the first one in
+// their order.
+#![tactic(auto)]
+
+pub mod bindings;
+mod forms;
+pub mod functors;
+pub mod hidden;
+pub mod naming;
+pub mod paths;
+pub mod projecting;
+pub mod refusal;
+pub mod sequences;
+#[cfg(test)]
+mod tests;
+
+pub use bindings::{bind_sig, bind_type, bind_val, end_struct};
+pub use functors::{apply, functor_parts, gen_functor, seal};
+pub use naming::named;
+pub use paths::{path_sig, path_type, path_value};
+pub use projecting::{packed, project};
+pub use refusal::ModRefusal;
+pub use sequences::{include_bind, seq_bind};

@@ -1,0 +1,6 @@
+pub mod NormedLaws
+pub mod PackSteps
+pub mod RenumberSteps
+pub mod Steps
+pub mod Taken
+pub mod TurnLaws

@@ -1,0 +1,21 @@
+-- The variables of a signature, taken one after the other.
+use Rattle.std.specs.Prelude.{ℕ, zero, suc, List, [], ◌∷◌, ◌++◌, Option, Some, None, map, set}
+use Rattle.omega_kinds.specs.Kind.{Kind}
+use Rattle.omega_types.specs.Binders.{own}
+use Rattle.omega_types.specs.Normaliser.{kind_at}
+use Rattle.signatures.specs.Signatures.Sig.{Sig}
+use Rattle.package_calls.specs.First.{Places, first}
+
+-- none is taken
+abbrev pub untaken : List Kind → Places
+untaken ks = map (λ k. None) ks
+
+-- what a turn leaves where no variable is found, and else what comes after the one that is found
+abbrev pub turn : List Kind → Places → (ℕ → List Kind × Places) → Option ℕ → List Kind × Places
+turn taken ps after None = (taken, ps)
+turn taken ps after (Some i) = after i
+
+-- the kinds in the order of taking, and the new indexes, after so many further turns
+abbrev pub turns : List Kind → Sig → (left : ℕ) → List Kind → Places → List Kind × Places
+turns ks s zero taken ps = (taken, ps)
+turns ks s (suc left) taken ps = turn taken ps (λ i. turns ks s left (taken ++ kind_at ks (own ks i) ∷ []) (set ps i (Some left))) (first ps zero s)

@@ -1,0 +1,21 @@
+// Packages in code: the order of a package's quantifiers, package types, modules packed and unpacked.
+// Stands on semantic_sigs, root_paths and term_shorthands, and on packages, whose definitions its contracts cite.
+// Proved: `norm` gives the signature with its quantifiers in their order; `pack_type`, `pack_value` and `unpack_module`
+// give the conclusions of their rules, and `unpack_module` refuses exactly where the type is another one than that of the
+// package.
+#![tactic(auto)]
+
+mod first;
+pub mod norms;
+mod ordering;
+pub mod packing;
+pub mod refusal;
+mod renumbering;
+mod renumbering_types;
+mod rooted;
+#[cfg(test)]
+mod tests;
+
+pub use norms::norm;
+pub use packing::{pack_type, pack_value, unpack_module};
+pub use refusal::UnpackRefusal;

@@ -1,0 +1,19 @@
+// The rules of signatures and declarations in code: each call gives the conclusion of its rule out of premises that are
+// handed in, or the refusal of the first condition that fails.
+// Stands on sig_rules, whose definitions say what is given and what is refused, and on semantic_sigs, in whose handles it
+// works.
+// Proved: what a call gives is the conclusion of its rule, and each refusal is one of its rule; want of memory alone is free.
+#![tactic(auto)]
+
+mod declarations;
+mod hidden;
+mod refinement;
+mod refusal;
+mod sequences;
+#[cfg(test)]
+mod tests;
+
+pub use declarations::{decl_is, decl_meta, decl_module, decl_of, decl_val, functor_sig, include};
+pub use refinement::where_type;
+pub use refusal::SigRefusal;
+pub use sequences::{distinct, seq_decl};

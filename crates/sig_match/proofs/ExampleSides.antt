@@ -1,0 +1,57 @@
+-- The sides of the worked matches are good ones.
+use Rattle.std.specs.Prelude.{List, [], ◌∷◌, ◌≡◌, ℕ, zero}
+use Rattle.std.proofs.Common.{arith, subst, sym, refl}
+use Rattle.omega_kinds.specs.Kind.{Kind}
+use Rattle.omega_types.specs.Ty.{Ty}
+use Rattle.omega_types.specs.Kinding.{here}
+use Rattle.omega_types.specs.Kinding.HasKind.{k_var, k_int}
+use Rattle.omega_types.specs.Conversion.Conv.{c_refl}
+use Rattle.omega_types.specs.Normality.{n_int, n_neutral, n_var}
+use Rattle.signatures.specs.Env.{Env, kinds}
+use Rattle.signatures.specs.Signatures.Sig.{Sig, Abs, SigRow, HasField}
+use Rattle.signatures.specs.Explicit.SigPath.{SigPath, Item, PartAt, ParamOn}
+use Rattle.signatures.specs.Explicit.RootPath.{Rooted, RootPath, root_path, root_of}
+use Rattle.signatures.specs.Explicit.WellFormed.{WellFormed, WellFormedRow, WellFormedAbs, EachRooted, explicit, in_str, in_more, in_typ, in_end}
+use Rattle.match_laws.specs.Examples.{name_t, with_int, with_nothing, hides_t}
+use Rattle.match_laws.specs.MatchClaims.{IsLeft, IsLeftAbs, IsRightAbs}
+
+abbrev path_t : SigPath
+path_t = Item.Part name_t ∷ []
+
+abbrev body_t : Sig
+body_t = Sig.Str (SigRow.More name_t (Sig.Typ (Ty.Var zero) Kind.Star) SigRow.End)
+
+root_t : (number : ℕ) → number ≡ zero → RootPath [] (Kind.Star ∷ []) body_t number path_t
+root_t number e = subst (λ n. RootPath [] (Kind.Star ∷ []) body_t n path_t) (sym e) (root_path (omega arith) (root_of (Rooted.at (PartAt.field HasField.here PartAt.end) (c_refl (k_var here))) (λ j le ds ks q on. absurd (no_param on))))
+  where
+    no_inner : {ds ks : List Kind} {q : Sig} → ParamOn (Sig.Typ (Ty.Var zero) Kind.Star) [] ds ks q → ⊥
+    no_inner on = elim on [ ]
+
+    no_param : {ds ks : List Kind} {q : Sig} → ParamOn body_t path_t ds ks q → ⊥
+    no_param (ParamOn.field HasField.here on) = no_inner on
+    no_param (ParamOn.field (HasField.there n h) on) = elim h [ ]
+
+roots_t : EachRooted [] (Kind.Star ∷ []) body_t
+roots_t number lt = (path_t, root_t number (omega (arith, lt)))
+
+well_t : WellFormed (Kind.Star ∷ []) body_t
+well_t = WellFormed.str (tt, tt) (WellFormedRow.more (WellFormed.typ (k_var here)) WellFormedRow.end)
+
+right : IsRightAbs [] hides_t
+right = (explicit well_t (in_str (in_more in_typ in_end)) roots_t, (n_neutral (n_var here), tt))
+
+left : IsLeftAbs [] hides_t
+left = (WellFormedAbs.abs well_t, (n_neutral (n_var here), tt))
+
+-- in the empty environment
+pub right_t : (g : Env) (x : Abs) → g ≡ [] → x ≡ hides_t → IsRightAbs (kinds g) x
+right_t g x e f = subst (λ h. IsRightAbs (kinds h) x) (sym e) (subst (λ y. IsRightAbs [] y) (sym f) right)
+
+pub left_t : (g : Env) (x : Abs) → g ≡ [] → x ≡ hides_t → IsLeftAbs (kinds g) x
+left_t g x e f = subst (λ h. IsLeftAbs (kinds h) x) (sym e) (subst (λ y. IsLeftAbs [] y) (sym f) left)
+
+pub left_int : (g : Env) (s : Sig) → g ≡ [] → s ≡ with_int → IsLeft (kinds g) s
+left_int g s e f = subst (λ h. IsLeft (kinds h) s) (sym e) (subst (λ r. IsLeft [] r) (sym f) (WellFormed.str (tt, tt) (WellFormedRow.more (WellFormed.typ k_int) WellFormedRow.end), (n_int, tt)))
+
+pub left_nothing : (g : Env) (s : Sig) → g ≡ [] → s ≡ with_nothing → IsLeft (kinds g) s
+left_nothing g s e f = subst (λ h. IsLeft (kinds h) s) (sym e) (subst (λ r. IsLeft [] r) (sym f) (WellFormed.str tt WellFormedRow.end, tt))

@@ -1,0 +1,18 @@
+-- Refusals that hold, and those from inside a part.
+use Rattle.std.proofs.Common.{◌≡◌, Option, Some, None, subst}
+use Rattle.signatures.specs.Explicit.SigPath.{Item}
+use Rattle.signatures.specs.Matching.MatchRefusal.{MatchRefusal, within}
+use Rattle.sig_match.specs.Refusals.{inside, Gives, Holds}
+
+pub holds-given : (P : MatchRefusal → Type 0) (expected given : Option MatchRefusal) → Gives expected given → Holds P expected → Holds P given
+holds-given P expected None g h = tt
+holds-given P expected (Some q) g h = subst (Holds P) g h
+
+pub holds-map : (P Q : MatchRefusal → Type 0) (o : Option MatchRefusal) → ((q : MatchRefusal) → P q → Q q) → Holds P o → Holds Q o
+holds-map P Q None f h = tt
+holds-map P Q (Some q) f h = f q h
+
+pub holds-within : (P Q : MatchRefusal → Type 0) (a : Item) (o given : Option MatchRefusal) → Gives (inside a o) given → ((q : MatchRefusal) → P q → Q (within a q)) → Holds P o → Holds Q given
+holds-within P Q a None None g f h = tt
+holds-within P Q a None (Some q) g f h = absurd (let e : None ≡ Some q = g in cc)
+holds-within P Q a (Some p) given g f h = holds-given Q (Some (within a p)) given g (f p h)

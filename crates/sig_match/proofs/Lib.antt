@@ -1,0 +1,11 @@
+pub mod Given
+pub mod Fill
+pub mod LookSteps
+pub mod NextSteps
+pub mod SubSteps
+pub mod Exact
+pub mod PutSteps
+pub mod CallSteps
+pub mod FindSteps
+pub mod MadeSteps
+pub mod ExampleSides

@@ -1,0 +1,19 @@
+// Matching and subtyping of semantic signatures, with the types that match and the coercion.
+// Stands on semantic_sigs, root_paths and coercion_terms, and on match_laws, whose laws its contracts rest on.
+// Proved: `match_sig` and `sub_abs` answer Ok exactly where some types match, with just these types and the one coercion,
+// and each refusal exactly where it is the one that the definitions give.
+#![tactic(auto)]
+
+mod calls;
+mod coercing;
+mod forms;
+mod made;
+mod matching;
+mod putting;
+pub mod refusal;
+mod refusing;
+#[cfg(test)]
+mod tests;
+
+pub use calls::{match_sig, sub_abs};
+pub use refusal::{MatchRefusal, Matched};

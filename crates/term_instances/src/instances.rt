@@ -1,0 +1,135 @@
+// A term at types for its innermost type variables.
+ghost use Rattle.std.specs.Prelude.{◌≡◌, List, IfOk};
+ghost use Rattle.omega_kinds.specs.Kind.{Kind as KindTree};
+ghost use Rattle.omega_types.specs.Binders.{extend, puts, NormalForms};
+ghost use Rattle.omega_types.specs.Ty.{Var};
+ghost use Rattle.omega_terms.specs.Fields.{term_row};
+ghost use Rattle.omega_terms.specs.Instance.{Instance};
+ghost use Rattle.sig_laws.specs.Good.{NormalTerm};
+ghost use Rattle.semantic_sigs.specs.Changes.{ty_in, sunk, under_head, putting};
+ghost use Rattle.term_instances.specs.TermChanges.{term_in, fields_in};
+
+use omega_kinds::Mem;
+use omega_terms::{Term, TermFields, TermNode};
+use omega_types::{Ty, next_level};
+use semantic_sigs::put_types;
+use std::alloc::Global;
+use type_normal::{NormalTy, as_normal, plain};
+
+/// A term with normal types put in for its innermost type variables, one for each, the first for the outermost; each
+/// type in the result is in normal form. The types stand outside of these variables. `Err` is want of memory, also where
+/// an index would pass the last number.
+///
+/// Rossberg, Russo and Dreyer, "F-ing modules", section 7, Applicative functors: the hidden types of a pure module put
+/// into what comes after it.
+#[tactic(auto, using(crate::proofs::InstanceLaws::instance_given))]
+pub fn instance(alloc: Global, term: &Term, types: &[NormalTy]) -> Result<Term, Mem>
+    ensures { IfOk result (λ e. (ctx ks : List KindTree) → NormalTerm (extend ctx ks) term.now → NormalForms ctx types.now ks types.now → Instance (extend ctx ks) ctx (puts types.now Var) term.now e) }
+{
+    put_in(alloc, term, types, 0)
+}
+
+// A type in a term.
+fn put_in_type(alloc: Global, ty: &Ty, types: &[NormalTy], depth: u64) -> Result<Ty, Mem>
+    ensures { IfOk result (λ t. t ≡ ty_in (sunk depth (putting types.now)) ty.now) }
+{
+    let put = put_types(alloc, &as_normal(ty.share()?), types, depth)?;
+    plain(&put).share()
+}
+
+// A term below `depth` binders of types.
+#[cycle(put_in)]
+#[tactic(auto, using(crate::proofs::InstanceSteps::closed))]
+fn put_in(alloc: Global, term: &Term, types: &[NormalTy], depth: u64) -> Result<Term, Mem>
+    ensures { IfOk result (λ e. e ≡ term_in (sunk depth (putting types.now)) term.now) }
+{
+    if term.type_bound() <= depth {
+        return term.share();
+    }
+    match term.node() {
+        TermNode::Var(_) | TermNode::Int(_) | TermNode::Bool(_) | TermNode::Text(_) => term.share(),
+        TermNode::Lam(t, e) => {
+            let t = put_in_type(alloc, t, types, depth)?;
+            let e = put_in(alloc, e, types, depth)?;
+            Term::make(alloc, TermNode::Lam(t, e))
+        }
+        TermNode::Call(f, a) => {
+            let f = put_in(alloc, f, types, depth)?;
+            let a = put_in(alloc, a, types, depth)?;
+            Term::make(alloc, TermNode::Call(f, a))
+        }
+        TermNode::TyLam(k, e) => {
+            let e = put_under(alloc, e, types, depth)?;
+            Term::make(alloc, TermNode::TyLam(k.share()?, e))
+        }
+        TermNode::Inst(e, t) => {
+            let e = put_in(alloc, e, types, depth)?;
+            let t = put_in_type(alloc, t, types, depth)?;
+            Term::make(alloc, TermNode::Inst(e, t))
+        }
+        TermNode::Fields(fields) => {
+            let fields = put_in_fields(alloc, fields, types, depth)?;
+            Term::make(alloc, TermNode::Fields(fields))
+        }
+        TermNode::Get(e, l) => {
+            let e = put_in(alloc, e, types, depth)?;
+            Term::make(alloc, TermNode::Get(e, l.share()?))
+        }
+        TermNode::Pack(t, e, u) => {
+            let t = put_in_type(alloc, t, types, depth)?;
+            let e = put_in(alloc, e, types, depth)?;
+            let u = put_in_type(alloc, u, types, depth)?;
+            Term::make(alloc, TermNode::Pack(t, e, u))
+        }
+        TermNode::Unpack(p, e) => {
+            let p = put_in(alloc, p, types, depth)?;
+            let e = put_under(alloc, e, types, depth)?;
+            Term::make(alloc, TermNode::Unpack(p, e))
+        }
+        TermNode::If(a, b, c) => {
+            let a = put_in(alloc, a, types, depth)?;
+            let b = put_in(alloc, b, types, depth)?;
+            let c = put_in(alloc, c, types, depth)?;
+            Term::make(alloc, TermNode::If(a, b, c))
+        }
+        TermNode::Arith(op, a, b) => {
+            let a = put_in(alloc, a, types, depth)?;
+            let b = put_in(alloc, b, types, depth)?;
+            Term::make(alloc, TermNode::Arith(*op, a, b))
+        }
+        TermNode::Fix(t, u, e) => {
+            let t = put_in_type(alloc, t, types, depth)?;
+            let u = put_in_type(alloc, u, types, depth)?;
+            let e = put_in(alloc, e, types, depth)?;
+            Term::make(alloc, TermNode::Fix(t, u, e))
+        }
+    }
+}
+
+// The body of a binder of a type.
+#[cycle(put_in)]
+#[tactic(auto, using(crate::proofs::InstanceSteps::deeper))]
+fn put_under(alloc: Global, body: &Term, types: &[NormalTy], depth: u64) -> Result<Term, Mem>
+    ensures { IfOk result (λ e. e ≡ term_in (under_head (sunk depth (putting types.now))) body.now) }
+{
+    put_in(alloc, body, types, next_level(depth)?)
+}
+
+// The fields of a record.
+#[cycle(put_in)]
+#[tactic(auto, using(crate::proofs::InstanceSteps::rows))]
+fn put_in_fields(
+    alloc: Global,
+    fields: &TermFields,
+    types: &[NormalTy],
+    depth: u64,
+) -> Result<TermFields, Mem>
+    ensures { IfOk result (λ f. term_row f ≡ fields_in (sunk depth (putting types.now)) (term_row fields.now)) }
+{
+    let mut filled = TermFields::new(alloc);
+    for field in fields.items() {
+        let part = put_in(alloc, &field.1, types, depth)?;
+        filled.push((field.0.share()?, part))?;
+    }
+    Ok(filled)
+}
