@@ -1,5 +1,5 @@
 // Applicative functors: the hidden types of a pure body are lifted over the parameter.
-// Specifications and their laws only, so far; the calls that follow them are still to come.
+// Specifications and their laws only; the calls that follow them stand in a crate of their own above.
 // Stands on signatures and premise_laws.
 // Proved: the rule has exactly one conclusion.
 #![tactic(auto)]

@@ -1,5 +1,5 @@
 // Packages, modules as first-class values: package types, packing and unpacking.
-// Specifications and their laws only, so far; the calls that follow them are still to come.
+// Specifications and their laws only; the calls that follow them stand in a crate of their own above.
 // Stands on signatures and premise_laws.
 // Proved: each rule has exactly one conclusion or exactly one refusal.
 #![tactic(auto)]

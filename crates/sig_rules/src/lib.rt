@@ -1,5 +1,5 @@
 // The rules of signatures and declarations: what each makes of premises that are elaborated already, and how it is refused.
-// Specifications and their laws only, so far; the calls that follow them are still to come.
+// Specifications and their laws only; the calls that follow them stand in a crate of their own above.
 // Stands on signatures and premise_laws.
 // Proved: each rule has exactly one conclusion or exactly one refusal.
 #![tactic(auto)]
