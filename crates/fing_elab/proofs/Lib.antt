@@ -1,8 +1,1 @@
-pub mod EnvLaws
-pub mod BuiltLaws
-pub mod ElabSteps
-pub mod StructureSteps
-pub mod Closed
-pub mod OneMeaning
-pub mod Typed
-pub mod Examples
+pub mod Programs

@@ -1,5 +1,1 @@
-pub mod Built
-pub mod BindingRules
-pub mod Levels
-pub mod Elaborating
-pub mod Example
+pub mod Exactly

@@ -1,7 +1,10 @@
-// Elaboration: from a program to a closed type and a closed term of System Fω, or a refusal.
-// Stands on fing_syntax (programs), omega_types and omega_terms (types and terms).
-// Proved: exactly the derived type and term, which the typing rules give each other, or exactly the refusal.
-// So far programs of number bindings alone, in the module `first`.
+// Elaboration: what a program means in System Fω, or the one reason why it means nothing.
+// Stands on elaboration (phrases in an environment), module_calls (hidden types packed into a term), and on the theorems
+// of elab_laws and elab_exact.
+// Proved: an answer is the program's one meaning, whose whole term has the encoding of the signature as its type; a
+// refusal is the program's one refusal. Want of memory alone is free.
 #![tactic(auto)]
 
-pub mod first;
+mod whole;
+
+pub use whole::{Elaborated, elab};

@@ -8,8 +8,8 @@ use Rattle.fing_grammar.specs.Moves.{Move, shift, by, track}
 use Rattle.fing_grammar.specs.Tree.{Trees, end, leaf, node, spelling, values, Phrase}
 use Rattle.fing_lexer.specs.declared.token.Token.{Token}
 use Rattle.fing_grammar.specs.View.{any}
-use Rattle.parse_forms.specs.Item.{Item, TokenItem, item, as_value, as_binds}
-use Rattle.parse_forms.specs.Play.{and_then, top, taken, played, play, play_all, told}
+use Rattle.parse_stack.specs.Item.{Item, TokenItem, item, as_value, as_binds}
+use Rattle.parse_stack.specs.Play.{and_then, top, taken, played, play, play_all, told}
 
 -- the items of values in order
 abbrev all : (ss : List Symbol) → Values ss → List Item

@@ -49,17 +49,13 @@ fn accepted_sources(rt: HostRuntime) -> Result<(), Fail> {
     Ok(())
 }
 
-const REFUSED: [(&str, &str); 18] = [
+const REFUSED: [(&str, &str); 14] = [
     ("val y = z + 1", "refused 8-9 Unbound z\n"),
     ("val x = (y)", "refused 9-10 Unbound y\n"),
     ("val x = (1 + 2) + (3 + x)", "refused 23-24 Unbound x\n"),
     ("val x = a + b val y = c", "refused 8-9 Unbound a\n"),
-    ("val x = true", "refused Later\n"),
-    ("val x = y val z = true", "refused Later\n"),
-    ("val x = 2 - 1", "refused Later\n"),
-    ("val x = 1 + (2 * 3)", "refused Later\n"),
-    ("val x = M.y", "refused Later\n"),
-    ("module M = struct end", "refused Later\n"),
+    ("val x = y val z = true", "refused 8-9 Unbound y\n"),
+    ("val x = M.y", "refused 8-9 Unbound M\n"),
     ("val x = )", "refused Syntax 3\n"),
     ("val x = 1 < 2 < 3", "refused Syntax 6\n"),
     ("module M = struct", "refused Syntax 4\n"),

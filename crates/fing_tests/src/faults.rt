@@ -17,9 +17,11 @@ fn sink(alloc: Global) -> Result<MemSink, Fail> {
 
 #[test]
 fn other_words(rt: HostRuntime) -> Result<(), Fail> {
-    let lines: [&[&str]; 7] = [
+    let lines: [&[&str]; 9] = [
         &[],
-        &["check"],
+        &["gen", "1"],
+        &["check", "1"],
+        &["run", "--budget", "10000001"],
         &["emit", "1"],
         &["emit", "--budget", "1"],
         &["Emit"],

@@ -6,11 +6,19 @@
 #[cfg(test)]
 mod ample;
 #[cfg(test)]
+mod check;
+#[cfg(test)]
 mod emit;
 #[cfg(test)]
 mod faults;
 #[cfg(test)]
+mod outcomes;
+#[cfg(test)]
+mod reasons;
+#[cfg(test)]
 mod runs;
+#[cfg(test)]
+mod sets;
 #[cfg(test)]
 mod spelling;
 #[cfg(test)]

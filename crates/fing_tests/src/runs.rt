@@ -32,11 +32,21 @@ pub fn run(
     })
 }
 
+/// The answer to the words and a source in one piece, with room for the reply.
+pub fn ran(alloc: Global, words: &[&str], source: &[u8]) -> Result<Answer, Fail> {
+    let source = MemSource::new(source.to_vec(alloc)?, 4096, Vec::new(alloc));
+    let sink = MemSink::new(alloc, 1048576, 4096, Vec::new(alloc))?;
+    run(alloc, words, source, sink)
+}
+
 // The answer of a command to a source in one piece, with room for the reply.
 fn answered(alloc: Global, command: &str, source: &[u8]) -> Result<Answer, Fail> {
-    let source = MemSource::new(source.to_vec(alloc)?, 4096, Vec::new(alloc));
-    let sink = MemSink::new(alloc, 65536, 4096, Vec::new(alloc))?;
-    run(alloc, &[command], source, sink)
+    ran(alloc, &[command], source)
+}
+
+/// The answer of `check` to a source in one piece, with room for the reply.
+pub fn checked(alloc: Global, source: &[u8]) -> Result<Answer, Fail> {
+    answered(alloc, "check", source)
 }
 
 /// The answer of `emit` to a source in one piece, with room for the reply.

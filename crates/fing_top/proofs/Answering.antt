@@ -1,14 +1,16 @@
 -- What is compiled and what is verified is replied, and a source whose bytes are known is answered by its one reply.
-use Rattle.std.proofs.Common.{◌≡◌, ◌⊎◌, inl, inr, ℕ, ◌+◌, ◌≤◌, List, [], ◌∷◌, ◌++◌, length, Option, Some, None, Ok, Err, Result, arith, refl, sym, ap, subst, ◌∙◌}
-use Rattle.std.specs.Prelude.{MatchOption, codes}
+use Rattle.std.proofs.Common.{◌≡◌, ◌⊎◌, inl, inr, ℕ, ◌+◌, ◌≤◌, List, [], ◌∷◌, ◌++◌, length, Option, Some, None, Ok, Err, Result, IfErr, IsErrAnd, arith, refl, sym, ap, subst, ◌∙◌}
+use Rattle.std.specs.Prelude.{MatchOption, MatchResult, IfSome, codes}
 use Rattle.std.specs.Io.KnownBytes.{Consumes, IsAtEnd}
 use Rattle.std.proofs.lemmas.List.{append-nil}
+use Rattle.std.proofs.lemmas.Result.{err_from_is_err_and}
 use Rattle.fing_text.specs.Told.{Told}
 use Rattle.fing_text.specs.Reads.{ReadAll}
+use Rattle.fing_text.specs.Writes.{Wrote}
 use Rattle.omega_types.specs.Ty.{Ty}
 use Rattle.omega_terms.specs.Term.{Term}
-use Rattle.omega_terms.specs.OmegaText.{omega_text}
 use Rattle.omega_terms.specs.Typing.{HasType}
+use Rattle.signatures.specs.Signatures.Encoding.{enc_abs}
 use Rattle.omega_checker.specs.Judgment.{Judgment}
 use Rattle.omega_read.specs.declared.whole.ReadRefusal.{ReadRefusal}
 use Rattle.omega_read.specs.declared.whole.ReadRefusal.TheVariants as read
@@ -22,23 +24,39 @@ use Rattle.fing_lexer.proofs.Slices.{sliced}
 use Rattle.fing_syntax.specs.Phrase.{Binds as Program}
 use Rattle.fing_grammar.specs.declared.refusal.ParseRefusal.{ParseRefusal}
 use Rattle.fing_grammar.specs.declared.refusal.ParseRefusal.TheVariants as parse
-use Rattle.fing_grammar.specs.Refusal.{Refuses}
+use Rattle.fing_grammar.specs.Refusal.{Refuses as TokensRefuse}
 use Rattle.fing_words.specs.CommandLines.{IsCommandLine}
 use Rattle.fing_words.specs.declared.command_line.CommandLine.{CommandLine}
 use Rattle.fing_words.proofs.OneLine.{one_line as one_command_line}
-use Rattle.fing_elab.specs.declared.first.refusal.Refused.{Refused}
-use Rattle.fing_elab.specs.declared.first.refusal.Refused.TheVariants as why
-use Rattle.fing_elab.specs.Elaborating.{ElabRefuses}
-use Rattle.fing_top.specs.Refusing.{untokened, unparsed, unelaborated, refusal_line, HasLine}
+use Rattle.fing_refusals.specs.Refusal.{Refusal as PlainRefusal}
+use Rattle.refusal_lines.specs.InScope.{HasLine as RefusalHasLine}
+use Rattle.refusal_lines.specs.Line.{line_of as program_line}
+use Rattle.refusal_lines.specs.Plain.{plain_refusal}
+use Rattle.refusal_lines.specs.declared.refusal.Refusal.{Refusal}
+use Rattle.fing_elab.specs.Exactly.{Means, IsRefused as MeansNothing}
+use Rattle.fing_elab.specs.declared.whole.Elaborated.{Elaborated}
+use Rattle.fing_top.specs.Compiled.{IsCompiled, IsElaborated, IsRefused}
+use Rattle.omega_machine.specs.Outcomes.{fault_of, Tells as Ends}
+use Rattle.omega_machine.specs.ValueText.{value_text}
+use Rattle.omega_machine.specs.declared.outcome.End.{End}
+use Rattle.omega_machine.specs.declared.outcome.End.TheVariants as ending
+use Rattle.fing_top.specs.Ending.{ending_status, ending_text}
+use Rattle.fing_top.specs.Refusing.{untokened, unparsed, refusal_line, HasLine, numbered}
+use Rattle.fing_top.specs.declared.programs.Compiled.{Compiled}
+use Rattle.fing_top.specs.declared.refusing.Refused.TheVariants.{Program as InProgram}
 use Rattle.fing_top.specs.declared.command.Command.{Command}
 use Rattle.fing_top.specs.declared.command.Command.TheVariants as command
 use Rattle.fing_top.specs.declared.status.Status.{Status}
 use Rattle.fing_top.specs.declared.status.Status.TheVariants as status
 use Rattle.fing_top.specs.Words.{line_of, Line, IsLine}
-use Rattle.fing_top.specs.Reply.{accepted, refused, Spells, EmitReplies, VerifyReplies}
+use Rattle.fing_top.specs.Reply.{answered, accepted, refused, Spells, Telling, TellsOutcome, fault_line, Refuses, ProgramReplies, Replies, VerifyReplies}
 use Rattle.fing_top.specs.Verdict.{unread, verdict_line, HasLine as HasVerdict}
-use Rattle.fing_top.specs.Answer.{limit, Change, Output, IsWritten, AnswersBytes, IsAnswered, Untouched, Completes}
+use Rattle.fing_top.specs.Answer.{limit, Change, Output, Confirms, IsWritten, AnswersBytes, IsAnswered, Untouched, Completes}
 use Rattle.fing_top.proofs.Replies.{one_reply}
+
+-- the exit with a refusal
+pub exit : {T E : Type 0} (Q : E → Type 0) (r : Result T E) (e : E) → IsErrAnd r (λ y. y ≡ e) → Q e → IfErr r Q
+exit Q r e out h = let p = err_from_is_err_and r out in subst (λ s. IfErr s Q) (sym p.1) (subst Q (sym p.2) h)
 
 -- ---- what is compiled is replied
 
@@ -50,25 +68,98 @@ few_sliced bytes at (t ∷ ts) h s = omega (arith, s.0, s.1, few_sliced bytes t.
 pub few_tokens : (bytes : List ℕ) (ts : List Token) → length bytes ≤ limit → TokensOf bytes ts → length ts ≤ 1048576
 few_tokens bytes ts h t = omega (arith, h, few_sliced bytes 0 ts (omega arith) (sliced bytes ts t))
 
-pub lexed_replied : (bytes : List ℕ) (r : LexRefusal) → (r ≡ lex.Mem) ⊎ RefusalOf bytes r → HasLine (untokened r) → EmitReplies bytes (refused (refusal_line (untokened r)))
-lexed_replied bytes lex.Mem h l = absurd l
-lexed_replied bytes (lex.BadByte at) (inr q) l = EmitReplies.no_tokens q
-lexed_replied bytes (lex.BadText at) (inr q) l = EmitReplies.no_tokens q
-lexed_replied bytes (lex.Wide at) (inr q) l = EmitReplies.no_tokens q
-lexed_replied bytes (lex.TooDeep at) (inr q) l = EmitReplies.no_tokens q
-lexed_replied bytes (lex.BadByte at) (inl e) l = absurd (cc)
-lexed_replied bytes (lex.BadText at) (inl e) l = absurd (cc)
-lexed_replied bytes (lex.Wide at) (inl e) l = absurd (cc)
-lexed_replied bytes (lex.TooDeep at) (inl e) l = absurd (cc)
+pub lexed_refused : (bytes : List ℕ) (r : LexRefusal) → (r ≡ lex.Mem) ⊎ RefusalOf bytes r → IsRefused bytes (untokened r)
+lexed_refused bytes lex.Mem h l = absurd l
+lexed_refused bytes (lex.BadByte at) (inr q) l = Refuses.no_tokens q
+lexed_refused bytes (lex.BadText at) (inr q) l = Refuses.no_tokens q
+lexed_refused bytes (lex.Wide at) (inr q) l = Refuses.no_tokens q
+lexed_refused bytes (lex.TooDeep at) (inr q) l = Refuses.no_tokens q
+lexed_refused bytes (lex.BadByte at) (inl e) l = absurd (cc)
+lexed_refused bytes (lex.BadText at) (inl e) l = absurd (cc)
+lexed_refused bytes (lex.Wide at) (inl e) l = absurd (cc)
+lexed_refused bytes (lex.TooDeep at) (inl e) l = absurd (cc)
 
-pub parsed_replied : (bytes : List ℕ) (ts : List Token) (r : ParseRefusal) → TokensOf bytes ts → Refuses ts r → HasLine (unparsed r) → EmitReplies bytes (refused (refusal_line (unparsed r)))
-parsed_replied bytes ts (parse.Syntax at) t h l = EmitReplies.syntax_error t h.0 h.1
-parsed_replied bytes ts parse.Mem t h l = absurd l
+pub parsed_refused : (bytes : List ℕ) (ts : List Token) (r : ParseRefusal) → TokensOf bytes ts → TokensRefuse ts r → IsRefused bytes (unparsed r)
+parsed_refused bytes ts (parse.Syntax at) t h l = Refuses.syntax_error t h.0 h.1
+parsed_refused bytes ts parse.Mem t h l = absurd l
 
-pub elab_replied : (bytes : List ℕ) (program : Program) (r : Refused) → Spells bytes program → ElabRefuses program r → HasLine (unelaborated r) → EmitReplies bytes (refused (refusal_line (unelaborated r)))
-elab_replied bytes program why.Later p h l = EmitReplies.later p h
-elab_replied bytes program (why.Unbound at name) p h l = EmitReplies.unbound p h.0 h.1
-elab_replied bytes program why.Mem p h l = absurd l
+line_refuses : (bytes : List ℕ) (program : Program) (o : Option PlainRefusal) → Spells bytes program → IfSome o (MeansNothing program) → RefusalHasLine o → Refuses bytes (program_line o)
+line_refuses bytes program None p h l = absurd l
+line_refuses bytes program (Some r) p h l = Refuses.meaningless p h.refused
+
+pub program_refused : (bytes : List ℕ) (program : Program) (e : Refusal) → Spells bytes program → IfSome (plain_refusal e) (MeansNothing program) → IsRefused bytes (InProgram e)
+program_refused bytes program e p h l = line_refuses bytes program (plain_refusal e) p h l
+
+pub is_elaborated : (bytes : List ℕ) (program : Program) (o : Elaborated) → Spells bytes program → Means program o → IsElaborated bytes o
+is_elaborated bytes program o p m = record { program = program; spelled = p; means = m }
+
+pub is_compiled : (bytes : List ℕ) (o : Elaborated) (j : Judgment) → IsElaborated bytes o → (j.term ≡ o.whole) × (j.ty ≡ enc_abs o.sig) → IsCompiled bytes (record { effect = o.effect; sig = o.sig; checked = j })
+is_compiled bytes o j m h = record {
+  program = m.program;
+  spelled = m.spelled;
+  types = o.types;
+  term = o.term;
+  means = rw h.0 m.means.derived;
+  ty = h.1;
+}
+
+-- what is told of what is compiled is replied
+pub told : (Tells : Telling) (bytes : List ℕ) (c : Compiled) (s : Status) (text : List ℕ) → IsCompiled bytes c → Tells c.effect c.sig c.checked.term s text → ProgramReplies Tells bytes (answered s c.checked.ty c.checked.term text)
+told Tells bytes c s text h t = rw h.ty (ProgramReplies.meant h.spelled h.means t)
+
+pub outcome_told : (bytes : List ℕ) (budget : ℕ) (c : Compiled) (end : End) → IsCompiled bytes c → Ends c.checked.term budget end → ProgramReplies (TellsOutcome budget) bytes (answered (ending_status end) c.checked.ty c.checked.term (ending_text budget end))
+outcome_told bytes budget c (ending.Value shown steps) h t = rw t.2 (told (TellsOutcome budget) bytes c status.Ok (value_text t.0) h (TellsOutcome.value t.1))
+outcome_told bytes budget c (ending.Fault fault steps) h t = told (TellsOutcome budget) bytes c status.Faulted (fault_line (fault_of fault)) h (TellsOutcome.fault t)
+outcome_told bytes budget c ending.Spent h t = told (TellsOutcome budget) bytes c status.Spent (numbered (codes "spent ") budget) h (TellsOutcome.spent t)
+
+-- ---- what is written
+
+-- the statuses of replies
+abbrev pub IsOfReply : Status → Type 0
+IsOfReply status.Ok = Unit {0}
+IsOfReply status.Refused = Unit {0}
+IsOfReply status.Faulted = Unit {0}
+IsOfReply status.Spent = Unit {0}
+IsOfReply _ = ⊥
+
+whole_answer : (c : Command) (bytes : List ℕ) (out : Output) (s : Status) → IsOfReply s → IsWritten c bytes out s → AnswersBytes c bytes out s
+whole_answer c bytes out status.Ok i w = w
+whole_answer c bytes out status.Refused i w = w
+whole_answer c bytes out status.Faulted i w = w
+whole_answer c bytes out status.Spent i w = w
+whole_answer c bytes out status.Words i w = absurd i
+whole_answer c bytes out status.ReadFault i w = absurd i
+whole_answer c bytes out status.WriteFault i w = absurd i
+whole_answer c bytes out status.NoMemory i w = absurd i
+whole_answer c bytes out status.TooLong i w = absurd i
+
+-- a reply that is written, whole or up to a fault, is the answer
+pub wrote_reply : {T E : Type 0} (c : Command) (bytes : List ℕ) (s : Status) (text : List ℕ) (j : Option Judgment) (sink : Change Told) (confirmed : Change (Option Judgment)) (wrote : Result T E) (answer : Status)
+    → IsOfReply s → Replies c bytes (record { status = s; text = text; confirmed = j }) → Confirms confirmed j
+    → Wrote sink.old sink.new text wrote → MatchResult wrote (λ _. answer ≡ s) (λ _. answer ≡ status.WriteFault)
+    → AnswersBytes c bytes (record { sink = sink; confirmed = confirmed }) answer
+wrote_reply c bytes s text j sink confirmed (Ok u) answer i p q w m =
+    let out : Output = record { sink = sink; confirmed = confirmed } in
+    subst (AnswersBytes c bytes out) (sym m) (whole_answer c bytes out s i (record {
+      reply = record { status = s; text = text; confirmed = j };
+      replies = p;
+      status = refl;
+      written = w;
+      confirmed = q;
+    }))
+wrote_reply c bytes s text j sink confirmed (Err e) answer i p q w m =
+    let out : Output = record { sink = sink; confirmed = confirmed } in
+    subst (AnswersBytes c bytes out) (sym m) (record {
+      reply = record { status = s; text = text; confirmed = j };
+      replies = p;
+      written = w;
+      confirmed = q;
+    })
+
+pub of_ending : (end : End) → IsOfReply (ending_status end)
+of_ending (ending.Value shown steps) = tt
+of_ending (ending.Fault fault steps) = tt
+of_ending ending.Spent = tt
 
 -- ---- what is not read is replied
 
@@ -89,8 +180,20 @@ ill_replied bytes t e r n = VerifyReplies.ill_typed r.1 r.0 n
 -- ---- one command line
 
 one_word : (a b : Command) → line_of a ≡ line_of b → a ≡ b
+one_word command.Check command.Check e = refl
+one_word command.Check command.Emit e = absurd (cc)
+one_word command.Check command.Verify e = absurd (cc)
+one_word command.Emit command.Check e = absurd (cc)
 one_word command.Emit command.Emit e = refl
 one_word command.Emit command.Verify e = absurd (cc)
+one_word command.Check (command.Run b) e = absurd (cc)
+one_word command.Emit (command.Run b) e = absurd (cc)
+one_word command.Verify (command.Run b) e = absurd (cc)
+one_word (command.Run a) command.Check e = absurd (cc)
+one_word (command.Run a) command.Emit e = absurd (cc)
+one_word (command.Run a) command.Verify e = absurd (cc)
+one_word (command.Run a) (command.Run b) e = cc
+one_word command.Verify command.Check e = absurd (cc)
 one_word command.Verify command.Emit e = absurd (cc)
 one_word command.Verify command.Verify e = refl
 
@@ -133,7 +236,7 @@ completes words source out a read answer p r e c bytes q known short quiet silen
     by status.WriteFault w = absurd (silent w.written.rose)
     by status.NoMemory w = inr (refl, w)
     by status.Words w = absurd w
-    by status.Faulted w = absurd w
-    by status.Spent w = absurd w
+    by status.Faulted w = inl (written status.Faulted w)
+    by status.Spent w = inl (written status.Spent w)
     by status.ReadFault w = absurd w
     by status.TooLong w = absurd w

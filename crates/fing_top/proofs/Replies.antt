@@ -1,10 +1,10 @@
 -- A command has at most one reply to bytes.
 use Rattle.std.proofs.Common.{◌≡◌, ℕ, List, [], refl, sym, ap, ap₂, subst, ◌∙◌}
 use Rattle.std.specs.Prelude.{codes}
-use Rattle.omega_kinds.specs.Name.{Name}
+use Rattle.omega_kinds.specs.declared.effect.Effect.{Effect}
 use Rattle.omega_types.specs.Ty.{Ty}
 use Rattle.omega_terms.specs.Term.{Term}
-use Rattle.omega_terms.specs.OmegaText.{omega_text}
+use Rattle.omega_terms.specs.Steps.{Fault, End, Result, Outcome as Ends}
 use Rattle.omega_terms.specs.Typing.{HasType}
 use Rattle.omega_spelling.specs.Omega.{OmegaText}
 use Rattle.omega_spelling.specs.Refused.{Refused}
@@ -15,17 +15,26 @@ use Rattle.fing_lexer.specs.declared.lexer.LexRefusal.{LexRefusal}
 use Rattle.fing_lexer.specs.declared.token.Token.{Token}
 use Rattle.fing_lexer.specs.Tokens.{TokensOf, RefusalOf, Outcome, Good, Bad}
 use Rattle.fing_lexer.proofs.Laws.{has_one_outcome}
-use Rattle.fing_syntax.specs.Phrase.{Span, Binds as Program}
+use Rattle.signatures.specs.Signatures.Encoding.{enc_abs}
+use Rattle.signatures.specs.Signatures.Sig.{Abs, Module, made}
+use Rattle.signatures.specs.Verdict.{holds, refuses}
+use Rattle.fing_syntax.specs.Phrase.{Binds as Program}
 use Rattle.fing_grammar.specs.Grammar.{Binds}
 use Rattle.fing_grammar.specs.Program.{Farthest}
 use Rattle.fing_grammar.specs.Tree.{Phrase}
 use Rattle.fing_grammar.proofs.Laws.{one_tree, one_farthest}
-use Rattle.fing_elab.specs.Built.{IsBuilt}
-use Rattle.fing_elab.specs.BindingRules.{Gives, IsUnbound}
-use Rattle.fing_elab.proofs.OneMeaning.{gives_one, gives_bound, gives_built, unbound_one}
-use Rattle.fing_top.specs.Refusing.{lexical_line, syntax_line, later_line, unbound_line}
+use Rattle.fing_refusals.specs.Refusal.{Refusal}
+use Rattle.elab_rules.specs.Judgments.Program.{ProgramMeans, ProgramRefused}
+use Rattle.elab_exact.specs.Claims.{ProgramExactly}
+use Rattle.elab_exact.proofs.Theorems.{each-program}
+use Rattle.refusal_lines.specs.Line.{line}
+use Rattle.omega_machine.specs.ValueText.{value_text}
+use Rattle.omega_laws.proofs.Runs.{outcome_unique}
+use Rattle.fing_top.specs.Refusing.{lexical_line, syntax_line, numbered}
+use Rattle.fing_top.specs.declared.status.Status.{Status}
+use Rattle.fing_top.specs.declared.status.Status.TheVariants as status
 use Rattle.fing_top.specs.declared.command.Command.TheVariants as command
-use Rattle.fing_top.specs.Reply.{Reply, accepted, refused, Spells, EmitReplies, VerifyReplies, text_line, OneReply}
+use Rattle.fing_top.specs.Reply.{Reply, answered, accepted, refused, Spells, Telling, TellsSignature, TellsTerm, TellsOutcome, fault_line, Refuses, ProgramReplies, VerifyReplies, text_line, OneReply}
 
 -- ---- bytes have one list of tokens or one refusal, and spell one program
 
@@ -57,43 +66,107 @@ no_program {bytes} {p} {ts} s t n = n p (subst (λ (us : List Token). Phrase Bin
 one_place : {bytes : List ℕ} {ts us : List Token} {a b : ℕ} → TokensOf bytes ts → TokensOf bytes us → Farthest ts a → Farthest us b → a ≡ b
 one_place {bytes} {ts} {us} {a} {b} p q f g = one_farthest ts a b f (subst (λ (xs : List Token). Farthest xs b) (one_tokens bytes us ts q p) g)
 
--- ---- one reply of `emit`
+-- ---- one reply of `check` and of `emit`
 
-program_of : {ps qs : Program} {t : Ty} {e : Term} → ps ≡ qs → Gives [] qs t e → Gives [] ps t e
-program_of {ps} {qs} {t} {e} s g = subst (λ (bs : Program). Gives [] bs t e) (sym s) g
+meaning_of : {ps qs : Program} {m : Module} {e : Term} → ps ≡ qs → ProgramMeans qs m e → ProgramMeans ps m e
+meaning_of {ps} {qs} {m} {e} s h = subst (λ (bs : Program). ProgramMeans bs m e) (sym s) h
 
-refusal_of : {ps qs : Program} {x : Name} {at : Span} → ps ≡ qs → IsUnbound [] qs x at → IsUnbound [] ps x at
-refusal_of {ps} {qs} {x} {at} s u = subst (λ (bs : Program). IsUnbound [] bs x at) (sym s) u
+refusal_of : {ps qs : Program} {r : Refusal} → ps ≡ qs → ProgramRefused qs r → ProgramRefused ps r
+refusal_of {ps} {qs} {r} s h = subst (λ (bs : Program). ProgramRefused bs r) (sym s) h
 
-built_of : {ps qs : Program} → ps ≡ qs → IsBuilt qs → IsBuilt ps
-built_of {ps} {qs} s b = subst (λ (bs : Program). IsBuilt bs) (sym s) b
+one_meaning : {bs : Program} {m n : Module} {d e : Term} → ProgramMeans bs m d → ProgramMeans bs n e → ◌≡◌ {A = Module × Term} (m, d) (n, e)
+one_meaning {bs} {m} {n} {d} {e} p q = go (each-program bs)
+  where
+    go : ProgramExactly bs → ◌≡◌ {A = Module × Term} (m, d) (n, e)
+    go (holds x w only never) = only (m, d) p ∙ sym (only (n, e) q)
+    go (refuses r w only never) = absurd (never (m, d) p)
 
-emit_one : (bytes : List ℕ) (r s : Reply) → EmitReplies bytes r → EmitReplies bytes s → s ≡ r
-emit_one bytes r s (EmitReplies.emitted p g) (EmitReplies.emitted q h) = let same = gives_one g (program_of (spells_one p q) h) in sym (ap₂ (λ (t : Ty) (e : Term). accepted t e (omega_text t e)) same.0 same.1)
-emit_one bytes r s (EmitReplies.emitted p g) (EmitReplies.unbound q b u) = absurd (gives_bound g (refusal_of (spells_one p q) u))
-emit_one bytes r s (EmitReplies.emitted p g) (EmitReplies.later q n) = absurd (n (built_of (sym (spells_one p q)) (gives_built g)))
-emit_one bytes r s (EmitReplies.emitted p g) (EmitReplies.syntax_error t f n) = absurd (no_program p t n)
-emit_one bytes r s (EmitReplies.emitted p g) (EmitReplies.no_tokens {why = why} w) = absurd (no_tokens bytes p.tokens why p.lexed w)
-emit_one bytes r s (EmitReplies.unbound p b u) (EmitReplies.emitted q h) = absurd (gives_bound (program_of (spells_one p q) h) u)
-emit_one bytes r s (EmitReplies.unbound p b u) (EmitReplies.unbound q c v) = let same = unbound_one u (refusal_of (spells_one p q) v) in sym (ap₂ (λ (at : Span) (x : Name). refused (unbound_line at x)) same.1 same.0)
-emit_one bytes r s (EmitReplies.unbound p b u) (EmitReplies.later q n) = absurd (n (built_of (sym (spells_one p q)) b))
-emit_one bytes r s (EmitReplies.unbound p b u) (EmitReplies.syntax_error t f n) = absurd (no_program p t n)
-emit_one bytes r s (EmitReplies.unbound p b u) (EmitReplies.no_tokens {why = why} w) = absurd (no_tokens bytes p.tokens why p.lexed w)
-emit_one bytes r s (EmitReplies.later p n) (EmitReplies.emitted q h) = absurd (n (built_of (spells_one p q) (gives_built h)))
-emit_one bytes r s (EmitReplies.later p n) (EmitReplies.unbound q c v) = absurd (n (built_of (spells_one p q) c))
-emit_one bytes r s (EmitReplies.later p n) (EmitReplies.later q m) = refl
-emit_one bytes r s (EmitReplies.later p n) (EmitReplies.syntax_error t f m) = absurd (no_program p t m)
-emit_one bytes r s (EmitReplies.later p n) (EmitReplies.no_tokens {why = why} w) = absurd (no_tokens bytes p.tokens why p.lexed w)
-emit_one bytes r s (EmitReplies.syntax_error t f n) (EmitReplies.emitted q h) = absurd (no_program q t n)
-emit_one bytes r s (EmitReplies.syntax_error t f n) (EmitReplies.unbound q c v) = absurd (no_program q t n)
-emit_one bytes r s (EmitReplies.syntax_error t f n) (EmitReplies.later q m) = absurd (no_program q t n)
-emit_one bytes r s (EmitReplies.syntax_error t f n) (EmitReplies.syntax_error u g m) = ap (λ (at : ℕ). refused (syntax_line at)) (sym (one_place t u f g))
-emit_one bytes r s (EmitReplies.syntax_error {tokens = ts} t f n) (EmitReplies.no_tokens {why = why} w) = absurd (no_tokens bytes ts why t w)
-emit_one bytes r s (EmitReplies.no_tokens {why = why} w) (EmitReplies.emitted q h) = absurd (no_tokens bytes q.tokens why q.lexed w)
-emit_one bytes r s (EmitReplies.no_tokens {why = why} w) (EmitReplies.unbound q c v) = absurd (no_tokens bytes q.tokens why q.lexed w)
-emit_one bytes r s (EmitReplies.no_tokens {why = why} w) (EmitReplies.later q m) = absurd (no_tokens bytes q.tokens why q.lexed w)
-emit_one bytes r s (EmitReplies.no_tokens {why = why} w) (EmitReplies.syntax_error {tokens = ts} t f n) = absurd (no_tokens bytes ts why t w)
-emit_one bytes r s (EmitReplies.no_tokens {why = why} w) (EmitReplies.no_tokens {why = other} v) = ap (λ (x : LexRefusal). refused (lexical_line x)) (sym (one_refusal bytes why other w v))
+not_both : {bs : Program} {m : Module} {d : Term} {r : Refusal} → ProgramMeans bs m d → ProgramRefused bs r → ⊥
+not_both {bs} {m} {d} {r} p q = go (each-program bs)
+  where
+    go : ProgramExactly bs → ⊥
+    go (holds x w only never) = never r q
+    go (refuses s w only never) = never (m, d) p
+
+one_program_refusal : {bs : Program} {r s : Refusal} → ProgramRefused bs r → ProgramRefused bs s → r ≡ s
+one_program_refusal {bs} {r} {s} p q = go (each-program bs)
+  where
+    go : ProgramExactly bs → r ≡ s
+    go (holds x w only never) = absurd (never r p)
+    go (refuses t w only never) = only r p ∙ sym (only s q)
+
+-- the parts of a module and its whole term
+effect_in : Module × Term → Effect
+effect_in (made f x ts e, whole) = f
+
+sig_in : Module × Term → Abs
+sig_in (made f x ts e, whole) = x
+
+-- one thing is told of one program
+abbrev OneTold : Telling → Type 0
+OneTold Tells = (f : Effect) (x : Abs) (e : Term) (s r : Status) (t u : List ℕ) → Tells f x e s t → Tells f x e r u → (s ≡ r) × (t ≡ u)
+
+told_alike : (Tells : Telling) → OneTold Tells → (f g : Effect) (x y : Abs) (ts us : List Ty) (d e v w : Term) (s r : Status) (t u : List ℕ)
+    → ◌≡◌ {A = Module × Term} (made f x ts d, v) (made g y us e, w) → Tells f x v s t → Tells g y w r u → answered r (enc_abs y) w u ≡ answered s (enc_abs x) v t
+unfolding effect_in sig_in
+told_alike Tells one f g x y ts us d e v w s r t u h p q =
+    let same_effect : f ≡ g = ap effect_in h in
+    let same_sig : x ≡ y = ap sig_in h in
+    let same_whole : v ≡ w = ap (λ (o : Module × Term). o.1) h in
+    let same = one g y w s r t u (rw (same_effect, same_sig, same_whole) at p) q in
+    rw (same_sig, same_whole, same.0, same.1) refl
+
+refusal_alone : {bytes : List ℕ} {program : Program} {m : Module} {e : Term} {text : List ℕ} → Spells bytes program → ProgramMeans program m e → Refuses bytes text → ⊥
+refusal_alone p m (Refuses.meaningless q u) = not_both m (refusal_of (spells_one p q) u)
+refusal_alone p m (Refuses.syntax_error t f n) = no_program p t n
+refusal_alone {bytes} p m (Refuses.no_tokens {why = why} w) = no_tokens bytes p.tokens why p.lexed w
+
+one_line : (bytes : List ℕ) (t u : List ℕ) → Refuses bytes t → Refuses bytes u → t ≡ u
+one_line bytes t u (Refuses.meaningless p a) (Refuses.meaningless q b) = ap line (one_program_refusal a (refusal_of (spells_one p q) b))
+one_line bytes t u (Refuses.meaningless p a) (Refuses.syntax_error ts f n) = absurd (no_program p ts n)
+one_line bytes t u (Refuses.meaningless p a) (Refuses.no_tokens {why = why} w) = absurd (no_tokens bytes p.tokens why p.lexed w)
+one_line bytes t u (Refuses.syntax_error ts f n) (Refuses.meaningless q b) = absurd (no_program q ts n)
+one_line bytes t u (Refuses.syntax_error ts f n) (Refuses.syntax_error us g m) = ap syntax_line (one_place ts us f g)
+one_line bytes t u (Refuses.syntax_error {tokens = tokens} ts f n) (Refuses.no_tokens {why = why} w) = absurd (no_tokens bytes tokens why ts w)
+one_line bytes t u (Refuses.no_tokens {why = why} w) (Refuses.meaningless q b) = absurd (no_tokens bytes q.tokens why q.lexed w)
+one_line bytes t u (Refuses.no_tokens {why = why} w) (Refuses.syntax_error {tokens = tokens} ts f n) = absurd (no_tokens bytes tokens why ts w)
+one_line bytes t u (Refuses.no_tokens {why = why} w) (Refuses.no_tokens {why = other} v) = ap lexical_line (one_refusal bytes why other w v)
+
+program_one : (Tells : Telling) → OneTold Tells → (bytes : List ℕ) (r s : Reply) → ProgramReplies Tells bytes r → ProgramReplies Tells bytes s → s ≡ r
+program_one Tells one bytes r s (ProgramReplies.meant {f = f} {x = x} {ts = ts} {e = d} {whole = v} {s = i} {text = t} p m a) (ProgramReplies.meant {f = g} {x = y} {ts = us} {e = e} {whole = w} {s = j} {text = u} q n b) = told_alike Tells one f g x y ts us d e v w i j t u (one_meaning m (meaning_of (spells_one p q) n)) a b
+program_one Tells one bytes r s (ProgramReplies.meant p m a) (ProgramReplies.refuses u) = absurd (refusal_alone p m u)
+program_one Tells one bytes r s (ProgramReplies.refuses u) (ProgramReplies.meant q m a) = absurd (refusal_alone q m u)
+program_one Tells one bytes r s (ProgramReplies.refuses {text = t} a) (ProgramReplies.refuses {text = u} b) = ap refused (one_line bytes u t b a)
+
+one_signature : OneTold TellsSignature
+one_signature f x e s r t u p q = (p.0 ∙ sym q.0, p.1 ∙ sym q.1)
+
+one_term : OneTold TellsTerm
+one_term f x e s r t u p q = (p.0 ∙ sym q.0, p.1 ∙ sym q.1)
+
+-- the status and the line of an outcome
+outcome_status : Result → Status
+outcome_status (Result.ended (End.the_value v) steps) = status.Ok
+outcome_status (Result.ended (End.the_fault why) steps) = status.Faulted
+outcome_status Result.spent = status.Spent
+
+outcome_text : ℕ → Result → List ℕ
+outcome_text budget (Result.ended (End.the_value v) steps) = value_text v
+outcome_text budget (Result.ended (End.the_fault why) steps) = fault_line why
+outcome_text budget Result.spent = numbered (codes "spent ") budget
+
+outcome_told : (budget : ℕ) (f : Effect) (x : Abs) (e : Term) (s : Status) (t : List ℕ) → TellsOutcome budget f x e s t → (r : Result) × Ends e budget r × (s ≡ outcome_status r) × (t ≡ outcome_text budget r)
+unfolding outcome_status outcome_text
+outcome_told budget f x e s t (TellsOutcome.value {v = v} {steps = n} o) = (Result.ended (End.the_value v) n, o, refl, refl)
+outcome_told budget f x e s t (TellsOutcome.fault {why = why} {steps = n} o) = (Result.ended (End.the_fault why) n, o, refl, refl)
+outcome_told budget f x e s t (TellsOutcome.spent o) = (Result.spent, o, refl, refl)
+
+one_outcome_told : (budget : ℕ) → OneTold (TellsOutcome budget)
+one_outcome_told budget f x e s r t u p q =
+    let a = outcome_told budget f x e s t p in
+    let b = outcome_told budget f x e r u q in
+    let same = outcome_unique a.1 b.1 in
+    (a.2 ∙ ap outcome_status same ∙ sym b.2, a.3 ∙ ap (outcome_text budget) same ∙ sym b.3)
 
 -- a text is the text of one type and one term
 text_one : {bytes : List ℕ} {t u : Ty} {e d : Term} → OmegaText bytes t e → OmegaText bytes u d → (t ≡ u) × (e ≡ d)
@@ -114,5 +187,7 @@ verify_one bytes r s (VerifyReplies.no_text why w) (VerifyReplies.ill_typed {t =
 verify_one bytes r s (VerifyReplies.no_text why w) (VerifyReplies.no_text other v) = ap (λ (x : Refused). refused (text_line x)) (exclusive bytes other why v w)
 
 pub one_reply : OneReply
-one_reply command.Emit bytes reply other p q = emit_one bytes reply other p q
+one_reply command.Check bytes reply other p q = program_one TellsSignature one_signature bytes reply other p q
+one_reply command.Emit bytes reply other p q = program_one TellsTerm one_term bytes reply other p q
+one_reply (command.Run budget) bytes reply other p q = program_one (TellsOutcome budget) (one_outcome_told budget) bytes reply other p q
 one_reply command.Verify bytes reply other p q = verify_one bytes reply other p q

@@ -61,6 +61,8 @@ pub record IsBroken (c : Command) (bytes : List ℕ) (out : Output) : Type 0 whe
 abbrev pub AnswersBytes : Command → List ℕ → Output → Status → Type 0
 AnswersBytes c bytes out status.Ok = IsWritten c bytes out status.Ok
 AnswersBytes c bytes out status.Refused = IsWritten c bytes out status.Refused
+AnswersBytes c bytes out status.Faulted = IsWritten c bytes out status.Faulted
+AnswersBytes c bytes out status.Spent = IsWritten c bytes out status.Spent
 AnswersBytes c bytes out status.WriteFault = IsBroken c bytes out
 AnswersBytes c bytes out status.NoMemory = Untouched out
 AnswersBytes c bytes out _ = ⊥
@@ -78,8 +80,8 @@ abbrev pub Answers : List (List ℕ) → (source : Change Told) → Output → S
 Answers words source out status.Ok = IsReplied words source out status.Ok
 Answers words source out status.Refused = IsReplied words source out status.Refused
 Answers words source out status.Words = (IsLine words → ⊥) × Stands source × Untouched out
-Answers words source out status.Faulted = ⊥
-Answers words source out status.Spent = ⊥
+Answers words source out status.Faulted = IsReplied words source out status.Faulted
+Answers words source out status.Spent = IsReplied words source out status.Spent
 Answers words source out status.ReadFault = IsLine words × TookSome source.old source.new × Rose source.old.faults source.new.faults × Untouched out
 Answers words source out status.WriteFault = IsReplied words source out status.WriteFault
 Answers words source out status.NoMemory = Untouched out

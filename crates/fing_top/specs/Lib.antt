@@ -1,5 +1,7 @@
 pub mod Words
 pub mod Refusing
 pub mod Reply
+pub mod Compiled
+pub mod Ending
 pub mod Verdict
 pub mod Answer

@@ -1,24 +1,30 @@
 -- The one reply to a command and the bytes of a source.
 use Rattle.std.specs.Prelude.{◌≡◌, ℕ, List, [], codes, false, Option, Some, None}
-use Rattle.omega_kinds.specs.Name.{Name}
+use Rattle.omega_kinds.specs.declared.effect.Effect.{Effect}
 use Rattle.omega_types.specs.Ty.{Ty}
 use Rattle.omega_terms.specs.Term.{Term}
 use Rattle.omega_terms.specs.OmegaText.{omega_text}
+use Rattle.omega_terms.specs.Steps.{Fault, End, Result, Outcome}
 use Rattle.omega_terms.specs.Typing.{HasType}
 use Rattle.omega_spelling.specs.Omega.{OmegaText}
 use Rattle.omega_spelling.specs.Refusals.{is_too_deep}
-use Rattle.omega_spelling.specs.Refused.{Refused, IsVersion, IsTooDeep, IsWide, IsNotOmega, Refuses}
+use Rattle.omega_spelling.specs.Refused.{Refused, IsVersion, IsTooDeep, IsWide, IsNotOmega, Refuses as TextRefuses}
+use Rattle.signatures.specs.Signatures.Encoding.{enc_abs}
+use Rattle.signatures.specs.Signatures.Sig.{Abs, made}
 use Rattle.omega_checker.specs.Judgment.{Judgment}
 use Rattle.fing_lexer.specs.declared.lexer.LexRefusal.{LexRefusal}
 use Rattle.fing_lexer.specs.declared.token.Token.{Token}
 use Rattle.fing_lexer.specs.Tokens.{TokensOf, RefusalOf}
-use Rattle.fing_syntax.specs.Phrase.{Span, Binds as Program}
+use Rattle.fing_syntax.specs.Phrase.{Binds as Program}
 use Rattle.fing_grammar.specs.Grammar.{Binds}
 use Rattle.fing_grammar.specs.Program.{Farthest}
 use Rattle.fing_grammar.specs.Tree.{Phrase}
-use Rattle.fing_elab.specs.Built.{IsBuilt}
-use Rattle.fing_elab.specs.BindingRules.{Gives, IsUnbound}
-use Rattle.fing_top.specs.Refusing.{lexical_line, syntax_line, later_line, unbound_line}
+use Rattle.fing_refusals.specs.Refusal.{Refusal}
+use Rattle.elab_rules.specs.Judgments.Program.{ProgramMeans, ProgramRefused}
+use Rattle.omega_machine.specs.ValueText.{value_text}
+use Rattle.sig_text.specs.SigText.{elab_text}
+use Rattle.refusal_lines.specs.Line.{line}
+use Rattle.fing_top.specs.Refusing.{lexical_line, syntax_line, numbered}
 use Rattle.fing_top.specs.declared.command.Command.{Command}
 use Rattle.fing_top.specs.declared.command.Command.TheVariants as command
 use Rattle.fing_top.specs.declared.status.Status.{Status}
@@ -30,8 +36,12 @@ pub record Reply : Type 0 where
   pub text : List ℕ
   pub confirmed : Option Judgment
 
+-- a reply that confirms a term and its type
+abbrev pub answered : Status → Ty → Term → List ℕ → Reply
+answered s t e text = record { status = s; text = text; confirmed = Some (record { term = e; ty = t }) }
+
 abbrev pub accepted : Ty → Term → List ℕ → Reply
-accepted t e text = record { status = status.Ok; text = text; confirmed = Some (record { term = e; ty = t }) }
+accepted = answered status.Ok
 
 abbrev pub refused : List ℕ → Reply
 refused line = record { status = status.Refused; text = line; confirmed = None }
@@ -42,15 +52,43 @@ pub record Spells (bytes : List ℕ) (program : Program) : Type 0 where
   pub lexed : TokensOf bytes tokens
   pub tree : Phrase Binds tokens program
 
--- `emit`: the text of what the rules derive for the program; or the line of its first unbound name; or `Later` where the
--- program is not built; or the length of the tokens' longest front that begins a program, where they are none; or the
--- first place that has no token
-pub data EmitReplies (bytes : List ℕ) : Reply → Type 0 where
-  emitted : {program : Program} {t : Ty} {e : Term} → Spells bytes program → Gives [] program t e → EmitReplies bytes (accepted t e (omega_text t e))
-  unbound : {program : Program} {x : Name} {at : Span} → Spells bytes program → IsBuilt program → IsUnbound [] program x at → EmitReplies bytes (refused (unbound_line at x))
-  later : {program : Program} → Spells bytes program → (IsBuilt program → ⊥) → EmitReplies bytes (refused later_line)
-  syntax_error : {tokens : List Token} {at : ℕ} → TokensOf bytes tokens → Farthest tokens at → ((program : Program) → Phrase Binds tokens program → ⊥) → EmitReplies bytes (refused (syntax_line at))
-  no_tokens : {why : LexRefusal} → RefusalOf bytes why → EmitReplies bytes (refused (lexical_line why))
+-- what is told, and with which status, of a program of an effect, a signature and a whole term
+abbrev pub Telling : Type 1
+Telling = Effect → Abs → Term → Status → List ℕ → Type 0
+
+-- `check`: the effect and the signature
+abbrev pub TellsSignature : Telling
+TellsSignature f x whole s text = (s ≡ status.Ok) × (text ≡ elab_text f x)
+
+-- `emit`: the encoded signature and the whole term as Omega text
+abbrev pub TellsTerm : Telling
+TellsTerm f x whole s text = (s ≡ status.Ok) × (text ≡ omega_text (enc_abs x) whole)
+
+abbrev pub fault_line : Fault → List ℕ
+fault_line Fault.Overflow = codes "fault Overflow\n"
+fault_line Fault.DivideByZero = codes "fault DivideByZero\n"
+
+-- `run`: the outcome of the whole term within the budget of steps
+pub data TellsOutcome (budget : ℕ) (f : Effect) (x : Abs) (whole : Term) : Status → List ℕ → Type 0 where
+  value : {v : Term} {steps : ℕ} → Outcome whole budget (Result.ended (End.the_value v) steps) → TellsOutcome budget f x whole status.Ok (value_text v)
+  fault : {why : Fault} {steps : ℕ} → Outcome whole budget (Result.ended (End.the_fault why) steps) → TellsOutcome budget f x whole status.Faulted (fault_line why)
+  spent : Outcome whole budget Result.spent → TellsOutcome budget f x whole status.Spent (numbered (codes "spent ") budget)
+
+-- the line that refuses bytes: that of the refusal of the program that they spell; or the length of the tokens' longest
+-- front that begins a program, where they are none; or the first place that has no token
+pub data Refuses (bytes : List ℕ) : List ℕ → Type 0 where
+  meaningless : {program : Program} {r : Refusal} → Spells bytes program → ProgramRefused program r → Refuses bytes (line r)
+  syntax_error : {tokens : List Token} {at : ℕ} → TokensOf bytes tokens → Farthest tokens at → ((program : Program) → Phrase Binds tokens program → ⊥) → Refuses bytes (syntax_line at)
+  no_tokens : {why : LexRefusal} → RefusalOf bytes why → Refuses bytes (lexical_line why)
+
+-- `check`, `emit` and `run`: what is told of the program that the bytes spell, or the line that refuses them
+pub data ProgramReplies (Tells : Telling) (bytes : List ℕ) : Reply → Type 0 where
+  meant : {program : Program} {f : Effect} {x : Abs} {ts : List Ty} {e whole : Term} {s : Status} {text : List ℕ}
+      → Spells bytes program
+      → ProgramMeans program (made f x ts e) whole
+      → Tells f x whole s text
+      → ProgramReplies Tells bytes (answered s (enc_abs x) whole text)
+  refuses : {text : List ℕ} → Refuses bytes text → ProgramReplies Tells bytes (refused text)
 
 -- the line of bytes that are no text, or that have too many parentheses open
 abbrev pub text_line : Refused → List ℕ
@@ -63,11 +101,13 @@ text_line IsNotOmega = codes "refused NotOmega\n"
 pub data VerifyReplies (bytes : List ℕ) : Reply → Type 0 where
   well_typed : {t : Ty} {e : Term} → OmegaText bytes t e → is_too_deep bytes ≡ false → HasType [] [] e t → VerifyReplies bytes (accepted t e (codes "well typed\n"))
   ill_typed : {t : Ty} {e : Term} → OmegaText bytes t e → is_too_deep bytes ≡ false → (HasType [] [] e t → ⊥) → VerifyReplies bytes (refused (codes "refused IllTyped\n"))
-  no_text : (why : Refused) → Refuses bytes why → VerifyReplies bytes (refused (text_line why))
+  no_text : (why : Refused) → TextRefuses bytes why → VerifyReplies bytes (refused (text_line why))
 
 -- what a command answers and writes for the bytes of a source
 abbrev pub Replies : Command → List ℕ → Reply → Type 0
-Replies command.Emit = EmitReplies
+Replies command.Check = ProgramReplies TellsSignature
+Replies command.Emit = ProgramReplies TellsTerm
+Replies (command.Run budget) = ProgramReplies (TellsOutcome budget)
 Replies command.Verify = VerifyReplies
 
 -- it is the reply, and there is no other

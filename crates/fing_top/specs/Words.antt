@@ -8,7 +8,9 @@ use Rattle.fing_top.specs.declared.command.Command.TheVariants as command
 
 -- the command line of a command that is built
 abbrev pub line_of : Command → CommandLine
+line_of command.Check = line.Check
 line_of command.Emit = line.Emit
+line_of (command.Run budget) = line.Run budget
 line_of command.Verify = line.Verify
 
 -- the words are the command line of the command

@@ -11,8 +11,12 @@ use std::alloc::Global;
 /// What the program is asked to do, of what it can do so far.
 #[derive(Clone, Copy, Debug, PartialEq, Eq)]
 pub enum Command {
+    /// Tell the effect and the signature of a program.
+    Check,
     /// Compile a program into a type and a term of System Fω.
     Emit,
+    /// Run a program within this many steps, at most 10,000,000.
+    Run { budget: u32 },
     /// Check that the term of an Omega text has the type of that text.
     Verify,
 }
@@ -22,7 +26,9 @@ fn command_in(line: CommandLine) -> Option<Command>
     ensures { MatchOption result ((c : CommandTree) → line ≡ line_of c → ⊥) (λ c. line ≡ line_of c) }
 {
     match line {
+        CommandLine::Check => Some(Command::Check),
         CommandLine::Emit => Some(Command::Emit),
+        CommandLine::Run { budget } => Some(Command::Run { budget }),
         CommandLine::Verify => Some(Command::Verify),
         _ => None,
     }

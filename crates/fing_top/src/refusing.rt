@@ -1,18 +1,19 @@
-// Why a source is not emitted, and the line that says so.
+// Why a source is refused, and the line that says so.
+ghost use Rattle.std.specs.Prelude.{IsTrue};
 ghost use Rattle.fing_text.specs.Writes.{Wrote};
-ghost use Rattle.fing_syntax.specs.Leaves.{place};
-ghost use Rattle.fing_top.specs.Refusing.{refusal_line, numbered, unbound_line, HasLine};
+ghost use Rattle.fing_top.specs.Refusing.{refusal_line, numbered, HasLine};
 
-use fing_elab::first::Refused;
 use fing_lexer::LexRefusal;
 use fing_parser::ParseRefusal;
-use fing_text::{Sink, Span, WriteFault, put, put_all};
+use fing_text::{Sink, WriteFault, put_all};
 use itoa::Buffer;
-use omega_kinds::Name;
+use omega_kinds::Mem;
+use refusal_lines::{Refusal, write_line as write_refusal};
+use sig_scopes::refusal_in_scope;
 
-/// Why a source is not emitted: it has no tokens, its tokens are no program, or its program is refused.
-#[derive(Debug, Drop)]
-pub enum Unemitted {
+/// Why a source is refused: it has no tokens, its tokens are no program, or its program means nothing.
+#[derive(Drop)]
+pub enum Refused {
     /// No token begins at this byte.
     BadByte { at: u32 },
     /// No text begins at this `"`.
@@ -23,104 +24,104 @@ pub enum Unemitted {
     TooDeep { at: u32 },
     /// The tokens are no program: the longest front of them that begins some program has `at` tokens.
     Syntax { at: u32 },
-    /// The program's form is not elaborated yet.
-    Later,
-    /// A name that is not bound, and where it stands.
-    Unbound { at: Span, name: Name },
+    /// The program means nothing, for this reason; or memory ran out in elaboration.
+    Program(Refusal),
     /// Want of memory.
     Mem,
 }
 
-impl From<LexRefusal> for Unemitted {
+impl From<LexRefusal> for Refused {
     ghost use Rattle.std.specs.Prelude.{◌≡◌};
     ghost use Rattle.fing_top.specs.Refusing.{untokened};
 
     ghost from_gives = { λ refusal e. e ≡ untokened refusal };
 
-    fn from(refusal: LexRefusal) -> Unemitted {
+    fn from(refusal: LexRefusal) -> Refused {
         match refusal {
-            LexRefusal::BadByte { at } => Unemitted::BadByte { at },
-            LexRefusal::BadText { at } => Unemitted::BadText { at },
-            LexRefusal::Wide { at } => Unemitted::Wide { at },
-            LexRefusal::TooDeep { at } => Unemitted::TooDeep { at },
-            LexRefusal::Mem => Unemitted::Mem,
+            LexRefusal::BadByte { at } => Refused::BadByte { at },
+            LexRefusal::BadText { at } => Refused::BadText { at },
+            LexRefusal::Wide { at } => Refused::Wide { at },
+            LexRefusal::TooDeep { at } => Refused::TooDeep { at },
+            LexRefusal::Mem => Refused::Mem,
         }
     }
 }
 
-impl From<ParseRefusal> for Unemitted {
+impl From<ParseRefusal> for Refused {
     ghost use Rattle.std.specs.Prelude.{◌≡◌};
     ghost use Rattle.fing_top.specs.Refusing.{unparsed};
 
     ghost from_gives = { λ refusal e. e ≡ unparsed refusal };
 
-    fn from(refusal: ParseRefusal) -> Unemitted {
+    fn from(refusal: ParseRefusal) -> Refused {
         match refusal {
-            ParseRefusal::Syntax { at } => Unemitted::Syntax { at },
-            ParseRefusal::Mem => Unemitted::Mem,
+            ParseRefusal::Syntax { at } => Refused::Syntax { at },
+            ParseRefusal::Mem => Refused::Mem,
         }
     }
 }
 
-impl From<Refused> for Unemitted {
+impl From<Refusal> for Refused {
     ghost use Rattle.std.specs.Prelude.{◌≡◌};
-    ghost use Rattle.fing_top.specs.Refusing.{unelaborated};
+    ghost use Rattle.fing_top.specs.declared.refusing.Refused.TheVariants.{Program as InProgram};
 
-    ghost from_gives = { λ refusal e. e ≡ unelaborated refusal };
+    ghost from_gives = { λ refusal e. e ≡ InProgram refusal };
 
-    fn from(refusal: Refused) -> Unemitted {
-        match refusal {
-            Refused::Later => Unemitted::Later,
-            Refused::Unbound { at, name } => Unemitted::Unbound { at, name },
-            Refused::Mem => Unemitted::Mem,
-        }
+    fn from(refusal: Refusal) -> Refused {
+        Refused::Program(refusal)
     }
 }
 
-/// Writes the line of a refusal, which is not want of memory. Takes no memory.
-pub fn write_line<K: Sink>(sink: &mut K, refusal: &Unemitted) -> Result<(), WriteFault>
-    requires { HasLine refusal.now }
-    ensures { Wrote (K.told sink.old) (K.told sink.new) (refusal_line refusal.now) result }
+impl From<Mem> for Refused {
+    ghost use Rattle.std.specs.Prelude.{◌≡◌};
+    ghost use Rattle.fing_top.specs.declared.refusing.Refused.TheVariants.{Mem as WantOfMemory};
+
+    ghost from_gives = { λ _ e. e ≡ WantOfMemory };
+
+    fn from(_refused: Mem) -> Refused {
+        Refused::Mem
+    }
+}
+
+/// Whether the refusal has a line. Want of memory has none, and no reason whose types have a level past the last number
+/// of 64 bits, which no memory holds. Takes no memory.
+pub fn has_line(why: &Refused) -> bool
+    ensures { IsTrue result → HasLine why.now }
 {
-    match refusal {
-        Unemitted::BadByte { at } => write_numbered(sink, b"refused BadByte ", *at),
-        Unemitted::BadText { at } => write_numbered(sink, b"refused BadText ", *at),
-        Unemitted::Wide { at } => write_numbered(sink, b"refused Wide ", *at),
-        Unemitted::TooDeep { at } => write_numbered(sink, b"refused TooDeep ", *at),
-        Unemitted::Syntax { at } => write_numbered(sink, b"refused Syntax ", *at),
-        Unemitted::Later => put(sink, b"refused Later\n"),
-        Unemitted::Unbound { at, name } => write_unbound(sink, *at, name),
-        Unemitted::Mem => unreachable!(),
+    match why {
+        Refused::Program(refusal) => refusal_in_scope(refusal),
+        Refused::Mem => false,
+        _ => true,
+    }
+}
+
+/// Writes the line of a refusal, which has one. Takes no memory.
+pub fn write_line<K: Sink>(sink: &mut K, why: &Refused) -> Result<(), WriteFault>
+    requires { HasLine why.now }
+    ensures { Wrote (K.told sink.old) (K.told sink.new) (refusal_line why.now) result }
+{
+    match why {
+        Refused::BadByte { at } => write_numbered(sink, b"refused BadByte ", *at),
+        Refused::BadText { at } => write_numbered(sink, b"refused BadText ", *at),
+        Refused::Wide { at } => write_numbered(sink, b"refused Wide ", *at),
+        Refused::TooDeep { at } => write_numbered(sink, b"refused TooDeep ", *at),
+        Refused::Syntax { at } => write_numbered(sink, b"refused Syntax ", *at),
+        Refused::Program(refusal) => write_refusal(sink, refusal),
+        Refused::Mem => unreachable!(),
     }
 }
 
 // Writes a word, a number and the end of the line.
-fn write_numbered<K: Sink>(sink: &mut K, word: &[u8], number: u32) -> Result<(), WriteFault>
+pub(crate) fn write_numbered<K: Sink>(
+    sink: &mut K,
+    word: &[u8],
+    number: u32,
+) -> Result<(), WriteFault>
     ensures { Wrote (K.told sink.old) (K.told sink.new) (numbered word.now number) result }
 {
     let mut buffer = Buffer::new();
     put_all(
         sink,
         &[word, buffer.format(number).as_bytes(), b"\n".as_slice()],
-    )
-}
-
-// Writes the line of a name that is not bound.
-fn write_unbound<K: Sink>(sink: &mut K, at: Span, name: &Name) -> Result<(), WriteFault>
-    ensures { Wrote (K.told sink.old) (K.told sink.new) (unbound_line (place at) name.now) result }
-{
-    let mut from = Buffer::new();
-    let mut to = Buffer::new();
-    put_all(
-        sink,
-        &[
-            b"refused ".as_slice(),
-            from.format(at.from).as_bytes(),
-            b"-".as_slice(),
-            to.format(at.to).as_bytes(),
-            b" Unbound ".as_slice(),
-            name.bytes(),
-            b"\n".as_slice(),
-        ],
     )
 }

@@ -4,8 +4,7 @@ ghost use Rattle.fing_top.specs.declared.status.Status.TheVariants as answer;
 
 use fing_text::WriteFault;
 
-/// How the program ends; each is the exit status of its number. `Faulted` and `Spent` belong to commands that are not
-/// built yet.
+/// How the program ends; each is the exit status of its number.
 #[derive(Clone, Copy, Debug, PartialEq, Eq)]
 pub enum Status {
     /// The reply of a source that is accepted was written.

@@ -6,7 +6,8 @@ ghost use Rattle.fing_top.specs.Answer.{limit, AnswersBytes, Answers, Completes,
 ghost use Rattle.fing_top.specs.Words.{Line};
 
 use crate::command::{Command, command_of};
-use crate::emitting::emit;
+use crate::programs::{check, emit};
+use crate::running::run;
 use crate::status::Status;
 use crate::verifying::verify;
 use fing_text::{ReadEnd, Sink, Source, read_all};
@@ -30,7 +31,9 @@ fn reply<K: Sink>(
         (output (change (K.told sink.old) (K.told sink.new)) (change confirmed.old confirmed.new)) result }
 {
     match command {
+        Command::Check => check(alloc, bytes, sink, confirmed),
         Command::Emit => emit(alloc, bytes, sink, confirmed),
+        Command::Run { budget } => run(alloc, budget, bytes, sink, confirmed),
         Command::Verify => verify(alloc, bytes, sink, confirmed),
     }
 }
@@ -58,11 +61,13 @@ fn answered<S: Source, K: Sink>(
 
 /// Does all that the program does: `words` are those after the program's name.
 ///
-/// It reads the source to its end. For the command line `emit` it writes the Omega text of the program's type and term
-/// with status `Ok`, or the line of its refusal with status `Refused`; the checker confirms the term before anything is
-/// written. For `verify`, whose source is Omega text, it writes `well typed` with status `Ok`, or the line of the first
-/// refusal with status `Refused`. Where the reply's own status is `Ok`, `confirmed` becomes what the checker made of the
-/// term and the type that were derived or read; else it stands as it was.
+/// It reads the source to its end. For `check` it writes the effect and the signature of the program, for `emit` the Omega
+/// text of its encoded signature and its whole term, both with status `Ok`; for `run` the value that the term comes to
+/// within the budget with status `Ok`, its fault with `Faulted`, or the budget with `Spent`. Each of the three writes the
+/// line of the refusal with status `Refused` where the source has none of these; the checker confirms the term before
+/// anything is written. For `verify`, whose source is Omega text, it writes `well typed` with status `Ok`, or the line of
+/// the first refusal with status `Refused`. Where the reply's own status is `Ok`, `Faulted` or `Spent`, `confirmed`
+/// becomes what the checker made of the term and the type that were derived or read; else it stands as it was.
 ///
 /// The other statuses come in this order:
 /// `Words` exactly where the words are no command line that is built; `ReadFault` only where a read failed; `TooLong`

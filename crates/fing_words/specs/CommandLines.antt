@@ -52,12 +52,6 @@ abbrev pub ReadsAs : List Text → Option CommandLine → Type 0
 ReadsAs words None = (line : CommandLine) → IsCommandLine words line → ⊥
 ReadsAs words (Some line) = IsCommandLine words line
 
--- the commands that the program has so far
-abbrev pub IsBuilt : CommandLine → Type 0
-IsBuilt Emit = Unit {0}
-IsBuilt Verify = Unit {0}
-IsBuilt _ = ⊥
-
 -- words are at most one command line
 abbrev pub OneLine : Type 0
 OneLine = (words : List Text) (one other : CommandLine) → IsCommandLine words one → IsCommandLine words other → one ≡ other

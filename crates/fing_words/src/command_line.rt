@@ -1,6 +1,5 @@
 // Command lines.
-ghost use Rattle.std.specs.Prelude.{◌↔◌, IsTrue};
-ghost use Rattle.fing_words.specs.CommandLines.{IsBuilt, OneLine};
+ghost use Rattle.fing_words.specs.CommandLines.{OneLine};
 
 /// What the words after the program's name ask for.
 #[derive(Clone, Copy, Debug, PartialEq, Eq)]
@@ -15,15 +14,6 @@ pub enum CommandLine {
     Verify,
     /// `gen`: the counts of the generated program of this size, from 1 to 300.
     Gen { size: u32 },
-}
-
-impl CommandLine {
-    /// Whether the program has this command so far.
-    pub fn is_built(self) -> bool
-        ensures { IsTrue result ↔ IsBuilt self }
-    {
-        matches!(self, CommandLine::Emit | CommandLine::Verify)
-    }
 }
 
 /// Words are at most one command line.

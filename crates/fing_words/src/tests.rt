@@ -90,10 +90,3 @@ fn no_command_lines(rt: HostRuntime) -> Result<(), Fail> {
     }
     Ok(())
 }
-
-#[test]
-fn built_commands(rt: HostRuntime) {
-    assert!(rt; CommandLine::Emit.is_built());
-    assert!(rt; CommandLine::Verify.is_built());
-    assert!(rt; !CommandLine::Run { budget: 1 }.is_built());
-}

@@ -2,17 +2,18 @@
 ghost use Rattle.std.specs.Prelude.{◌≡◌, Some, None, IfOk, IfErr};
 ghost use Rattle.fing_grammar.specs.Grammar as the;
 ghost use Rattle.fing_grammar.specs.View.{atom_rule_in};
-ghost use Rattle.parse_forms.specs.Part.{held};
-ghost use Rattle.parse_forms.specs.Play.{played, played_any};
-ghost use Rattle.parse_forms.specs.declared.refusal.BuildRefusal.TheVariants.{Misfit};
+ghost use Rattle.parse_stack.specs.Part.{held};
+ghost use Rattle.parse_stack.specs.Play.{played, played_any};
+ghost use Rattle.parse_stack.specs.declared.refusal.BuildRefusal.TheVariants.{Misfit};
 
 use fing_grammar::grammar::AtomRule;
 use fing_syntax::{Exp, ExpWhat};
 use parse_forms::forms::{let_exp, pack_exp};
-use parse_forms::part::Part;
-use parse_forms::refusal::BuildRefusal;
-use parse_forms::stack::Stack;
+use parse_forms::kept::Kept;
 use parse_forms::tokens::{bytes_in, named, number_in, up_to};
+use parse_stack::part::Part;
+use parse_stack::refusal::BuildRefusal;
+use parse_stack::stack::Stack;
 use std::alloc::Global;
 
 fn number(stack: &mut Stack<'_>) -> Result<(), BuildRefusal>
@@ -100,10 +101,11 @@ fn let_in(stack: &mut Stack<'_>, alloc: Global) -> Result<(), BuildRefusal>
     let word = stack.token()?;
     let mut binds = stack.binds()?;
     stack.token()?;
-    let body = stack.exp()?;
+    let body = Kept::new(stack.exp()?);
     let last = stack.token()?;
     binds.reverse();
-    let exp = let_exp(alloc, up_to(word.span, last.span), binds, body)?;
+    let span = up_to(word.span, last.span);
+    let exp = let_exp(alloc, span, binds, body.take())?;
     stack.push(Part::Exp(exp))?;
     Ok(())
 }
@@ -113,10 +115,11 @@ fn pack(stack: &mut Stack<'_>, alloc: Global) -> Result<(), BuildRefusal>
     ensures misfit { IfErr result (λ e. e ≡ Misfit → played the.exp_pack (held stack.old) ≡ None) }
 {
     let word = stack.token()?;
-    let module = stack.module()?;
+    let module = Kept::new(stack.module()?);
     stack.token()?;
     let sig = stack.sig()?;
-    let exp = pack_exp(alloc, up_to(word.span, sig.span), module, sig)?;
+    let span = up_to(word.span, sig.span);
+    let exp = pack_exp(alloc, span, module.take(), sig)?;
     stack.push(Part::Exp(exp))?;
     Ok(())
 }
@@ -126,12 +129,12 @@ fn paren(stack: &mut Stack<'_>) -> Result<(), BuildRefusal>
     ensures misfit { IfErr result (λ e. e ≡ Misfit → played the.exp_paren (held stack.old) ≡ None) }
 {
     let mark = stack.token()?;
-    let exp = stack.exp()?;
+    let exp = Kept::new(stack.exp()?);
     let last = stack.token()?;
     let span = up_to(mark.span, last.span);
     stack.push(Part::Exp(Exp {
         span,
-        what: exp.what,
+        what: exp.take().what,
     }))?;
     Ok(())
 }
@@ -149,11 +152,12 @@ fn field(stack: &mut Stack<'_>, alloc: Global) -> Result<(), BuildRefusal>
     ensures made { IfOk result (λ _. played the.exp_field (held stack.old) ≡ Some (held stack.new)) }
     ensures misfit { IfErr result (λ e. e ≡ Misfit → played the.exp_field (held stack.old) ≡ None) }
 {
-    let name = named(alloc, stack.token()?)?;
+    let name = stack.token()?;
     stack.token()?;
-    let value = stack.exp()?;
+    let value = Kept::new(stack.exp()?);
     let mut rest = stack.field_exps()?;
-    rest.push((name, value))?;
+    let name = named(alloc, name)?;
+    rest.push((name, value.take()))?;
     stack.push(Part::FieldExps(rest))?;
     Ok(())
 }
@@ -164,11 +168,12 @@ fn next_field(stack: &mut Stack<'_>, alloc: Global) -> Result<(), BuildRefusal>
     ensures misfit { IfErr result (λ e. e ≡ Misfit → played the.next_exp_field (held stack.old) ≡ None) }
 {
     stack.token()?;
-    let name = named(alloc, stack.token()?)?;
+    let name = stack.token()?;
     stack.token()?;
-    let value = stack.exp()?;
+    let value = Kept::new(stack.exp()?);
     let mut rest = stack.field_exps()?;
-    rest.push((name, value))?;
+    let name = named(alloc, name)?;
+    rest.push((name, value.take()))?;
     stack.push(Part::FieldExps(rest))?;
     Ok(())
 }

@@ -2,16 +2,17 @@
 ghost use Rattle.std.specs.Prelude.{◌≡◌, Some, None, IfOk, IfErr};
 ghost use Rattle.fing_grammar.specs.Grammar as the;
 ghost use Rattle.fing_grammar.specs.View.{bind_rule_in};
-ghost use Rattle.parse_forms.specs.Part.{held};
-ghost use Rattle.parse_forms.specs.Play.{played, played_any};
-ghost use Rattle.parse_forms.specs.declared.refusal.BuildRefusal.TheVariants.{Misfit};
+ghost use Rattle.parse_stack.specs.Part.{held};
+ghost use Rattle.parse_stack.specs.Play.{played, played_any};
+ghost use Rattle.parse_stack.specs.declared.refusal.BuildRefusal.TheVariants.{Misfit};
 
 use fing_grammar::grammar::BindRule;
 use fing_syntax::{Bind, BindWhat};
-use parse_forms::part::Part;
-use parse_forms::refusal::BuildRefusal;
-use parse_forms::stack::Stack;
+use parse_forms::kept::Kept;
 use parse_forms::tokens::{named, up_to};
+use parse_stack::part::Part;
+use parse_stack::refusal::BuildRefusal;
+use parse_stack::stack::Stack;
 use std::alloc::Global;
 
 fn none(stack: &mut Stack<'_>, alloc: Global) -> Result<(), BuildRefusal>
@@ -27,9 +28,9 @@ fn more(stack: &mut Stack<'_>) -> Result<(), BuildRefusal>
     ensures made { IfOk result (λ _. played the.more_binds (held stack.old) ≡ Some (held stack.new)) }
     ensures misfit { IfErr result (λ e. e ≡ Misfit → played the.more_binds (held stack.old) ≡ None) }
 {
-    let first = stack.bind()?;
+    let first = Kept::new(stack.bind()?);
     let mut rest = stack.binds()?;
-    rest.push(first)?;
+    rest.push(first.take())?;
     stack.push(Part::Binds(rest))?;
     Ok(())
 }
@@ -39,13 +40,14 @@ fn val(stack: &mut Stack<'_>, alloc: Global) -> Result<(), BuildRefusal>
     ensures misfit { IfErr result (λ e. e ≡ Misfit → played the.bind_val (held stack.old) ≡ None) }
 {
     let word = stack.token()?;
-    let name = named(alloc, stack.token()?)?;
+    let name = stack.token()?;
     stack.token()?;
-    let value = stack.exp()?;
-    let span = up_to(word.span, value.span);
+    let value = Kept::new(stack.exp()?);
+    let span = up_to(word.span, value.value.span);
+    let name = named(alloc, name)?;
     stack.push(Part::Bind(Bind {
         span,
-        what: BindWhat::Val(name, value),
+        what: BindWhat::Val(name, value.take()),
     }))?;
     Ok(())
 }
@@ -55,13 +57,14 @@ fn ty(stack: &mut Stack<'_>, alloc: Global) -> Result<(), BuildRefusal>
     ensures misfit { IfErr result (λ e. e ≡ Misfit → played the.bind_type (held stack.old) ≡ None) }
 {
     let word = stack.token()?;
-    let name = named(alloc, stack.token()?)?;
+    let name = stack.token()?;
     stack.token()?;
-    let ty = stack.ty()?;
-    let span = up_to(word.span, ty.span);
+    let ty = Kept::new(stack.ty()?);
+    let span = up_to(word.span, ty.value.span);
+    let name = named(alloc, name)?;
     stack.push(Part::Bind(Bind {
         span,
-        what: BindWhat::Ty(name, ty),
+        what: BindWhat::Ty(name, ty.take()),
     }))?;
     Ok(())
 }
@@ -71,13 +74,14 @@ fn module(stack: &mut Stack<'_>, alloc: Global) -> Result<(), BuildRefusal>
     ensures misfit { IfErr result (λ e. e ≡ Misfit → played the.bind_module (held stack.old) ≡ None) }
 {
     let word = stack.token()?;
-    let name = named(alloc, stack.token()?)?;
+    let name = stack.token()?;
     stack.token()?;
-    let module = stack.module()?;
-    let span = up_to(word.span, module.span);
+    let module = Kept::new(stack.module()?);
+    let span = up_to(word.span, module.value.span);
+    let name = named(alloc, name)?;
     stack.push(Part::Bind(Bind {
         span,
-        what: BindWhat::Module(name, module),
+        what: BindWhat::Module(name, module.take()),
     }))?;
     Ok(())
 }
@@ -87,13 +91,14 @@ fn signature(stack: &mut Stack<'_>, alloc: Global) -> Result<(), BuildRefusal>
     ensures misfit { IfErr result (λ e. e ≡ Misfit → played the.bind_signature (held stack.old) ≡ None) }
 {
     let word = stack.token()?;
-    let name = named(alloc, stack.token()?)?;
+    let name = stack.token()?;
     stack.token()?;
-    let sig = stack.sig()?;
-    let span = up_to(word.span, sig.span);
+    let sig = Kept::new(stack.sig()?);
+    let span = up_to(word.span, sig.value.span);
+    let name = named(alloc, name)?;
     stack.push(Part::Bind(Bind {
         span,
-        what: BindWhat::Signature(name, sig),
+        what: BindWhat::Signature(name, sig.take()),
     }))?;
     Ok(())
 }

@@ -2,17 +2,19 @@
 ghost use Rattle.std.specs.Prelude.{◌≡◌, Some, None, IfOk, IfErr};
 ghost use Rattle.fing_grammar.specs.Grammar as the;
 ghost use Rattle.fing_grammar.specs.View.{decl_rule_in};
-ghost use Rattle.parse_forms.specs.Part.{held};
-ghost use Rattle.parse_forms.specs.Play.{played, played_any};
-ghost use Rattle.parse_forms.specs.declared.refusal.BuildRefusal.TheVariants.{Misfit};
+ghost use Rattle.parse_stack.specs.Part.{held};
+ghost use Rattle.parse_stack.specs.Play.{played, played_any};
+ghost use Rattle.parse_stack.specs.declared.refusal.BuildRefusal.TheVariants.{Misfit};
 
 use fing_grammar::grammar::DeclRule;
 use fing_syntax::{Decl, DeclWhat};
 use parse_forms::forms::declared_type;
-use parse_forms::part::{Part, TypeTail};
-use parse_forms::refusal::BuildRefusal;
-use parse_forms::stack::Stack;
+use parse_forms::kept::Kept;
+use parse_forms::part::TypeTail;
 use parse_forms::tokens::{named, up_to};
+use parse_stack::part::Part;
+use parse_stack::refusal::BuildRefusal;
+use parse_stack::stack::Stack;
 use std::alloc::Global;
 
 fn none(stack: &mut Stack<'_>, alloc: Global) -> Result<(), BuildRefusal>
@@ -28,9 +30,9 @@ fn more(stack: &mut Stack<'_>) -> Result<(), BuildRefusal>
     ensures made { IfOk result (λ _. played the.more_decls (held stack.old) ≡ Some (held stack.new)) }
     ensures misfit { IfErr result (λ e. e ≡ Misfit → played the.more_decls (held stack.old) ≡ None) }
 {
-    let first = stack.decl()?;
+    let first = Kept::new(stack.decl()?);
     let mut rest = stack.decls()?;
-    rest.push(first)?;
+    rest.push(first.take())?;
     stack.push(Part::Decls(rest))?;
     Ok(())
 }
@@ -40,13 +42,14 @@ fn val(stack: &mut Stack<'_>, alloc: Global) -> Result<(), BuildRefusal>
     ensures misfit { IfErr result (λ e. e ≡ Misfit → played the.decl_val (held stack.old) ≡ None) }
 {
     let word = stack.token()?;
-    let name = named(alloc, stack.token()?)?;
+    let name = stack.token()?;
     stack.token()?;
-    let ty = stack.ty()?;
-    let span = up_to(word.span, ty.span);
+    let ty = Kept::new(stack.ty()?);
+    let span = up_to(word.span, ty.value.span);
+    let name = named(alloc, name)?;
     stack.push(Part::Decl(Decl {
         span,
-        what: DeclWhat::Val(name, ty),
+        what: DeclWhat::Val(name, ty.take()),
     }))?;
     Ok(())
 }
@@ -68,13 +71,14 @@ fn module(stack: &mut Stack<'_>, alloc: Global) -> Result<(), BuildRefusal>
     ensures misfit { IfErr result (λ e. e ≡ Misfit → played the.decl_module (held stack.old) ≡ None) }
 {
     let word = stack.token()?;
-    let name = named(alloc, stack.token()?)?;
+    let name = stack.token()?;
     stack.token()?;
-    let sig = stack.sig()?;
-    let span = up_to(word.span, sig.span);
+    let sig = Kept::new(stack.sig()?);
+    let span = up_to(word.span, sig.value.span);
+    let name = named(alloc, name)?;
     stack.push(Part::Decl(Decl {
         span,
-        what: DeclWhat::Module(name, sig),
+        what: DeclWhat::Module(name, sig.take()),
     }))?;
     Ok(())
 }
@@ -84,13 +88,14 @@ fn signature(stack: &mut Stack<'_>, alloc: Global) -> Result<(), BuildRefusal>
     ensures misfit { IfErr result (λ e. e ≡ Misfit → played the.decl_signature (held stack.old) ≡ None) }
 {
     let word = stack.token()?;
-    let name = named(alloc, stack.token()?)?;
+    let name = stack.token()?;
     stack.token()?;
-    let sig = stack.sig()?;
-    let span = up_to(word.span, sig.span);
+    let sig = Kept::new(stack.sig()?);
+    let span = up_to(word.span, sig.value.span);
+    let name = named(alloc, name)?;
     stack.push(Part::Decl(Decl {
         span,
-        what: DeclWhat::Signature(name, sig),
+        what: DeclWhat::Signature(name, sig.take()),
     }))?;
     Ok(())
 }

@@ -2,17 +2,18 @@
 ghost use Rattle.std.specs.Prelude.{◌≡◌, Some, None, IfOk, IfErr};
 ghost use Rattle.fing_grammar.specs.Grammar as the;
 ghost use Rattle.fing_grammar.specs.View.{path_rule_in};
-ghost use Rattle.parse_forms.specs.Part.{held};
-ghost use Rattle.parse_forms.specs.Play.{played, played_any};
-ghost use Rattle.parse_forms.specs.declared.refusal.BuildRefusal.TheVariants.{Misfit};
+ghost use Rattle.parse_stack.specs.Part.{held};
+ghost use Rattle.parse_stack.specs.Play.{played, played_any};
+ghost use Rattle.parse_stack.specs.declared.refusal.BuildRefusal.TheVariants.{Misfit};
 
 use fing_grammar::grammar::PathRule;
 use fing_syntax::{Mod, ModWhat};
 use parse_forms::chains::{project_all, projected};
-use parse_forms::part::Part;
-use parse_forms::refusal::BuildRefusal;
-use parse_forms::stack::Stack;
+use parse_forms::kept::Kept;
 use parse_forms::tokens::{named, up_to};
+use parse_stack::part::Part;
+use parse_stack::refusal::BuildRefusal;
+use parse_stack::stack::Stack;
 use std::alloc::Global;
 
 fn name(stack: &mut Stack<'_>, alloc: Global) -> Result<(), BuildRefusal>
@@ -36,17 +37,14 @@ fn from(stack: &mut Stack<'_>, alloc: Global) -> Result<(), BuildRefusal>
 {
     let word = stack.token()?;
     stack.token()?;
-    let module = stack.module()?;
+    let module = Kept::new(stack.module()?);
     stack.token()?;
     stack.token()?;
     let name = stack.token()?;
     let names = stack.names()?;
-    let whole = projected(
-        alloc,
-        up_to(word.span, name.span),
-        module,
-        named(alloc, name)?,
-    )?;
+    let span = up_to(word.span, name.span);
+    let name = named(alloc, name)?;
+    let whole = projected(alloc, span, module.take(), name)?;
     let path = project_all(alloc, whole, names)?;
     stack.push(Part::Mod(path))?;
     Ok(())
@@ -66,9 +64,9 @@ fn more_dots(stack: &mut Stack<'_>, alloc: Global) -> Result<(), BuildRefusal>
     ensures misfit { IfErr result (λ e. e ≡ Misfit → played the.more_dots (held stack.old) ≡ None) }
 {
     stack.token()?;
-    let name = named(alloc, stack.token()?)?;
+    let name = stack.token()?;
     let mut rest = stack.names()?;
-    rest.push(name)?;
+    rest.push(named(alloc, name)?)?;
     stack.push(Part::Names(rest))?;
     Ok(())
 }

@@ -2,18 +2,20 @@
 ghost use Rattle.std.specs.Prelude.{◌≡◌, Some, None, IfOk, IfErr};
 ghost use Rattle.fing_grammar.specs.Grammar as the;
 ghost use Rattle.fing_grammar.specs.View.{exp_rule_in};
-ghost use Rattle.parse_forms.specs.Part.{held};
-ghost use Rattle.parse_forms.specs.Play.{played, played_any};
-ghost use Rattle.parse_forms.specs.declared.refusal.BuildRefusal.TheVariants.{Misfit};
+ghost use Rattle.parse_stack.specs.Part.{held};
+ghost use Rattle.parse_stack.specs.Play.{played, played_any};
+ghost use Rattle.parse_stack.specs.declared.refusal.BuildRefusal.TheVariants.{Misfit};
 
 use fing_grammar::grammar::ExpRule;
 use fing_syntax::{Exp, ExpWhat};
 use parse_forms::chains::ops_chain;
 use parse_forms::forms::abstracted;
-use parse_forms::part::{Abstraction, Part};
-use parse_forms::refusal::BuildRefusal;
-use parse_forms::stack::Stack;
+use parse_forms::kept::Kept;
+use parse_forms::part::Abstraction;
 use parse_forms::tokens::{named, up_to};
+use parse_stack::part::Part;
+use parse_stack::refusal::BuildRefusal;
+use parse_stack::stack::Stack;
 use std::alloc::Global;
 
 fn fun(stack: &mut Stack<'_>, alloc: Global) -> Result<(), BuildRefusal>
@@ -32,25 +34,27 @@ fn fix(stack: &mut Stack<'_>, alloc: Global) -> Result<(), BuildRefusal>
     ensures misfit { IfErr result (λ e. e ≡ Misfit → played the.exp_fix (held stack.old) ≡ None) }
 {
     let word = stack.token()?;
-    let function = named(alloc, stack.token()?)?;
+    let function = stack.token()?;
     stack.token()?;
-    let name = named(alloc, stack.token()?)?;
+    let name = stack.token()?;
     stack.token()?;
-    let param = stack.ty()?;
+    let param = Kept::new(stack.ty()?);
     stack.token()?;
     stack.token()?;
-    let result = stack.ty()?;
+    let result = Kept::new(stack.ty()?);
     stack.token()?;
     let body = stack.exp()?;
     let span = up_to(word.span, body.span);
     let body = Box::new(alloc, body)?;
+    let function = named(alloc, function)?;
+    let name = named(alloc, name)?;
     stack.push(Part::Exp(Exp {
         span,
         what: ExpWhat::Fix {
             function,
             name,
-            param,
-            result,
+            param: param.take(),
+            result: result.take(),
             body,
         },
     }))?;
@@ -80,9 +84,9 @@ fn compare(stack: &mut Stack<'_>, alloc: Global) -> Result<(), BuildRefusal>
     ensures made { IfOk result (λ _. played the.exp_compare (held stack.old) ≡ Some (held stack.new)) }
     ensures misfit { IfErr result (λ e. e ≡ Misfit → played the.exp_compare (held stack.old) ≡ None) }
 {
-    let first = stack.exp()?;
+    let first = Kept::new(stack.exp()?);
     let rest = stack.ops()?;
-    let exp = ops_chain(alloc, first, rest)?;
+    let exp = ops_chain(alloc, first.take(), rest)?;
     stack.push(Part::Exp(exp))?;
     Ok(())
 }
@@ -92,13 +96,15 @@ fn lam_value(stack: &mut Stack<'_>, alloc: Global) -> Result<(), BuildRefusal>
     ensures misfit { IfErr result (λ e. e ≡ Misfit → played the.lam_value (held stack.old) ≡ None) }
 {
     stack.token()?;
-    let name = named(alloc, stack.token()?)?;
+    let name = stack.token()?;
     stack.token()?;
-    let ty = stack.ty()?;
+    let ty = Kept::new(stack.ty()?);
     stack.token()?;
     stack.token()?;
-    let body = stack.exp()?;
-    stack.push(Part::Abstraction(Abstraction::Value(name, ty, body)))?;
+    let body = Kept::new(stack.exp()?);
+    let name = named(alloc, name)?;
+    let abstraction = Abstraction::Value(name, ty.take(), body.take());
+    stack.push(Part::Abstraction(abstraction))?;
     Ok(())
 }
 
@@ -107,13 +113,15 @@ fn lam_type(stack: &mut Stack<'_>, alloc: Global) -> Result<(), BuildRefusal>
     ensures misfit { IfErr result (λ e. e ≡ Misfit → played the.lam_type (held stack.old) ≡ None) }
 {
     stack.token()?;
-    let name = named(alloc, stack.token()?)?;
+    let name = stack.token()?;
     stack.token()?;
-    let kind = stack.kind()?.kind;
+    let kind = Kept::new(stack.kind()?.kind);
     stack.token()?;
     stack.token()?;
-    let body = stack.exp()?;
-    stack.push(Part::Abstraction(Abstraction::Type(name, kind, body)))?;
+    let body = Kept::new(stack.exp()?);
+    let name = named(alloc, name)?;
+    let abstraction = Abstraction::Type(name, kind.take(), body.take());
+    stack.push(Part::Abstraction(abstraction))?;
     Ok(())
 }
 

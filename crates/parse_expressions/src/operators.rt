@@ -2,16 +2,17 @@
 ghost use Rattle.std.specs.Prelude.{◌≡◌, Some, None, IfOk, IfErr};
 ghost use Rattle.fing_grammar.specs.Grammar as the;
 ghost use Rattle.fing_grammar.specs.View.{op_rule_in};
-ghost use Rattle.parse_forms.specs.Part.{held};
-ghost use Rattle.parse_forms.specs.Play.{played, played_any};
-ghost use Rattle.parse_forms.specs.declared.refusal.BuildRefusal.TheVariants.{Misfit};
+ghost use Rattle.parse_stack.specs.Part.{held};
+ghost use Rattle.parse_stack.specs.Play.{played, played_any};
+ghost use Rattle.parse_stack.specs.declared.refusal.BuildRefusal.TheVariants.{Misfit};
 
 use fing_grammar::grammar::OpRule;
 use fing_syntax::Op;
 use parse_forms::chains::ops_chain;
-use parse_forms::part::Part;
-use parse_forms::refusal::BuildRefusal;
-use parse_forms::stack::Stack;
+use parse_forms::kept::Kept;
+use parse_stack::part::Part;
+use parse_stack::refusal::BuildRefusal;
+use parse_stack::stack::Stack;
 use std::alloc::Global;
 
 fn no_ops(stack: &mut Stack<'_>, alloc: Global) -> Result<(), BuildRefusal>
@@ -52,9 +53,9 @@ fn chain(stack: &mut Stack<'_>, alloc: Global) -> Result<(), BuildRefusal>
     ensures made { IfOk result (λ _. played the.sums (held stack.old) ≡ Some (held stack.new)) }
     ensures misfit { IfErr result (λ e. e ≡ Misfit → played the.sums (held stack.old) ≡ None) }
 {
-    let first = stack.exp()?;
+    let first = Kept::new(stack.exp()?);
     let rest = stack.ops()?;
-    let exp = ops_chain(alloc, first, rest)?;
+    let exp = ops_chain(alloc, first.take(), rest)?;
     stack.push(Part::Exp(exp))?;
     Ok(())
 }
@@ -65,9 +66,9 @@ fn add(stack: &mut Stack<'_>) -> Result<(), BuildRefusal>
     ensures misfit { IfErr result (λ e. e ≡ Misfit → played the.add (held stack.old) ≡ None) }
 {
     stack.token()?;
-    let right = stack.exp()?;
+    let right = Kept::new(stack.exp()?);
     let mut rest = stack.ops()?;
-    rest.push((Op::Add, right))?;
+    rest.push((Op::Add, right.take()))?;
     stack.push(Part::Ops(rest))?;
     Ok(())
 }
@@ -78,9 +79,9 @@ fn subtract(stack: &mut Stack<'_>) -> Result<(), BuildRefusal>
     ensures misfit { IfErr result (λ e. e ≡ Misfit → played the.subtract (held stack.old) ≡ None) }
 {
     stack.token()?;
-    let right = stack.exp()?;
+    let right = Kept::new(stack.exp()?);
     let mut rest = stack.ops()?;
-    rest.push((Op::Sub, right))?;
+    rest.push((Op::Sub, right.take()))?;
     stack.push(Part::Ops(rest))?;
     Ok(())
 }
@@ -91,9 +92,9 @@ fn multiply(stack: &mut Stack<'_>) -> Result<(), BuildRefusal>
     ensures misfit { IfErr result (λ e. e ≡ Misfit → played the.multiply (held stack.old) ≡ None) }
 {
     stack.token()?;
-    let right = stack.exp()?;
+    let right = Kept::new(stack.exp()?);
     let mut rest = stack.ops()?;
-    rest.push((Op::Mul, right))?;
+    rest.push((Op::Mul, right.take()))?;
     stack.push(Part::Ops(rest))?;
     Ok(())
 }
@@ -104,9 +105,9 @@ fn divide(stack: &mut Stack<'_>) -> Result<(), BuildRefusal>
     ensures misfit { IfErr result (λ e. e ≡ Misfit → played the.divide (held stack.old) ≡ None) }
 {
     stack.token()?;
-    let right = stack.exp()?;
+    let right = Kept::new(stack.exp()?);
     let mut rest = stack.ops()?;
-    rest.push((Op::Div, right))?;
+    rest.push((Op::Div, right.take()))?;
     stack.push(Part::Ops(rest))?;
     Ok(())
 }
@@ -117,9 +118,9 @@ fn remainder(stack: &mut Stack<'_>) -> Result<(), BuildRefusal>
     ensures misfit { IfErr result (λ e. e ≡ Misfit → played the.remainder (held stack.old) ≡ None) }
 {
     stack.token()?;
-    let right = stack.exp()?;
+    let right = Kept::new(stack.exp()?);
     let mut rest = stack.ops()?;
-    rest.push((Op::Rem, right))?;
+    rest.push((Op::Rem, right.take()))?;
     stack.push(Part::Ops(rest))?;
     Ok(())
 }

@@ -9,6 +9,7 @@ ghost use Rattle.fing_grammar.specs.Forms as form;
 ghost use Rattle.parse_forms.specs.Part.{kind_in, where_in, ascription_in};
 
 use crate::forms::{apply_mod, seal_mod, show_mod};
+use crate::kept::Kept;
 use crate::part::{Ascription, KindPart, Where};
 use crate::tokens::up_to;
 use fing_syntax::{Arg, Exp, ExpWhat, Mod, ModWhat, Op, SigEx, SigWhat, SpanName, TyEx, TyWhat};
@@ -37,8 +38,9 @@ pub fn arrow_chain(alloc: Global, from: TyEx, to: Option<TyEx>) -> Result<TyEx, 
         None => Ok(from),
         Some(to) => {
             let span = up_to(from.span, to.span);
+            let to = Kept::new(to);
             let from = Box::new(alloc, from)?;
-            let to = Box::new(alloc, to)?;
+            let to = Box::new(alloc, to.take())?;
             Ok(TyEx {
                 span,
                 what: TyWhat::Arrow(from, to),
@@ -198,14 +200,16 @@ fn refined(alloc: Global, sig: SigEx, refinement: Where) -> Result<SigEx, Mem>
     ensures { IfOk result (λ g. g ≡ form.refine sig (where_in refinement)) }
 {
     let span = up_to(sig.span, refinement.ty.span);
+    let refinement = Kept::new(refinement);
     let sig = Box::new(alloc, sig)?;
+    let Where { first, rest, ty } = refinement.take();
     Ok(SigEx {
         span,
         what: SigWhat::Refine {
             sig,
-            first: refinement.first,
-            rest: refinement.rest,
-            ty: refinement.ty,
+            first,
+            rest,
+            ty,
         },
     })
 }

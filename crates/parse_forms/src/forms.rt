@@ -5,6 +5,7 @@ ghost use Rattle.fing_syntax.specs.View.{binds as binds_of};
 ghost use Rattle.fing_grammar.specs.Forms as form;
 ghost use Rattle.parse_forms.specs.Part.{tail_in, abstraction_in};
 
+use crate::kept::Kept;
 use crate::part::{Abstraction, TypeTail};
 use crate::tokens::{hidden, named, up_to};
 use fing_lexer::Token;
@@ -33,10 +34,11 @@ fn result_of(alloc: Global, span: Span, binds: Vec<Bind>) -> Result<Mod, Mem>
 fn hidden_module(alloc: Global, span: Span, name: &[u8], inner: Mod) -> Result<Bind, Mem>
     ensures { IfOk result (λ b. b ≡ form.hidden_module (place span) name.now inner) }
 {
+    let inner = Kept::new(inner);
     let name = hidden(alloc, name, span)?;
     Ok(Bind {
         span,
-        what: BindWhat::Module(name, inner),
+        what: BindWhat::Module(name, inner.take()),
     })
 }
 
@@ -59,10 +61,12 @@ fn add_module(
 fn of_three(alloc: Global, span: Span, first: Mod, second: Mod, last: Mod) -> Result<Mod, Mem>
     ensures { IfOk result (λ m. m ≡ form.of_three (place span) first second last) }
 {
+    let second = Kept::new(second);
+    let last = Kept::new(last);
     let mut binds = Vec::new(alloc);
     add_module(alloc, &mut binds, span, b"%1", first)?;
-    add_module(alloc, &mut binds, span, b"%2", second)?;
-    add_module(alloc, &mut binds, span, b"%0", last)?;
+    add_module(alloc, &mut binds, span, b"%2", second.take())?;
+    add_module(alloc, &mut binds, span, b"%0", last.take())?;
     result_of(alloc, span, binds)
 }
 
@@ -70,10 +74,11 @@ fn of_three(alloc: Global, span: Span, first: Mod, second: Mod, last: Mod) -> Re
 fn hidden_val(alloc: Global, span: Span, value: Exp) -> Result<Bind, Mem>
     ensures { IfOk result (λ b. b ≡ form.hidden_val (place span) value) }
 {
+    let value = Kept::new(value);
     let name = hidden(alloc, b"%0", span)?;
     Ok(Bind {
         span,
-        what: BindWhat::Val(name, value),
+        what: BindWhat::Val(name, value.take()),
     })
 }
 
@@ -104,13 +109,15 @@ pub fn apply_mod(alloc: Global, function: Mod, argument: Mod) -> Result<Mod, Mem
     ensures { IfOk result (λ m. m ≡ form.apply_mod function argument) }
 {
     let span = up_to(function.span, argument.span);
-    let callee = hidden(alloc, b"%1", function.span)?;
-    let operand = hidden(alloc, b"%2", argument.span)?;
+    let function = Kept::new(function);
+    let argument = Kept::new(argument);
+    let callee = hidden(alloc, b"%1", function.value.span)?;
+    let operand = hidden(alloc, b"%2", argument.value.span)?;
     let applied = Mod {
         span,
         what: ModWhat::Apply(callee, operand),
     };
-    of_three(alloc, span, function, argument, applied)
+    of_three(alloc, span, function.take(), argument.take(), applied)
 }
 
 /// `M :> S`. `Err` is want of memory.
@@ -118,14 +125,16 @@ pub fn seal_mod(alloc: Global, inner: Mod, sig: SigEx) -> Result<Mod, Mem>
     ensures { IfOk result (λ m. m ≡ form.seal_mod inner sig) }
 {
     let span = up_to(inner.span, sig.span);
-    let name = hidden(alloc, b"%1", inner.span)?;
-    let sealed = Mod {
+    let inner = Kept::new(inner);
+    let sig = Box::new(alloc, sig)?;
+    let name = hidden(alloc, b"%1", inner.value.span)?;
+    let sealed = Kept::new(Mod {
         span,
-        what: ModWhat::Seal(name, Box::new(alloc, sig)?),
-    };
+        what: ModWhat::Seal(name, sig),
+    });
     let mut binds = Vec::new(alloc);
-    binds.push(hidden_module(alloc, span, b"%1", inner)?)?;
-    binds.push(hidden_module(alloc, span, b"%0", sealed)?)?;
+    add_module(alloc, &mut binds, span, b"%1", inner.take())?;
+    add_module(alloc, &mut binds, span, b"%0", sealed.take())?;
     result_of(alloc, span, binds)
 }
 
@@ -133,13 +142,13 @@ pub fn seal_mod(alloc: Global, inner: Mod, sig: SigEx) -> Result<Mod, Mem>
 fn identity(alloc: Global, span: Span, sig: SigEx) -> Result<Mod, Mem>
     ensures { IfOk result (λ m. m ≡ form.identity (place span) sig) }
 {
+    let param = Box::new(alloc, sig)?;
     let body = Mod {
         span,
         what: ModWhat::Name(hidden(alloc, b"%3", span)?),
     };
     let body = Box::new(alloc, body)?;
     let name = hidden(alloc, b"%3", span)?;
-    let param = Box::new(alloc, sig)?;
     Ok(Mod {
         span,
         what: ModWhat::Functor {
@@ -156,22 +165,23 @@ pub fn show_mod(alloc: Global, inner: Mod, sig: SigEx) -> Result<Mod, Mem>
     ensures { IfOk result (λ m. m ≡ form.show_mod inner sig) }
 {
     let span = up_to(inner.span, sig.span);
+    let inner = Kept::new(inner);
+    let function = Kept::new(identity(alloc, span, sig)?);
     let callee = hidden(alloc, b"%2", span)?;
-    let operand = hidden(alloc, b"%1", inner.span)?;
+    let operand = hidden(alloc, b"%1", inner.value.span)?;
     let applied = Mod {
         span,
         what: ModWhat::Apply(callee, operand),
     };
-    let function = identity(alloc, span, sig)?;
-    of_three(alloc, span, inner, function, applied)
+    of_three(alloc, span, inner.take(), function.take(), applied)
 }
 
 // `pack %1 : S`, for the hidden name of a module that stands at this place
 fn hidden_pack(alloc: Global, span: Span, at: Span, sig: SigEx) -> Result<Exp, Mem>
     ensures { IfOk result (λ e. e ≡ form.hidden_pack (place span) (place at) sig) }
 {
-    let name = hidden(alloc, b"%1", at)?;
     let sig = Box::new(alloc, sig)?;
+    let name = hidden(alloc, b"%1", at)?;
     Ok(Exp {
         span,
         what: ExpWhat::Pack(name, sig),
@@ -193,12 +203,12 @@ fn value_of(alloc: Global, span: Span, binds: Vec<Bind>) -> Result<Exp, Mem>
 pub fn pack_exp(alloc: Global, span: Span, inner: Mod, sig: SigEx) -> Result<Exp, Mem>
     ensures { IfOk result (λ e. e ≡ form.pack_exp (place span) inner sig) }
 {
-    let packed = hidden_pack(alloc, span, inner.span, sig)?;
-    let last = hidden_val(alloc, span, packed)?;
-    let first = hidden_module(alloc, span, b"%1", inner)?;
+    let inner = Kept::new(inner);
+    let packed = hidden_pack(alloc, span, inner.value.span, sig)?;
+    let last = Kept::new(hidden_val(alloc, span, packed)?);
     let mut binds = Vec::new(alloc);
-    binds.push(first)?;
-    binds.push(last)?;
+    add_module(alloc, &mut binds, span, b"%1", inner.take())?;
+    binds.push(last.take())?;
     value_of(alloc, span, binds)
 }
 
@@ -207,8 +217,9 @@ pub fn declared_type(alloc: Global, word: &Token, name: &Token, tail: TypeTail) 
     ensures { IfOk result (λ d. d ≡ form.decl_type_of word.now name.now (tail_in tail)) }
 {
     let end = name.span;
+    let tail = Kept::new(tail);
     let name = named(alloc, name)?;
-    Ok(match tail {
+    Ok(match tail.take() {
         TypeTail::Open => Decl {
             span: up_to(word.span, end),
             what: DeclWhat::TyOf(name, Kind::Star),
@@ -231,10 +242,11 @@ pub fn abstracted(alloc: Global, word: &Token, abstraction: Abstraction) -> Resu
     match abstraction {
         Abstraction::Value(name, ty, body) => {
             let span = up_to(word.span, body.span);
+            let ty = Kept::new(ty);
             let body = Box::new(alloc, body)?;
             Ok(Exp {
                 span,
-                what: ExpWhat::Lam(name, ty, body),
+                what: ExpWhat::Lam(name, ty.take(), body),
             })
         }
         Abstraction::Type(name, kind, body) => {

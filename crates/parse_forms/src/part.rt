@@ -1,6 +1,5 @@
-// What stands on the parser's stack. A list that grows is kept with its first item last.
-use fing_lexer::Token;
-use fing_syntax::{Arg, Bind, Decl, Exp, Mod, Op, SigEx, SpanName, TyEx};
+// What phrases give that are no trees of their own: kinds, tails of declarations, refinements.
+use fing_syntax::{Exp, SigEx, SpanName, TyEx};
 use fing_text::Span;
 use omega_kinds::Kind;
 
@@ -39,33 +38,4 @@ pub enum Ascription {
 pub enum Abstraction {
     Value(SpanName, TyEx, Exp),
     Type(SpanName, Kind, Exp),
-}
-
-/// A token, or what a phrase of some class gives.
-#[derive(Drop)]
-pub enum Part<'a> {
-    Token(&'a Token),
-    Binds(Vec<Bind>),
-    Bind(Bind),
-    Decls(Vec<Decl>),
-    Decl(Decl),
-    Tail(TypeTail),
-    Kind(KindPart),
-    KindArrow(Option<KindPart>),
-    Mod(Mod),
-    Names(Vec<SpanName>),
-    Ty(TyEx),
-    TyArrow(Option<TyEx>),
-    Tys(Vec<TyEx>),
-    FieldTys(Vec<(SpanName, TyEx)>),
-    Sig(SigEx),
-    Pure(bool),
-    Wheres(Vec<Where>),
-    Mods(Vec<Mod>),
-    Ascriptions(Vec<Ascription>),
-    Exp(Exp),
-    Abstraction(Abstraction),
-    Ops(Vec<(Op, Exp)>),
-    Args(Vec<Arg>),
-    FieldExps(Vec<(SpanName, Exp)>),
 }

@@ -2,26 +2,27 @@
 ghost use Rattle.std.specs.Prelude.{◌≡◌, Some, None, IfOk, IfErr};
 ghost use Rattle.fing_grammar.specs.Grammar as the;
 ghost use Rattle.fing_grammar.specs.View.{arg_rule_in};
-ghost use Rattle.parse_forms.specs.Part.{held};
-ghost use Rattle.parse_forms.specs.Play.{played, played_any};
-ghost use Rattle.parse_forms.specs.declared.refusal.BuildRefusal.TheVariants.{Misfit};
+ghost use Rattle.parse_stack.specs.Part.{held};
+ghost use Rattle.parse_stack.specs.Play.{played, played_any};
+ghost use Rattle.parse_stack.specs.declared.refusal.BuildRefusal.TheVariants.{Misfit};
 
 use fing_grammar::grammar::ArgRule;
 use fing_syntax::Arg;
 use parse_forms::chains::{args_chain, get_all};
-use parse_forms::part::Part;
-use parse_forms::refusal::BuildRefusal;
-use parse_forms::stack::Stack;
+use parse_forms::kept::Kept;
 use parse_forms::tokens::{named, up_to};
+use parse_stack::part::Part;
+use parse_stack::refusal::BuildRefusal;
+use parse_stack::stack::Stack;
 use std::alloc::Global;
 
 fn args(stack: &mut Stack<'_>, alloc: Global) -> Result<(), BuildRefusal>
     ensures made { IfOk result (λ _. played the.exp_args (held stack.old) ≡ Some (held stack.new)) }
     ensures misfit { IfErr result (λ e. e ≡ Misfit → played the.exp_args (held stack.old) ≡ None) }
 {
-    let function = stack.exp()?;
+    let function = Kept::new(stack.exp()?);
     let args = stack.args()?;
-    let exp = args_chain(alloc, function, args)?;
+    let exp = args_chain(alloc, function.take(), args)?;
     stack.push(Part::Exp(exp))?;
     Ok(())
 }
@@ -39,9 +40,9 @@ fn value(stack: &mut Stack<'_>) -> Result<(), BuildRefusal>
     ensures made { IfOk result (λ _. played the.exp_arg (held stack.old) ≡ Some (held stack.new)) }
     ensures misfit { IfErr result (λ e. e ≡ Misfit → played the.exp_arg (held stack.old) ≡ None) }
 {
-    let first = stack.exp()?;
+    let first = Kept::new(stack.exp()?);
     let mut rest = stack.args()?;
-    rest.push(Arg::Exp(first))?;
+    rest.push(Arg::Exp(first.take()))?;
     stack.push(Part::Args(rest))?;
     Ok(())
 }
@@ -52,10 +53,10 @@ fn ty(stack: &mut Stack<'_>) -> Result<(), BuildRefusal>
     ensures misfit { IfErr result (λ e. e ≡ Misfit → played the.ty_arg (held stack.old) ≡ None) }
 {
     let mark = stack.token()?;
-    let ty = stack.ty()?;
+    let ty = Kept::new(stack.ty()?);
     let last = stack.token()?;
     let mut rest = stack.args()?;
-    rest.push(Arg::Ty(ty, up_to(mark.span, last.span)))?;
+    rest.push(Arg::Ty(ty.take(), up_to(mark.span, last.span)))?;
     stack.push(Part::Args(rest))?;
     Ok(())
 }
@@ -64,9 +65,9 @@ fn gets(stack: &mut Stack<'_>, alloc: Global) -> Result<(), BuildRefusal>
     ensures made { IfOk result (λ _. played the.exp_gets (held stack.old) ≡ Some (held stack.new)) }
     ensures misfit { IfErr result (λ e. e ≡ Misfit → played the.exp_gets (held stack.old) ≡ None) }
 {
-    let first = stack.exp()?;
+    let first = Kept::new(stack.exp()?);
     let names = stack.names()?;
-    let exp = get_all(alloc, first, names)?;
+    let exp = get_all(alloc, first.take(), names)?;
     stack.push(Part::Exp(exp))?;
     Ok(())
 }
@@ -85,9 +86,9 @@ fn more_gets(stack: &mut Stack<'_>, alloc: Global) -> Result<(), BuildRefusal>
     ensures misfit { IfErr result (λ e. e ≡ Misfit → played the.more_gets (held stack.old) ≡ None) }
 {
     stack.token()?;
-    let name = named(alloc, stack.token()?)?;
+    let name = stack.token()?;
     let mut rest = stack.names()?;
-    rest.push(name)?;
+    rest.push(named(alloc, name)?)?;
     stack.push(Part::Names(rest))?;
     Ok(())
 }

@@ -2,18 +2,20 @@
 ghost use Rattle.std.specs.Prelude.{◌≡◌, Some, None, IfOk, IfErr};
 ghost use Rattle.fing_grammar.specs.Grammar as the;
 ghost use Rattle.fing_grammar.specs.View.{mod_rule_in};
-ghost use Rattle.parse_forms.specs.Part.{held};
-ghost use Rattle.parse_forms.specs.Play.{played, played_any};
-ghost use Rattle.parse_forms.specs.declared.refusal.BuildRefusal.TheVariants.{Misfit};
+ghost use Rattle.parse_stack.specs.Part.{held};
+ghost use Rattle.parse_stack.specs.Play.{played, played_any};
+ghost use Rattle.parse_stack.specs.declared.refusal.BuildRefusal.TheVariants.{Misfit};
 
 use fing_grammar::grammar::ModRule;
 use fing_syntax::{Mod, ModWhat};
 use parse_forms::chains::{apply_all, ascribe_all};
 use parse_forms::forms::let_mod;
-use parse_forms::part::{Ascription, Part};
-use parse_forms::refusal::BuildRefusal;
-use parse_forms::stack::Stack;
+use parse_forms::kept::Kept;
+use parse_forms::part::Ascription;
 use parse_forms::tokens::{named, up_to};
+use parse_stack::part::Part;
+use parse_stack::refusal::BuildRefusal;
+use parse_stack::stack::Stack;
 use std::alloc::Global;
 
 fn fun(stack: &mut Stack<'_>, alloc: Global) -> Result<(), BuildRefusal>
@@ -22,7 +24,7 @@ fn fun(stack: &mut Stack<'_>, alloc: Global) -> Result<(), BuildRefusal>
 {
     let word = stack.token()?;
     stack.token()?;
-    let name = named(alloc, stack.token()?)?;
+    let name = stack.token()?;
     stack.token()?;
     let param = Box::new(alloc, stack.sig()?)?;
     stack.token()?;
@@ -30,6 +32,7 @@ fn fun(stack: &mut Stack<'_>, alloc: Global) -> Result<(), BuildRefusal>
     let body = stack.module()?;
     let span = up_to(word.span, body.span);
     let body = Box::new(alloc, body)?;
+    let name = named(alloc, name)?;
     stack.push(Part::Mod(Mod {
         span,
         what: ModWhat::Functor {
@@ -48,7 +51,7 @@ fn generative(stack: &mut Stack<'_>, alloc: Global) -> Result<(), BuildRefusal>
 {
     let word = stack.token()?;
     stack.token()?;
-    let name = named(alloc, stack.token()?)?;
+    let name = stack.token()?;
     stack.token()?;
     let param = Box::new(alloc, stack.sig()?)?;
     stack.token()?;
@@ -56,6 +59,7 @@ fn generative(stack: &mut Stack<'_>, alloc: Global) -> Result<(), BuildRefusal>
     let body = stack.module()?;
     let span = up_to(word.span, body.span);
     let body = Box::new(alloc, body)?;
+    let name = named(alloc, name)?;
     stack.push(Part::Mod(Mod {
         span,
         what: ModWhat::Functor {
@@ -89,10 +93,10 @@ fn chain(stack: &mut Stack<'_>, alloc: Global) -> Result<(), BuildRefusal>
     ensures made { IfOk result (λ _. played the.mod_chain (held stack.old) ≡ Some (held stack.new)) }
     ensures misfit { IfErr result (λ e. e ≡ Misfit → played the.mod_chain (held stack.old) ≡ None) }
 {
-    let first = stack.module()?;
+    let first = Kept::new(stack.module()?);
     let args = stack.mods()?;
     let seals = stack.ascriptions()?;
-    let applied = apply_all(alloc, first, args)?;
+    let applied = apply_all(alloc, first.take(), args)?;
     let module = ascribe_all(alloc, applied, seals)?;
     stack.push(Part::Mod(module))?;
     Ok(())
@@ -111,9 +115,9 @@ fn more_args(stack: &mut Stack<'_>) -> Result<(), BuildRefusal>
     ensures made { IfOk result (λ _. played the.more_mod_args (held stack.old) ≡ Some (held stack.new)) }
     ensures misfit { IfErr result (λ e. e ≡ Misfit → played the.more_mod_args (held stack.old) ≡ None) }
 {
-    let first = stack.module()?;
+    let first = Kept::new(stack.module()?);
     let mut rest = stack.mods()?;
-    rest.push(first)?;
+    rest.push(first.take())?;
     stack.push(Part::Mods(rest))?;
     Ok(())
 }
@@ -132,9 +136,9 @@ fn seal(stack: &mut Stack<'_>) -> Result<(), BuildRefusal>
     ensures misfit { IfErr result (λ e. e ≡ Misfit → played the.seal (held stack.old) ≡ None) }
 {
     stack.token()?;
-    let sig = stack.sig()?;
+    let sig = Kept::new(stack.sig()?);
     let mut rest = stack.ascriptions()?;
-    rest.push(Ascription::Sealed(sig))?;
+    rest.push(Ascription::Sealed(sig.take()))?;
     stack.push(Part::Ascriptions(rest))?;
     Ok(())
 }
@@ -145,9 +149,9 @@ fn ascribe(stack: &mut Stack<'_>) -> Result<(), BuildRefusal>
     ensures misfit { IfErr result (λ e. e ≡ Misfit → played the.ascribe (held stack.old) ≡ None) }
 {
     stack.token()?;
-    let sig = stack.sig()?;
+    let sig = Kept::new(stack.sig()?);
     let mut rest = stack.ascriptions()?;
-    rest.push(Ascription::Shown(sig))?;
+    rest.push(Ascription::Shown(sig.take()))?;
     stack.push(Part::Ascriptions(rest))?;
     Ok(())
 }
@@ -184,10 +188,11 @@ fn let_in(stack: &mut Stack<'_>, alloc: Global) -> Result<(), BuildRefusal>
     let word = stack.token()?;
     let mut binds = stack.binds()?;
     stack.token()?;
-    let body = stack.module()?;
+    let body = Kept::new(stack.module()?);
     let last = stack.token()?;
     binds.reverse();
-    let module = let_mod(alloc, up_to(word.span, last.span), binds, body)?;
+    let span = up_to(word.span, last.span);
+    let module = let_mod(alloc, span, binds, body.take())?;
     stack.push(Part::Mod(module))?;
     Ok(())
 }
@@ -197,12 +202,12 @@ fn paren(stack: &mut Stack<'_>) -> Result<(), BuildRefusal>
     ensures misfit { IfErr result (λ e. e ≡ Misfit → played the.mod_paren (held stack.old) ≡ None) }
 {
     let mark = stack.token()?;
-    let module = stack.module()?;
+    let module = Kept::new(stack.module()?);
     let last = stack.token()?;
     let span = up_to(mark.span, last.span);
     stack.push(Part::Mod(Mod {
         span,
-        what: module.what,
+        what: module.take().what,
     }))?;
     Ok(())
 }

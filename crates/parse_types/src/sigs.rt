@@ -2,17 +2,19 @@
 ghost use Rattle.std.specs.Prelude.{◌≡◌, Some, None, IfOk, IfErr};
 ghost use Rattle.fing_grammar.specs.Grammar as the;
 ghost use Rattle.fing_grammar.specs.View.{sig_rule_in};
-ghost use Rattle.parse_forms.specs.Part.{held};
-ghost use Rattle.parse_forms.specs.Play.{played, played_any};
-ghost use Rattle.parse_forms.specs.declared.refusal.BuildRefusal.TheVariants.{Misfit};
+ghost use Rattle.parse_stack.specs.Part.{held};
+ghost use Rattle.parse_stack.specs.Play.{played, played_any};
+ghost use Rattle.parse_stack.specs.declared.refusal.BuildRefusal.TheVariants.{Misfit};
 
 use fing_grammar::grammar::SigRule;
 use fing_syntax::{SigEx, SigWhat};
 use parse_forms::chains::refine_all;
-use parse_forms::part::{Part, Where};
-use parse_forms::refusal::BuildRefusal;
-use parse_forms::stack::Stack;
+use parse_forms::kept::Kept;
+use parse_forms::part::Where;
 use parse_forms::tokens::{named, up_to};
+use parse_stack::part::Part;
+use parse_stack::refusal::BuildRefusal;
+use parse_stack::stack::Stack;
 use std::alloc::Global;
 
 fn fun(stack: &mut Stack<'_>, alloc: Global) -> Result<(), BuildRefusal>
@@ -21,7 +23,7 @@ fn fun(stack: &mut Stack<'_>, alloc: Global) -> Result<(), BuildRefusal>
 {
     let word = stack.token()?;
     stack.token()?;
-    let name = named(alloc, stack.token()?)?;
+    let name = stack.token()?;
     stack.token()?;
     let param = Box::new(alloc, stack.sig()?)?;
     stack.token()?;
@@ -29,6 +31,7 @@ fn fun(stack: &mut Stack<'_>, alloc: Global) -> Result<(), BuildRefusal>
     let result = stack.sig()?;
     let span = up_to(word.span, result.span);
     let result = Box::new(alloc, result)?;
+    let name = named(alloc, name)?;
     stack.push(Part::Sig(SigEx {
         span,
         what: SigWhat::Fun {
@@ -45,9 +48,9 @@ fn refined(stack: &mut Stack<'_>, alloc: Global) -> Result<(), BuildRefusal>
     ensures made { IfOk result (λ _. played the.sig_where (held stack.old) ≡ Some (held stack.new)) }
     ensures misfit { IfErr result (λ e. e ≡ Misfit → played the.sig_where (held stack.old) ≡ None) }
 {
-    let sig = stack.sig()?;
+    let sig = Kept::new(stack.sig()?);
     let wheres = stack.wheres()?;
-    let sig = refine_all(alloc, sig, wheres)?;
+    let sig = refine_all(alloc, sig.take(), wheres)?;
     stack.push(Part::Sig(sig))?;
     Ok(())
 }
@@ -85,12 +88,14 @@ fn more_wheres(stack: &mut Stack<'_>, alloc: Global) -> Result<(), BuildRefusal>
 {
     stack.token()?;
     stack.token()?;
-    let first = named(alloc, stack.token()?)?;
+    let first = stack.token()?;
     let mut rest = stack.names()?;
     stack.token()?;
-    let ty = stack.ty()?;
+    let ty = Kept::new(stack.ty()?);
     let mut wheres = stack.wheres()?;
     rest.reverse();
+    let first = named(alloc, first)?;
+    let ty = ty.take();
     wheres.push(Where { first, rest, ty })?;
     stack.push(Part::Wheres(wheres))?;
     Ok(())
@@ -129,12 +134,12 @@ fn paren(stack: &mut Stack<'_>) -> Result<(), BuildRefusal>
     ensures misfit { IfErr result (λ e. e ≡ Misfit → played the.sig_paren (held stack.old) ≡ None) }
 {
     let mark = stack.token()?;
-    let sig = stack.sig()?;
+    let sig = Kept::new(stack.sig()?);
     let last = stack.token()?;
     let span = up_to(mark.span, last.span);
     stack.push(Part::Sig(SigEx {
         span,
-        what: sig.what,
+        what: sig.take().what,
     }))?;
     Ok(())
 }

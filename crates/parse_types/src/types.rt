@@ -2,17 +2,18 @@
 ghost use Rattle.std.specs.Prelude.{◌≡◌, Some, None, IfOk, IfErr};
 ghost use Rattle.fing_grammar.specs.Grammar as the;
 ghost use Rattle.fing_grammar.specs.View.{ty_rule_in};
-ghost use Rattle.parse_forms.specs.Part.{held};
-ghost use Rattle.parse_forms.specs.Play.{played, played_any};
-ghost use Rattle.parse_forms.specs.declared.refusal.BuildRefusal.TheVariants.{Misfit};
+ghost use Rattle.parse_stack.specs.Part.{held};
+ghost use Rattle.parse_stack.specs.Play.{played, played_any};
+ghost use Rattle.parse_stack.specs.declared.refusal.BuildRefusal.TheVariants.{Misfit};
 
 use fing_grammar::grammar::TyRule;
 use fing_syntax::{TyEx, TyWhat};
 use parse_forms::chains::{arrow_chain, ty_chain};
-use parse_forms::part::Part;
-use parse_forms::refusal::BuildRefusal;
-use parse_forms::stack::Stack;
+use parse_forms::kept::Kept;
 use parse_forms::tokens::{named, up_to};
+use parse_stack::part::Part;
+use parse_stack::refusal::BuildRefusal;
+use parse_stack::stack::Stack;
 use std::alloc::Global;
 
 fn lam(stack: &mut Stack<'_>, alloc: Global) -> Result<(), BuildRefusal>
@@ -21,17 +22,18 @@ fn lam(stack: &mut Stack<'_>, alloc: Global) -> Result<(), BuildRefusal>
 {
     let word = stack.token()?;
     stack.token()?;
-    let name = named(alloc, stack.token()?)?;
+    let name = stack.token()?;
     stack.token()?;
-    let kind = stack.kind()?.kind;
+    let kind = Kept::new(stack.kind()?.kind);
     stack.token()?;
     stack.token()?;
     let body = stack.ty()?;
     let span = up_to(word.span, body.span);
     let body = Box::new(alloc, body)?;
+    let name = named(alloc, name)?;
     stack.push(Part::Ty(TyEx {
         span,
-        what: TyWhat::Lam(name, kind, body),
+        what: TyWhat::Lam(name, kind.take(), body),
     }))?;
     Ok(())
 }
@@ -41,17 +43,18 @@ fn all(stack: &mut Stack<'_>, alloc: Global) -> Result<(), BuildRefusal>
     ensures misfit { IfErr result (λ e. e ≡ Misfit → played the.ty_all (held stack.old) ≡ None) }
 {
     let mark = stack.token()?;
-    let name = named(alloc, stack.token()?)?;
+    let name = stack.token()?;
     stack.token()?;
-    let kind = stack.kind()?.kind;
+    let kind = Kept::new(stack.kind()?.kind);
     stack.token()?;
     stack.token()?;
     let body = stack.ty()?;
     let span = up_to(mark.span, body.span);
     let body = Box::new(alloc, body)?;
+    let name = named(alloc, name)?;
     stack.push(Part::Ty(TyEx {
         span,
-        what: TyWhat::All(name, kind, body),
+        what: TyWhat::All(name, kind.take(), body),
     }))?;
     Ok(())
 }
@@ -60,9 +63,9 @@ fn chain(stack: &mut Stack<'_>, alloc: Global) -> Result<(), BuildRefusal>
     ensures made { IfOk result (λ _. played the.ty_chain (held stack.old) ≡ Some (held stack.new)) }
     ensures misfit { IfErr result (λ e. e ≡ Misfit → played the.ty_chain (held stack.old) ≡ None) }
 {
-    let from = stack.ty()?;
+    let from = Kept::new(stack.ty()?);
     let to = stack.ty_arrow()?;
-    let ty = arrow_chain(alloc, from, to)?;
+    let ty = arrow_chain(alloc, from.take(), to)?;
     stack.push(Part::Ty(ty))?;
     Ok(())
 }
@@ -89,9 +92,9 @@ fn args(stack: &mut Stack<'_>, alloc: Global) -> Result<(), BuildRefusal>
     ensures made { IfOk result (λ _. played the.ty_args (held stack.old) ≡ Some (held stack.new)) }
     ensures misfit { IfErr result (λ e. e ≡ Misfit → played the.ty_args (held stack.old) ≡ None) }
 {
-    let operator = stack.ty()?;
+    let operator = Kept::new(stack.ty()?);
     let args = stack.tys()?;
-    let ty = ty_chain(alloc, operator, args)?;
+    let ty = ty_chain(alloc, operator.take(), args)?;
     stack.push(Part::Ty(ty))?;
     Ok(())
 }
@@ -109,9 +112,9 @@ fn more_args(stack: &mut Stack<'_>) -> Result<(), BuildRefusal>
     ensures made { IfOk result (λ _. played the.more_ty_args (held stack.old) ≡ Some (held stack.new)) }
     ensures misfit { IfErr result (λ e. e ≡ Misfit → played the.more_ty_args (held stack.old) ≡ None) }
 {
-    let first = stack.ty()?;
+    let first = Kept::new(stack.ty()?);
     let mut rest = stack.tys()?;
-    rest.push(first)?;
+    rest.push(first.take())?;
     stack.push(Part::Tys(rest))?;
     Ok(())
 }
@@ -200,12 +203,12 @@ fn paren(stack: &mut Stack<'_>) -> Result<(), BuildRefusal>
     ensures misfit { IfErr result (λ e. e ≡ Misfit → played the.ty_paren (held stack.old) ≡ None) }
 {
     let mark = stack.token()?;
-    let ty = stack.ty()?;
+    let ty = Kept::new(stack.ty()?);
     let last = stack.token()?;
     let span = up_to(mark.span, last.span);
     stack.push(Part::Ty(TyEx {
         span,
-        what: ty.what,
+        what: ty.take().what,
     }))?;
     Ok(())
 }
@@ -223,11 +226,12 @@ fn field(stack: &mut Stack<'_>, alloc: Global) -> Result<(), BuildRefusal>
     ensures made { IfOk result (λ _. played the.ty_field (held stack.old) ≡ Some (held stack.new)) }
     ensures misfit { IfErr result (λ e. e ≡ Misfit → played the.ty_field (held stack.old) ≡ None) }
 {
-    let name = named(alloc, stack.token()?)?;
+    let name = stack.token()?;
     stack.token()?;
-    let ty = stack.ty()?;
+    let ty = Kept::new(stack.ty()?);
     let mut rest = stack.field_tys()?;
-    rest.push((name, ty))?;
+    let name = named(alloc, name)?;
+    rest.push((name, ty.take()))?;
     stack.push(Part::FieldTys(rest))?;
     Ok(())
 }
@@ -238,11 +242,12 @@ fn next_field(stack: &mut Stack<'_>, alloc: Global) -> Result<(), BuildRefusal>
     ensures misfit { IfErr result (λ e. e ≡ Misfit → played the.next_ty_field (held stack.old) ≡ None) }
 {
     stack.token()?;
-    let name = named(alloc, stack.token()?)?;
+    let name = stack.token()?;
     stack.token()?;
-    let ty = stack.ty()?;
+    let ty = Kept::new(stack.ty()?);
     let mut rest = stack.field_tys()?;
-    rest.push((name, ty))?;
+    let name = named(alloc, name)?;
+    rest.push((name, ty.take()))?;
     stack.push(Part::FieldTys(rest))?;
     Ok(())
 }

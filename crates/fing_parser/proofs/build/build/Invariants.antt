@@ -1,7 +1,7 @@
 use Rattle.std.proofs.Common.{◌≡◌, [], length}
 use Rattle.fing_grammar.specs.Steps.{moves}
-use Rattle.parse_forms.specs.Part.{held}
-use Rattle.parse_forms.specs.Play.{play_all}
+use Rattle.parse_stack.specs.Part.{held}
+use Rattle.parse_stack.specs.Play.{play_all}
 use Rattle.fing_parser.proofs.build.build.Given as goal
 
 abbrev pub invariant-play : goal.invariant-play

@@ -1,0 +1,56 @@
+-- What is given along the way: good environments, and answers where the environment is as before.
+use Rattle.std.proofs.Common.{◌≡◌, ◌≢◌, inl, inr, List, ◌∷◌, None, IfSome, Result, IfErr, IsErrAnd, refl, sym, subst}
+use Rattle.std.proofs.lemmas.Result.{err_from_is_err_and}
+use Rattle.omega_kinds.specs.Kind.{Kind}
+use Rattle.omega_kinds.specs.Name.{Name}
+use Rattle.omega_types.specs.Ty.{Ty}
+use Rattle.omega_types.specs.Normality.{Normal}
+use Rattle.omega_types.specs.Normality.Normal.{n_arrow}
+use Rattle.omega_types.specs.Binders.{extend}
+use Rattle.omega_terms.specs.Term.{Term}
+use Rattle.signatures.specs.Env.{Env, Value, TypeVar, TypeParam, kinds, find, with_module}
+use Rattle.signatures.specs.Signatures.Sig.{Sig, Abs}
+use Rattle.sig_laws.specs.Good.{OkSig, OkRight, OkEnv}
+use Rattle.sig_laws.proofs.Formed.Conditions.{explicit-right}
+use Rattle.premise_laws.proofs.Environments.{good-module}
+use Rattle.fing_syntax.specs.Phrase.{Span, TyEx, Exp, SigEx}
+use Rattle.fing_syntax.specs.Place.{ty_span}
+use Rattle.fing_refusals.specs.Refusal.{KindDiffer}
+use Rattle.core_rules.specs.TypeRules.{AppliedGives}
+use Rattle.elab_rules.specs.Operators.{with_type}
+use Rattle.elab_rules.specs.Judgments.Meaning.{TyMeans, ExpMeans, SigMeans}
+use Rattle.elab_rules.specs.Refusals.Task.{Task, a_type}
+use Rattle.elab_rules.specs.Refusals.Refused.{Refused}
+use Rattle.elab_laws.proofs.Kept.{type_ok, exp_ok, sig_ok}
+use Rattle.refusal_lines.specs.Plain.{plain_refusal}
+use Rattle.refusal_lines.specs.declared.refusal.Refusal.{Refusal as CodeRefusal}
+use Rattle.elaboration.specs.Answered.{RefusedAs, ByTest, NoValueType}
+use Rattle.elaboration.proofs.Placing.{if_some-map}
+
+-- the exit with a refusal
+pub exit : {T E : Type 0} (Q : E → Type 0) (r : Result T E) (e : E) → IsErrAnd r (λ y. y ≡ e) → Q e → IfErr r Q
+exit Q r e out h = let p = err_from_is_err_and r out in subst (λ s. IfErr s Q) (sym p.1) (subst Q (sym p.2) h)
+
+-- want of memory is no refusal
+pub wanting : {g : Env} {a : Task} {e : CodeRefusal} → plain_refusal e ≡ None → RefusedAs g a e
+wanting {g} {a} {e} n = record { stands = subst (λ o. IfSome o (Refused g a)) (sym n) tt }
+
+-- good environments
+pub type-env : (g : Env) (k : Kind) (x : Name) → OkEnv g → OkEnv (with_type g k x)
+type-env g k x h = (tt, (tt, h))
+
+pub value-env : {g : Env} {a : TyEx} {t : Ty} (x : Name) → OkEnv g → TyMeans g a t Kind.Star → OkEnv (Value x t ∷ g)
+value-env {g} {a} {t} x h m = (type_ok g a t Kind.Star h m, h)
+
+pub fix-env : {g : Env} {a b : TyEx} {t u : Ty} (f x : Name) → OkEnv g → TyMeans g a t Kind.Star → TyMeans g b u Kind.Star → OkEnv (Value x t ∷ Value f (Ty.Arrow t u) ∷ g)
+fix-env {g} {a} {b} {t} {u} f x h m n = let p = type_ok g a t Kind.Star h m in (p, (n_arrow p (type_ok g b u Kind.Star h n), h))
+
+pub module-env : {g : Env} {a : SigEx} {ks : List Kind} {s : Sig} (x : Name) → OkEnv g → SigMeans g a (Abs.Ex ks s) → OkEnv (with_module g ks x s)
+module-env {g} {a} {ks} {s} x h m = let w = sig_ok g a (Abs.Ex ks s) h m in good-module g ks x s h ((explicit-right w.0).0, w.1)
+
+-- a type of values
+pub no_type : {g : Env} {a : TyEx} {e : CodeRefusal} → RefusedAs g (a_type a) e → NoValueType g a e
+no_type {e = e} h = record { stands = if_some-map (plain_refusal e) (λ r q. inl q) h.stands }
+
+pub no_star : {g h : Env} {at : Span} {a : TyEx} {t : Ty} {k : Kind} {e : CodeRefusal} → h ≡ g → at ≡ ty_span a → TyMeans g a t k → ByTest h at (k ≢ Kind.Star) (KindDiffer k Kind.Star) e → NoValueType g a e
+no_star {g} {h} {at} {a} {t} {k} {e} s p m b = record { stands = if_some-map (plain_refusal e) (λ r q. inr (t, k, m, (q.0, rw (← s, ← p) q.1))) b.stands }

@@ -1,0 +1,27 @@
+-- From a rule's reason, and its place, to a refusal of the rule.
+use Rattle.std.proofs.Common.{◌≡◌, ◌≢◌, List, Option, Some, None, IfSome, length, refl, sym, ap, ◌∙◌, subst}
+use Rattle.std.specs.Option.{option_map}
+use Rattle.signatures.specs.Env.{Env}
+use Rattle.fing_syntax.specs.Phrase.{Span}
+use Rattle.fing_refusals.specs.Refusal.{Refusal, ElabWhy}
+use Rattle.elab_rules.specs.Refusals.Refusal.{refuse}
+use Rattle.refusal_lines.specs.Plain.{plain_refusal}
+use Rattle.refusal_lines.specs.declared.refusal.Refusal.{Refusal as CodeRefusal}
+use Rattle.elaboration.specs.Answered.{Placed, ByRule, ByTest}
+
+pub if_some-map : {A : Type 0} {P Q : A → Type 0} (o : Option A) → ((a : A) → P a → Q a) → IfSome o P → IfSome o Q
+if_some-map None f h = tt
+if_some-map (Some a) f h = f a h
+
+reasoned : {W : Type 0} (reason : W → ElabWhy) (o : Option W) {Refuses : W → Type 0} {w : ElabWhy} → IfSome o Refuses → option_map reason o ≡ Some w → (why : W) × Refuses why × (w ≡ reason why)
+reasoned reason None h e = absurd cc
+reasoned reason (Some why) h e = (why, h, cc)
+
+pub by-rule : {W : Type 0} (reason : W → ElabWhy) (o : Option W) (Refuses : W → Type 0) (g : Env) (at : Span) (e : CodeRefusal) → IfSome o Refuses → Placed g at (option_map reason o) e → ByRule reason g at Refuses e
+by-rule {W} reason o Refuses g at e h p = record { stands = if_some-map (plain_refusal e) (λ r q. let v : (why : W) × Refuses why × (q.0 ≡ reason why) = reasoned reason o h q.1 in (v.0, v.1, q.2 ∙ ap (refuse g at) v.2)) p.stands }
+
+pub by-test : (why : ElabWhy) (fails : Type 0) (g : Env) (at : Span) (e : CodeRefusal) → fails → Placed g at (Some why) e → ByTest g at fails why e
+by-test why fails g at e h p = record { stands = if_some-map (plain_refusal e) (λ r q. (h, q.2 ∙ ap (refuse g at) (some-is q.1))) p.stands }
+  where
+    some-is : {v w : ElabWhy} → Some v ≡ Some w → w ≡ v
+    some-is e = cc

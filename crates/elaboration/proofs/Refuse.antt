@@ -1,0 +1,4 @@
+pub mod Expressions
+pub mod Modules
+pub mod Signatures
+pub mod Types

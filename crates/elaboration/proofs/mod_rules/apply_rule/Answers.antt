@@ -1,0 +1,5 @@
+use Rattle.elaboration.proofs.Ruled.{apply-forms}
+use Rattle.elaboration.proofs.mod_rules.apply_rule.Goals as goal
+
+pub returns-in-Ok : goal.returns-in-Ok
+returns-in-Ok c = λ ctx f param target left w p m. c.in-Ok.ensures.given ctx w.1 (apply-forms p m)

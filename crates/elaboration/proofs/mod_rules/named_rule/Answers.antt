@@ -1,0 +1,11 @@
+use Rattle.module_calls.specs.Plain.{plain_why}
+use Rattle.elab_rules.specs.Refusals.Refusal.{of_mod}
+use Rattle.elaboration.proofs.Placing.{by-rule}
+use Rattle.elaboration.proofs.Ruled.{named-found}
+use Rattle.elaboration.proofs.mod_rules.named_rule.Goals as goal
+
+pub returns-in-Ok-clause-found : goal.returns-in-Ok-clause-found
+returns-in-Ok-clause-found c = named-found c.in-Ok.ensures.given
+
+pub returns-in-Err-clause-refused : goal.returns-in-Err-clause-refused
+returns-in-Err-clause-refused c = by-rule of_mod (plain_why c.in-Err.why) _ _ _ _ c.in-Err.ensures.refused c.mod_refusal.ensures

@@ -1,0 +1,62 @@
+// Names of fields, each one new, and places.
+ghost use Rattle.std.specs.Prelude.{◌≡◌, ◌↔◌, ◌++◌, ◌∷◌, [], IfErr, IsTrue, OnOk, map};
+ghost use Rattle.signatures.specs.Signatures.RecordOrder.{IsNew};
+ghost use Rattle.fing_refusals.specs.Refusal.{DuplicateField};
+ghost use Rattle.fing_syntax.specs.Leaves.{place};
+ghost use Rattle.elaboration.specs.Answered.{ByTest};
+ghost use Rattle.elaboration.specs.Fields.{names_before};
+
+use crate::refusing::refuse;
+use fing_syntax::SpanName;
+use fing_text::Span;
+use omega_kinds::{Mem, Name, same_name};
+use refusal_lines::{ElabWhy, Refusal};
+use semantic_sigs::Env;
+use std::alloc::Global;
+
+// Whether the name is none of those of the parts.
+fn is_new<T>(name: &Name, done: &[(Name, T)]) -> bool
+    ensures { IsTrue result ↔ IsNew name.now (map (λ x. x.0) done.now) }
+{
+    for part in done {
+        if same_name(name, &part.0) {
+            return false;
+        }
+    }
+    true
+}
+
+/// The name is none of those of the parts that are done. `DuplicateField` comes exactly where it is one of them.
+pub(crate) fn expect_new<T>(
+    alloc: Global,
+    env: &Env,
+    name: &SpanName,
+    done: &[(Name, T)],
+) -> Result<(), Refusal>
+    ensures given { OnOk result (IsNew name.now.name (names_before done.now)) }
+    ensures refused { IfErr result (λ e. ByTest env.now (place name.now.span) (IsNew name.now.name (names_before done.now) → ⊥) (DuplicateField name.now.name) e) }
+{
+    if is_new(&name.name, done) {
+        return Ok(());
+    }
+    let why = ElabWhy::DuplicateField(name.name.share()?);
+    Err(refuse(alloc, env, name.span, why))
+}
+
+/// One more part under a name. `Err` is want of memory.
+pub(crate) fn add<T: Drop>(done: &mut Vec<(Name, T)>, name: &Name, part: T) -> Result<(), Mem>
+    ensures { OnOk result (done.new.items ≡ done.old.items ++ (name.now, part) ∷ []) }
+{
+    done.push((name.share()?, part))?;
+    Ok(())
+}
+
+/// From the first byte of one place to the last of another.
+pub(crate) fn up_to(from: Span, to: Span) -> Span
+    ensures { result ≡ record from { to = to.to } }
+{
+    Span {
+        from: from.from,
+        to: to.to,
+    }
+}

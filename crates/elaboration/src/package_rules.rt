@@ -1,0 +1,31 @@
+// The rule of modules unpacked, refused at a place in an environment.
+ghost use Rattle.std.specs.Prelude.{IfErr, IfOk};
+ghost use Rattle.semantic_sigs.specs.Made.{module_of};
+ghost use Rattle.packages.specs.Package.{UnpackGives, UnpackRefuses};
+ghost use Rattle.elab_rules.specs.Refusals.Refusal.{of_unpack};
+ghost use Rattle.fing_syntax.specs.Leaves.{place};
+ghost use Rattle.elaboration.specs.Answered.{ByRule};
+
+use crate::mod_refusing::unpack_refusal;
+use fing_text::Span;
+use package_calls::unpack_module;
+use refusal_lines::Refusal;
+use semantic_sigs::{Abs, Env, Module, Typed};
+use std::alloc::Global;
+
+/// `unpack E : S`, with the norm of S.
+pub(crate) fn unpack_rule(
+    alloc: Global,
+    env: &Env,
+    at: Span,
+    value: Typed,
+    target: &Abs,
+) -> Result<Module, Refusal>
+    ensures given { IfOk result (λ m. UnpackGives value.ty value.term target.now (module_of m)) }
+    ensures refused { IfErr result (λ e. ByRule of_unpack env.now (place at) (UnpackRefuses value.ty target.now) e) }
+{
+    match unpack_module(alloc, value, target) {
+        Ok(made) => Ok(made),
+        Err(why) => Err(unpack_refusal(alloc, env, at, why)),
+    }
+}

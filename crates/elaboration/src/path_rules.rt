@@ -1,0 +1,69 @@
+// The rules of paths as types and as values, refused at a place in an environment.
+ghost use Rattle.std.specs.Prelude.{IfErr, IfOk};
+ghost use Rattle.omega_kinds.specs.View.{kind_tree};
+ghost use Rattle.signatures.specs.Env.{kinds as kinds_in};
+ghost use Rattle.sig_laws.specs.Good.{OkModule};
+ghost use Rattle.semantic_sigs.specs.Made.{module_of};
+ghost use Rattle.module_rules.specs.ModRules.{SigPathRefuses, TypePathRefuses, ValuePathRefuses};
+ghost use Rattle.module_rules.specs.PathUse.{SigOfPath, TypeOfPath, ValueOfPath};
+ghost use Rattle.elab_rules.specs.Refusals.Refusal.{of_mod};
+ghost use Rattle.fing_syntax.specs.Leaves.{place};
+ghost use Rattle.elaboration.specs.Answered.{ByRule};
+
+use crate::mod_refusing::mod_refusal;
+use fing_text::Span;
+use module_calls::{path_sig, path_type, path_value};
+use refusal_lines::Refusal;
+use semantic_sigs::{Abs, Env, Kinded, Module, Typed};
+use std::alloc::Global;
+
+/// A path as a type; the module is good in the environment.
+pub(crate) fn type_path_rule(
+    alloc: Global,
+    env: &Env,
+    at: Span,
+    whole: Module,
+) -> Result<Kinded, Refusal>
+    requires { OkModule (kinds_in env.now) (module_of whole) }
+    ensures given { IfOk result (λ o. TypeOfPath (kinds_in env.now) (module_of whole) o.ty (kind_tree o.kind)) }
+    ensures refused { IfErr result (λ e. ByRule of_mod env.now (place at) (TypePathRefuses (kinds_in env.now) (module_of whole)) e) }
+{
+    match path_type(alloc, whole) {
+        Ok(made) => Ok(made),
+        Err(why) => Err(mod_refusal(alloc, env, at, why)),
+    }
+}
+
+/// A path as a value; the module is good in the environment.
+pub(crate) fn value_path_rule(
+    alloc: Global,
+    env: &Env,
+    at: Span,
+    whole: Module,
+) -> Result<Typed, Refusal>
+    requires { OkModule (kinds_in env.now) (module_of whole) }
+    ensures given { IfOk result (λ o. ValueOfPath (kinds_in env.now) (module_of whole) o.ty o.term) }
+    ensures refused { IfErr result (λ e. ByRule of_mod env.now (place at) (ValuePathRefuses (kinds_in env.now) (module_of whole)) e) }
+{
+    match path_value(alloc, whole) {
+        Ok(made) => Ok(made),
+        Err(why) => Err(mod_refusal(alloc, env, at, why)),
+    }
+}
+
+/// A path as a signature; the module is good in the environment.
+pub(crate) fn sig_path_rule(
+    alloc: Global,
+    env: &Env,
+    at: Span,
+    whole: Module,
+) -> Result<Abs, Refusal>
+    requires { OkModule (kinds_in env.now) (module_of whole) }
+    ensures given { IfOk result (λ x. SigOfPath (kinds_in env.now) (module_of whole) x) }
+    ensures refused { IfErr result (λ e. ByRule of_mod env.now (place at) (SigPathRefuses (kinds_in env.now) (module_of whole)) e) }
+{
+    match path_sig(alloc, whole) {
+        Ok(made) => Ok(made),
+        Err(why) => Err(mod_refusal(alloc, env, at, why)),
+    }
+}

@@ -1,0 +1,53 @@
+// Refusals at a place, in an environment.
+ghost use Rattle.std.specs.Prelude.{◌≡◌};
+ghost use Rattle.std.specs.Option.{option_map};
+ghost use Rattle.core_calls.specs.Plain.{plain_why as core_why};
+ghost use Rattle.elab_rules.specs.Refusals.Refusal.{of_core};
+ghost use Rattle.fing_syntax.specs.Leaves.{place};
+ghost use Rattle.refusal_lines.specs.Plain.{plain_reason};
+ghost use Rattle.elaboration.specs.Answered.{Placed};
+
+use core_calls::CoreRefusal;
+use fing_text::Span;
+use refusal_lines::{ElabWhy, Refusal};
+use semantic_sigs::Env;
+use std::alloc::Global;
+
+// A refusal for a reason at a place, with as many type variables as the environment has; or want of memory.
+#[tactic(auto, using(crate::proofs::Counting::refused_here))]
+pub(crate) fn refuse(alloc: Global, env: &Env, at: Span, why: ElabWhy) -> Refusal
+    ensures { Placed env.now (place at) (plain_reason why) result }
+{
+    match env.kinds(alloc) {
+        Ok(kinds) => Refusal {
+            at,
+            types: kinds.len() as u64,
+            why,
+        },
+        Err(refused) => Refusal::from(refused),
+    }
+}
+
+// The reason of a rule of types or expressions.
+fn core_reason(why: CoreRefusal) -> ElabWhy
+    ensures { plain_reason result ≡ option_map of_core (core_why why) }
+{
+    match why {
+        CoreRefusal::NotArrow(ty) => ElabWhy::NotArrow(ty),
+        CoreRefusal::NotAll(ty) => ElabWhy::NotAll(ty),
+        CoreRefusal::NotRecord(ty) => ElabWhy::NotRecord(ty),
+        CoreRefusal::NoField(name) => ElabWhy::NoField(name),
+        CoreRefusal::Differ(found, needed) => ElabWhy::Differ(found, needed),
+        CoreRefusal::KindDiffer(found, needed) => ElabWhy::KindDiffer(found, needed),
+        CoreRefusal::NotOperator => ElabWhy::NotOperator,
+        CoreRefusal::DuplicateField(name) => ElabWhy::DuplicateField(name),
+        CoreRefusal::Mem => ElabWhy::Mem,
+    }
+}
+
+// How a rule of types or expressions is refused at a place.
+pub(crate) fn core_refusal(alloc: Global, env: &Env, at: Span, why: CoreRefusal) -> Refusal
+    ensures { Placed env.now (place at) (option_map of_core (core_why why)) result }
+{
+    refuse(alloc, env, at, core_reason(why))
+}

@@ -1,0 +1,63 @@
+-- One meaning or one refusal of each program, as the code answers it.
+use Rattle.std.proofs.Common.{◌≡◌, List, [], Option, Some, None, IfSome, sym, ap, ◌∙◌}
+use Rattle.omega_kinds.specs.Name.{Name}
+use Rattle.omega_terms.specs.Term.{Term}
+use Rattle.omega_terms.specs.Typing.{HasType}
+use Rattle.signatures.specs.Env.{Env}
+use Rattle.signatures.specs.Packing.{Packed}
+use Rattle.signatures.specs.Signatures.Sig.{Module}
+use Rattle.signatures.specs.Signatures.Encoding.{enc_abs}
+use Rattle.signatures.specs.Verdict.{Verdict, holds, refuses}
+use Rattle.sig_laws.specs.Good.{OkModule}
+use Rattle.fing_syntax.specs.Phrase.{Binds}
+use Rattle.fing_refusals.specs.Refusal.{Refusal}
+use Rattle.elab_rules.specs.Judgments.Meaning.{BindsMean}
+use Rattle.elab_rules.specs.Judgments.Program.{ProgramMeans, ProgramRefused}
+use Rattle.elab_rules.specs.Refusals.Task.{binds}
+use Rattle.elab_laws.proofs.Kept.{binds_ok}
+use Rattle.elab_laws.proofs.TypedClaims.{whole_is_typed}
+use Rattle.elab_exact.specs.Claims.{ProgramExactly}
+use Rattle.elab_exact.proofs.Theorems.{each-program}
+use Rattle.refusal_lines.specs.Plain.{plain_refusal}
+use Rattle.refusal_lines.specs.declared.refusal.Refusal.{Refusal as CodeRefusal}
+use Rattle.elaboration.specs.Answered.{RefusedAs}
+use Rattle.elaboration.proofs.Placing.{if_some-map}
+use Rattle.fing_elab.specs.declared.whole.Elaborated.{Elaborated}
+use Rattle.fing_elab.specs.Exactly.{module_in, Means, IsRefused}
+
+-- from an environment, names and bindings to the empty ones and the program
+pub entered : (P : Env → List Name → Binds → Type 0) {g : Env} {ns : List Name} {bs program : Binds} → g ≡ [] → ns ≡ [] → bs ≡ program → P g ns bs → P [] [] program
+entered P g n b h = rw (g, n, b) at h
+
+-- the module of a program is good
+pub good : (bs : Binds) (m : Module) → BindsMean [] [] bs m → OkModule [] m
+good bs m p = binds_ok [] [] bs m tt tt p
+
+pub meaning : (bs : Binds) (o : Elaborated) → BindsMean [] [] bs (module_in o) → Packed [] (module_in o) o.whole → Means bs o
+meaning bs o p q = go (each-program bs)
+  where
+    derived : ProgramMeans bs (module_in o) o.whole
+    derived = ProgramMeans.program p q
+
+    go : ProgramExactly bs → Means bs o
+    go (refuses r w only never) = absurd (never (module_in o, o.whole) derived)
+    go (holds x w only never) = record {
+      derived = derived;
+      only = λ m whole h.
+          let e : (m, whole) ≡ (module_in o, o.whole) = only (m, whole) h ∙ sym (only (module_in o, o.whole) derived) in
+          (ap (λ (y : Module × Term). y.0) e, ap (λ (y : Module × Term). y.1) e);
+      unrefused = never;
+    }
+
+pub typed : (bs : Binds) (o : Elaborated) → BindsMean [] [] bs (module_in o) → Packed [] (module_in o) o.whole → HasType [] [] o.whole (enc_abs o.sig)
+typed bs o p q = whole_is_typed bs o.effect o.sig o.types o.term o.whole (ProgramMeans.program p q)
+
+refusal : (bs : Binds) (r : Refusal) → ProgramRefused bs r → IsRefused bs r
+refusal bs r h = go (each-program bs)
+  where
+    go : ProgramExactly bs → IsRefused bs r
+    go (holds x w only never) = absurd (never r h)
+    go (refuses s w only never) = record { refused = h; only = λ q k. only q k ∙ sym (only r h); meaningless = λ m whole p. never (m, whole) p }
+
+pub refused : (bs : Binds) (e : CodeRefusal) → RefusedAs [] (binds [] bs) e → IfSome (plain_refusal e) (IsRefused bs)
+refused bs e h = if_some-map (plain_refusal e) (refusal bs) h.stands

@@ -1,0 +1,68 @@
+// Whole programs.
+ghost use Rattle.std.specs.Prelude.{◌≡◌, [], IfErr, IfOk, IfSome};
+ghost use Rattle.omega_terms.specs.Typing.{HasType};
+ghost use Rattle.signatures.specs.Packing.{Packed};
+ghost use Rattle.signatures.specs.Signatures.Encoding.{enc_abs};
+ghost use Rattle.sig_laws.specs.Good.{OkModule};
+ghost use Rattle.semantic_sigs.specs.Made.{module_of};
+ghost use Rattle.refusal_lines.specs.Plain.{plain_refusal};
+ghost use Rattle.fing_elab.specs.Exactly.{Means, IsRefused};
+
+use elaboration::binds;
+use fing_syntax::Program;
+use module_calls::packed;
+use omega_kinds::{Effect, Mem, Names};
+use omega_terms::Term;
+use refusal_lines::Refusal;
+use semantic_sigs::{Abs, Env, Module, Witnesses};
+use std::alloc::Global;
+
+/// What a program means: its effect, its signature, the types that the signature hides where the effect is pure, and its
+/// term, which stands beside these types; `whole` is the term with the hidden types packed into it, as it is emitted.
+#[derive(Drop)]
+pub struct Elaborated {
+    pub effect: Effect,
+    pub sig: Abs,
+    pub types: Witnesses,
+    pub term: Term,
+    pub whole: Term,
+}
+
+// The term of a module with its hidden types packed into it; the module is kept.
+fn whole_of(alloc: Global, whole: &Module) -> Result<Term, Mem>
+    requires { OkModule [] (module_of whole.now) }
+    ensures { IfOk result (λ e. Packed [] (module_of whole.now) e) }
+{
+    let sig = whole.sig.share()?;
+    let types = whole.types.share(alloc)?;
+    let term = whole.term.share()?;
+    let kept = Module {
+        effect: whole.effect,
+        sig,
+        types,
+        term,
+    };
+    packed(alloc, kept)
+}
+
+/// What a program means, or why it means nothing: the refusal is that of the first rule, in the order of the text, of which
+/// a condition fails. The types of the answer and of the refusal are in normal form. A refusal for want of memory says
+/// nothing of the program.
+///
+/// Rossberg, Russo and Dreyer, "F-ing modules", sections 4 to 7, Elaboration.
+pub fn elab(alloc: Global, program: &Program) -> Result<Elaborated, Refusal>
+    ensures means { IfOk result (λ o. Means program.now o) }
+    ensures typed { IfOk result (λ o. HasType [] [] o.whole (enc_abs o.sig)) }
+    ensures refused { IfErr result (λ e. IfSome (plain_refusal e) (IsRefused program.now)) }
+{
+    let mut env = Env::new(alloc);
+    let found = binds(alloc, &mut env, Names::new(alloc), &program.binds)?;
+    let whole = whole_of(alloc, &found)?;
+    Ok(Elaborated {
+        effect: found.effect,
+        sig: found.sig,
+        types: found.types,
+        term: found.term,
+        whole,
+    })
+}

@@ -1,0 +1,134 @@
+// Outcomes of `run`, found by hand from the rules of reduction.
+use crate::runs::ran;
+use fing_top::Status;
+use std::test::Fail;
+
+const ROWS: [(&[&str], &str, Status, &str); 22] = [
+    (&["run"], "", Status::Ok, ""),
+    (&["run"], "val x = 1 + 2", Status::Ok, "x = 3\n"),
+    (
+        &["run", "--budget", "2"],
+        "val x = 1 + 2",
+        Status::Ok,
+        "x = 3\n",
+    ),
+    (
+        &["run", "--budget=5"],
+        "val x = 1 + 2",
+        Status::Ok,
+        "x = 3\n",
+    ),
+    (
+        &["run", "--budget", "1"],
+        "val x = 1 + 2",
+        Status::Spent,
+        "spent 1\n",
+    ),
+    (
+        &["run", "--budget", "11"],
+        "module M = struct type t = Int val x = 5 end :> sig type t val x : t end",
+        Status::Ok,
+        "M = {t = type, x = 5}\n",
+    ),
+    (
+        &["run", "--budget", "10"],
+        "module M = struct type t = Int val x = 5 end :> sig type t val x : t end",
+        Status::Spent,
+        "spent 10\n",
+    ),
+    (
+        &["run"],
+        "module M = struct type t = Int val x = 5 end : sig type t val x : t end val y = M.x + 1",
+        Status::Ok,
+        "M = {t = type, x = 5}\ny = 6\n",
+    ),
+    (
+        &["run"],
+        "val x = 9223372036854775807",
+        Status::Ok,
+        "x = 9223372036854775807\n",
+    ),
+    (
+        &["run"],
+        "val x = 9223372036854775807 + 1",
+        Status::Faulted,
+        "fault Overflow\n",
+    ),
+    (
+        &["run"],
+        "val x = 9223372036854775808",
+        Status::Refused,
+        "refused Wide 8\n",
+    ),
+    (
+        &["run"],
+        "val x = (~9223372036854775807 - 1) / ~1",
+        Status::Faulted,
+        "fault Overflow\n",
+    ),
+    (
+        &["run"],
+        "val x = (~9223372036854775807 - 1) % ~1",
+        Status::Faulted,
+        "fault Overflow\n",
+    ),
+    (
+        &["run"],
+        "val x = 1 / 0",
+        Status::Faulted,
+        "fault DivideByZero\n",
+    ),
+    (
+        &["run"],
+        "val x = 1 % 0",
+        Status::Faulted,
+        "fault DivideByZero\n",
+    ),
+    (&["run"], "val x = ~7 / 2", Status::Ok, "x = -3\n"),
+    (&["run"], "val x = ~7 % 2", Status::Ok, "x = -1\n"),
+    (
+        &["run"],
+        "val f = fix g (x : Int) : Int => g x val y = f 1",
+        Status::Spent,
+        "spent 1000000\n",
+    ),
+    (
+        &["run", "--budget", "28"],
+        "val f = fix g (n : Int) : Int => if n < 1 then 0 else g (n - 1) val y = f 3",
+        Status::Ok,
+        "f = fun\ny = 0\n",
+    ),
+    (
+        &["run", "--budget", "27"],
+        "val f = fix g (n : Int) : Int => if n < 1 then 0 else g (n - 1) val y = f 3",
+        Status::Spent,
+        "spent 27\n",
+    ),
+    (
+        &["run"],
+        "val s = \"a\\\"b\"",
+        Status::Ok,
+        "s = \"a\\\"b\"\n",
+    ),
+    (
+        &["run"],
+        "val y = z + 1",
+        Status::Refused,
+        "refused 8-9 Unbound z\n",
+    ),
+];
+
+#[test]
+fn outcomes(rt: HostRuntime) -> Result<(), Fail> {
+    for (words, source, status, text) in ROWS {
+        let found = ran(rt.alloc(), words, source.as_bytes())?;
+        assert!(rt; found.written.as_slice() == text.as_bytes(), "at {source}");
+        assert_eq!(rt; found.status, status, "at {source}");
+        assert_eq!(rt;
+            found.is_confirmed,
+            status != Status::Refused,
+            "at {source}"
+        );
+    }
+    Ok(())
+}

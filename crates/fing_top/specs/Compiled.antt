@@ -1,0 +1,33 @@
+-- What the code makes of a source, and why it refuses one.
+use Rattle.std.specs.Prelude.{◌≡◌, ℕ, List}
+use Rattle.omega_types.specs.Ty.{Ty}
+use Rattle.omega_terms.specs.Term.{Term}
+use Rattle.signatures.specs.Signatures.Encoding.{enc_abs}
+use Rattle.signatures.specs.Signatures.Sig.{made}
+use Rattle.fing_syntax.specs.Phrase.{Binds as Program}
+use Rattle.elab_rules.specs.Judgments.Program.{ProgramMeans}
+use Rattle.fing_elab.specs.Exactly.{Means}
+use Rattle.fing_elab.specs.declared.whole.Elaborated.{Elaborated}
+use Rattle.fing_top.specs.Refusing.{refusal_line, HasLine}
+use Rattle.fing_top.specs.Reply.{Spells, Refuses}
+use Rattle.fing_top.specs.declared.programs.Compiled.{Compiled}
+use Rattle.fing_top.specs.declared.refusing.Refused.{Refused}
+
+-- the bytes spell a program of just this meaning
+pub record IsElaborated (bytes : List ℕ) (o : Elaborated) : Type 0 where
+  pub program : Program
+  pub spelled : Spells bytes program
+  pub means : Means program o
+
+-- the bytes spell a program of this effect, this signature and this whole term
+pub record IsCompiled (bytes : List ℕ) (c : Compiled) : Type 0 where
+  pub program : Program
+  pub spelled : Spells bytes program
+  pub types : List Ty
+  pub term : Term
+  pub means : ProgramMeans program (made c.effect c.sig types term) c.checked.term
+  pub ty : c.checked.ty ≡ enc_abs c.sig
+
+-- a refusal that has a line is the one of the bytes
+abbrev pub IsRefused : (bytes : List ℕ) → Refused → Type 0
+IsRefused bytes why = HasLine why → Refuses bytes (refusal_line why)

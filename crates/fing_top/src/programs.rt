@@ -1,0 +1,139 @@
+// `check` and `emit`: what a program means, confirmed by the checker, and written as a signature or as Omega text.
+ghost use Rattle.std.specs.Prelude.{◌≡◌, ◌≤◌, [], length, IfOk, IfErr, IsTrue};
+ghost use Rattle.omega_terms.specs.InScope.{TermInScope, TyInScope};
+ghost use Rattle.omega_terms.specs.Typing.{HasType};
+ghost use Rattle.signatures.specs.Signatures.Encoding.{enc_abs};
+ghost use Rattle.fing_top.specs.Answer.{limit, AnswersBytes, change, output};
+ghost use Rattle.fing_top.specs.Compiled.{IsCompiled, IsElaborated, IsRefused};
+ghost use Rattle.fing_top.specs.Reply.{Spells};
+ghost use Rattle.fing_top.specs.declared.command.Command.TheVariants as command;
+
+use crate::refusing::{Refused, has_line, write_line};
+use crate::status::{Status, status_of};
+use fing_elab::{Elaborated, elab};
+use fing_lexer::tokens;
+use fing_parser::program;
+use fing_syntax::Program;
+use fing_text::Sink;
+use omega_checker::{Checked, check as typed};
+use omega_kinds::{Effect, Mem};
+use omega_scopes::{term_in_scope, ty_in_scope};
+use omega_terms::Term;
+use omega_write::write_omega;
+use semantic_sigs::{Abs, encode};
+use sig_scopes::abs_in_scope;
+use sig_text::write_elab;
+use std::alloc::Global;
+
+/// What a source is compiled into: the effect and the signature of its program, and its whole term, which the checker
+/// found to have the encoding of the signature as its type.
+#[derive(Drop)]
+pub struct Compiled {
+    pub effect: Effect,
+    pub sig: Abs,
+    pub checked: Checked,
+}
+
+// The program that a source's bytes are, or why they are none.
+fn parsed(alloc: Global, bytes: &[u8]) -> Result<Program, Refused>
+    requires { length bytes.now ≤ limit }
+    ensures spelled { IfOk result (λ p. Spells bytes.now p) }
+    ensures refused { IfErr result (IsRefused bytes.now) }
+{
+    let tokens = tokens(alloc, bytes)?;
+    Ok(program(alloc, &tokens)?)
+}
+
+// What the program that a source's bytes are means, or why they are refused.
+fn elaborated(alloc: Global, bytes: &[u8]) -> Result<Elaborated, Refused>
+    requires { length bytes.now ≤ limit }
+    ensures means { IfOk result (λ o. IsElaborated bytes.now o) }
+    ensures typed { IfOk result (λ o. HasType [] [] o.whole (enc_abs o.sig)) }
+    ensures refused { IfErr result (IsRefused bytes.now) }
+{
+    let program = parsed(alloc, bytes)?;
+    Ok(elab(alloc, &program)?)
+}
+
+// What the checker makes of a term that has the encoding of a signature as its type. `Err` is want of memory.
+fn confirm(alloc: Global, sig: &Abs, term: Term) -> Result<Checked, Mem>
+    requires { HasType [] [] term (enc_abs sig.now) }
+    ensures { IfOk result (λ c. (c.term ≡ term) × (c.ty ≡ enc_abs sig.now)) }
+{
+    let ty = encode(alloc, sig)?;
+    match typed(alloc, term, ty)? {
+        Some(checked) => Ok(checked),
+        None => unreachable!(),
+    }
+}
+
+// What a source's bytes are compiled into, or why they are refused.
+pub(crate) fn compile(alloc: Global, bytes: &[u8]) -> Result<Compiled, Refused>
+    requires { length bytes.now ≤ limit }
+    ensures compiled { IfOk result (λ c. IsCompiled bytes.now c) }
+    ensures refused { IfErr result (IsRefused bytes.now) }
+{
+    let found = elaborated(alloc, bytes)?;
+    let whole = found.whole;
+    let checked = confirm(alloc, &found.sig, whole)?;
+    Ok(Compiled {
+        effect: found.effect,
+        sig: found.sig,
+        checked,
+    })
+}
+
+/// Answers `check` for all the bytes of a source, of which there are at most 1,048,576: writes the effect and the
+/// signature of the program, or the line of the refusal. Where the program means something, `confirmed` becomes what the
+/// checker made of its whole term. With `NoMemory` nothing is written.
+pub fn check<K: Sink>(
+    alloc: Global,
+    bytes: &[u8],
+    sink: &mut K,
+    confirmed: &mut Option<Checked>,
+) -> Status
+    requires { length bytes.now ≤ limit }
+    ensures { AnswersBytes command.Check bytes.now
+        (output (change (K.told sink.old) (K.told sink.new)) (change confirmed.old confirmed.new)) result }
+{
+    match compile(alloc, bytes) {
+        Ok(found) if abs_in_scope(0, &found.sig) => {
+            let wrote = write_elab(sink, found.effect, &found.sig);
+            *confirmed = Some(found.checked);
+            status_of(wrote, Status::Ok)
+        }
+        Err(why) if has_line(&why) => status_of(write_line(sink, &why), Status::Refused),
+        _ => Status::NoMemory,
+    }
+}
+
+/// Answers `emit` for all the bytes of a source, of which there are at most 1,048,576: writes the Omega text of the
+/// encoded signature and the whole term, or the line of the refusal. Where the program means something, `confirmed`
+/// becomes what the checker made of that type and term. With `NoMemory` nothing is written.
+pub fn emit<K: Sink>(
+    alloc: Global,
+    bytes: &[u8],
+    sink: &mut K,
+    confirmed: &mut Option<Checked>,
+) -> Status
+    requires { length bytes.now ≤ limit }
+    ensures { AnswersBytes command.Emit bytes.now
+        (output (change (K.told sink.old) (K.told sink.new)) (change confirmed.old confirmed.new)) result }
+{
+    match compile(alloc, bytes) {
+        Ok(found) if is_closed(&found.checked) => {
+            let wrote = write_omega(sink, found.checked.ty(), found.checked.term());
+            *confirmed = Some(found.checked);
+            status_of(wrote, Status::Ok)
+        }
+        Err(why) if has_line(&why) => status_of(write_line(sink, &why), Status::Refused),
+        _ => Status::NoMemory,
+    }
+}
+
+// Whether the type and the term can be written: no level in them passes the last number of 64 bits.
+fn is_closed(checked: &Checked) -> bool
+    ensures { IsTrue result → TyInScope 0 checked.now.ty × TermInScope 0 0 checked.now.term }
+{
+    ty_in_scope(0, checked.ty()) && term_in_scope(0, 0, checked.term())
+}

@@ -1,0 +1,79 @@
+// `run`: the outcome of a program's whole term within a budget of steps.
+ghost use Rattle.std.specs.Prelude.{◌≡◌, ◌≤◌, length, IfErr, IfOk};
+ghost use Rattle.fing_text.specs.Writes.{Wrote};
+ghost use Rattle.omega_machine.specs.Outcomes.{Tells};
+ghost use Rattle.fing_top.specs.Answer.{limit, AnswersBytes, change, output};
+ghost use Rattle.fing_top.specs.Compiled.{IsCompiled, IsRefused};
+ghost use Rattle.fing_top.specs.Ending.{ending_status, ending_text};
+ghost use Rattle.fing_top.specs.declared.command.Command.TheVariants as command;
+
+use crate::programs::{Compiled, compile};
+use crate::refusing::{Refused, has_line, write_line, write_numbered};
+use crate::status::{Status, status_of};
+use fing_text::{Sink, WriteFault, put};
+use omega_checker::Checked;
+use omega_machine::{Arith, End, run as evaluate};
+use std::alloc::Global;
+
+// What a source's bytes are compiled into, and what its term comes to; or why they are refused.
+fn evaluated(alloc: Global, budget: u32, bytes: &[u8]) -> Result<(Compiled, End), Refused>
+    requires { length bytes.now ≤ limit }
+    ensures compiled { IfOk result (λ o. IsCompiled bytes.now o.0) }
+    ensures told { IfOk result (λ o. Tells o.0.checked.term budget o.1) }
+    ensures refused { IfErr result (IsRefused bytes.now) }
+{
+    let found = compile(alloc, bytes)?;
+    let end = evaluate(alloc, &found.checked, budget as u64)?;
+    Ok((found, end))
+}
+
+// The status of an outcome.
+fn status_at(end: &End) -> Status
+    ensures { result ≡ ending_status end.now }
+{
+    match end {
+        End::Value { .. } => Status::Ok,
+        End::Fault { .. } => Status::Faulted,
+        End::Spent => Status::Spent,
+    }
+}
+
+// Writes an outcome within a budget. Takes no memory.
+fn write_end<K: Sink>(sink: &mut K, budget: u32, end: &End) -> Result<(), WriteFault>
+    ensures { Wrote (K.told sink.old) (K.told sink.new) (ending_text budget end.now) result }
+{
+    match end {
+        End::Value { shown, .. } => put(sink, shown.bytes()),
+        End::Fault { fault, .. } => match fault {
+            Arith::Overflow => put(sink, b"fault Overflow\n"),
+            Arith::DivideByZero => put(sink, b"fault DivideByZero\n"),
+        },
+        End::Spent => write_numbered(sink, b"spent ", budget),
+    }
+}
+
+/// Answers `run` with a budget for all the bytes of a source, of which there are at most 1,048,576: writes the value that
+/// the program's whole term comes to in at most so many steps, or the fault that it meets, or that the budget is spent;
+/// or the line of the refusal. Where the program means something, `confirmed` becomes what the checker made of its whole
+/// term. With `NoMemory` nothing is written.
+pub fn run<K: Sink>(
+    alloc: Global,
+    budget: u32,
+    bytes: &[u8],
+    sink: &mut K,
+    confirmed: &mut Option<Checked>,
+) -> Status
+    requires { length bytes.now ≤ limit }
+    ensures { AnswersBytes (command.Run budget) bytes.now
+        (output (change (K.told sink.old) (K.told sink.new)) (change confirmed.old confirmed.new)) result }
+{
+    match evaluated(alloc, budget, bytes) {
+        Ok((found, end)) => {
+            let wrote = write_end(sink, budget, &end);
+            *confirmed = Some(found.checked);
+            status_of(wrote, status_at(&end))
+        }
+        Err(why) if has_line(&why) => status_of(write_line(sink, &why), Status::Refused),
+        _ => Status::NoMemory,
+    }
+}

@@ -1,0 +1,297 @@
+// The parser's stack. Each call takes the top part as what its name says, or finds that it is something else.
+ghost use Rattle.std.specs.Prelude.{◌≡◌, [], ◌∷◌, Some, None, reverse, map, option_map, IfOk, IfErr, OnOk};
+ghost use Rattle.fing_syntax.specs.Leaves.{spelled};
+ghost use Rattle.fing_syntax.specs.View.{binds as binds_of, decls as decls_of, tys as tys_of, field_tys as field_tys_of, ops as ops_of, args as args_of, field_exps as field_exps_of};
+ghost use Rattle.parse_stack.specs.Item.{TokenItem, as_token, as_binds, as_bind, as_decls, as_decl, as_tail, as_kind, as_kind_arrow, as_mod, as_names, as_ty, as_ty_arrow, as_tys, as_field_tys, as_sig, as_pure, as_wheres, as_mods, as_ascriptions, as_exp, as_abstraction, as_ops, as_args, as_field_exps};
+ghost use Rattle.parse_forms.specs.Part.{kind_in, tail_in, where_in, ascription_in, abstraction_in};
+ghost use Rattle.parse_stack.specs.Part.{part_in, held};
+ghost use Rattle.parse_stack.specs.Play.{uncons, top};
+ghost use Rattle.parse_stack.specs.declared.refusal.BuildRefusal.TheVariants.{Misfit};
+
+use crate::part::Part;
+use crate::refusal::BuildRefusal;
+use fing_lexer::Token;
+use fing_syntax::{Arg, Bind, Decl, Exp, Mod, Op, SigEx, SpanName, TyEx};
+use omega_kinds::Mem;
+use parse_forms::part::{Abstraction, Ascription, KindPart, TypeTail, Where};
+use std::alloc::Global;
+
+// Lets a part go that is not what was asked for.
+fn misfit(_other: Option<Part<'_>>) -> BuildRefusal
+    ensures { result ≡ Misfit }
+{
+    BuildRefusal::Misfit
+}
+
+/// The parts of productions that are not played yet, the last one on top.
+#[derive(Drop)]
+pub struct Stack<'a> {
+    pub parts: Vec<Part<'a>>,
+}
+
+impl<'a> Stack<'a> {
+    pub fn new(alloc: Global) -> Stack<'a>
+        ensures { held result ≡ [] }
+    {
+        Stack {
+            parts: Vec::new(alloc),
+        }
+    }
+
+    /// Puts a part on top. `Err` is want of memory.
+    #[tactic(auto, using(crate::proofs::Stacked::items_push))]
+    pub fn push(&mut self, part: Part<'a>) -> Result<(), Mem>
+        ensures { OnOk result (held self.new ≡ part_in part.entry ∷ held self.old) }
+    {
+        self.parts.push(part)?;
+        Ok(())
+    }
+
+    // The top part.
+    #[tactic(auto, using(crate::proofs::Stacked::items_pop))]
+    fn pop(&mut self) -> Option<Part<'a>>
+        ensures { option_map (λ p. (part_in p, held self.new)) result ≡ uncons (held self.old) }
+    {
+        self.parts.pop()
+    }
+
+    pub fn token(&mut self) -> Result<&'a Token, BuildRefusal>
+        ensures part { IfOk result (λ t. top as_token (held self.old) ≡ Some (t.now, held self.new)) }
+        ensures misfit { IfErr result (λ e. top as_token (held self.old) ≡ None) }
+    {
+        match self.pop() {
+            Some(Part::Token(found)) => Ok(found),
+            other => Err(misfit(other)),
+        }
+    }
+
+    pub fn binds(&mut self) -> Result<Vec<Bind>, BuildRefusal>
+        ensures part { IfOk result (λ v. top as_binds (held self.old) ≡ Some (binds_of (reverse v.items), held self.new)) }
+        ensures misfit { IfErr result (λ e. top as_binds (held self.old) ≡ None) }
+    {
+        match self.pop() {
+            Some(Part::Binds(found)) => Ok(found),
+            other => Err(misfit(other)),
+        }
+    }
+
+    pub fn bind(&mut self) -> Result<Bind, BuildRefusal>
+        ensures part { IfOk result (λ v. top as_bind (held self.old) ≡ Some (v, held self.new)) }
+        ensures misfit { IfErr result (λ e. top as_bind (held self.old) ≡ None) }
+    {
+        match self.pop() {
+            Some(Part::Bind(found)) => Ok(found),
+            other => Err(misfit(other)),
+        }
+    }
+
+    pub fn decls(&mut self) -> Result<Vec<Decl>, BuildRefusal>
+        ensures part { IfOk result (λ v. top as_decls (held self.old) ≡ Some (decls_of (reverse v.items), held self.new)) }
+        ensures misfit { IfErr result (λ e. top as_decls (held self.old) ≡ None) }
+    {
+        match self.pop() {
+            Some(Part::Decls(found)) => Ok(found),
+            other => Err(misfit(other)),
+        }
+    }
+
+    pub fn decl(&mut self) -> Result<Decl, BuildRefusal>
+        ensures part { IfOk result (λ v. top as_decl (held self.old) ≡ Some (v, held self.new)) }
+        ensures misfit { IfErr result (λ e. top as_decl (held self.old) ≡ None) }
+    {
+        match self.pop() {
+            Some(Part::Decl(found)) => Ok(found),
+            other => Err(misfit(other)),
+        }
+    }
+
+    pub fn tail(&mut self) -> Result<TypeTail, BuildRefusal>
+        ensures part { IfOk result (λ v. top as_tail (held self.old) ≡ Some (tail_in v, held self.new)) }
+        ensures misfit { IfErr result (λ e. top as_tail (held self.old) ≡ None) }
+    {
+        match self.pop() {
+            Some(Part::Tail(found)) => Ok(found),
+            other => Err(misfit(other)),
+        }
+    }
+
+    pub fn kind(&mut self) -> Result<KindPart, BuildRefusal>
+        ensures part { IfOk result (λ v. top as_kind (held self.old) ≡ Some (kind_in v, held self.new)) }
+        ensures misfit { IfErr result (λ e. top as_kind (held self.old) ≡ None) }
+    {
+        match self.pop() {
+            Some(Part::Kind(found)) => Ok(found),
+            other => Err(misfit(other)),
+        }
+    }
+
+    pub fn kind_arrow(&mut self) -> Result<Option<KindPart>, BuildRefusal>
+        ensures part { IfOk result (λ v. top as_kind_arrow (held self.old) ≡ Some (option_map kind_in v, held self.new)) }
+        ensures misfit { IfErr result (λ e. top as_kind_arrow (held self.old) ≡ None) }
+    {
+        match self.pop() {
+            Some(Part::KindArrow(found)) => Ok(found),
+            other => Err(misfit(other)),
+        }
+    }
+
+    pub fn module(&mut self) -> Result<Mod, BuildRefusal>
+        ensures part { IfOk result (λ v. top as_mod (held self.old) ≡ Some (v, held self.new)) }
+        ensures misfit { IfErr result (λ e. top as_mod (held self.old) ≡ None) }
+    {
+        match self.pop() {
+            Some(Part::Mod(found)) => Ok(found),
+            other => Err(misfit(other)),
+        }
+    }
+
+    pub fn names(&mut self) -> Result<Vec<SpanName>, BuildRefusal>
+        ensures part { IfOk result (λ v. top as_names (held self.old) ≡ Some (map spelled (reverse v.items), held self.new)) }
+        ensures misfit { IfErr result (λ e. top as_names (held self.old) ≡ None) }
+    {
+        match self.pop() {
+            Some(Part::Names(found)) => Ok(found),
+            other => Err(misfit(other)),
+        }
+    }
+
+    pub fn ty(&mut self) -> Result<TyEx, BuildRefusal>
+        ensures part { IfOk result (λ v. top as_ty (held self.old) ≡ Some (v, held self.new)) }
+        ensures misfit { IfErr result (λ e. top as_ty (held self.old) ≡ None) }
+    {
+        match self.pop() {
+            Some(Part::Ty(found)) => Ok(found),
+            other => Err(misfit(other)),
+        }
+    }
+
+    pub fn ty_arrow(&mut self) -> Result<Option<TyEx>, BuildRefusal>
+        ensures part { IfOk result (λ v. top as_ty_arrow (held self.old) ≡ Some (v, held self.new)) }
+        ensures misfit { IfErr result (λ e. top as_ty_arrow (held self.old) ≡ None) }
+    {
+        match self.pop() {
+            Some(Part::TyArrow(found)) => Ok(found),
+            other => Err(misfit(other)),
+        }
+    }
+
+    pub fn tys(&mut self) -> Result<Vec<TyEx>, BuildRefusal>
+        ensures part { IfOk result (λ v. top as_tys (held self.old) ≡ Some (tys_of (reverse v.items), held self.new)) }
+        ensures misfit { IfErr result (λ e. top as_tys (held self.old) ≡ None) }
+    {
+        match self.pop() {
+            Some(Part::Tys(found)) => Ok(found),
+            other => Err(misfit(other)),
+        }
+    }
+
+    pub fn field_tys(&mut self) -> Result<Vec<(SpanName, TyEx)>, BuildRefusal>
+        ensures part { IfOk result (λ v. top as_field_tys (held self.old) ≡ Some (field_tys_of (reverse v.items), held self.new)) }
+        ensures misfit { IfErr result (λ e. top as_field_tys (held self.old) ≡ None) }
+    {
+        match self.pop() {
+            Some(Part::FieldTys(found)) => Ok(found),
+            other => Err(misfit(other)),
+        }
+    }
+
+    pub fn sig(&mut self) -> Result<SigEx, BuildRefusal>
+        ensures part { IfOk result (λ v. top as_sig (held self.old) ≡ Some (v, held self.new)) }
+        ensures misfit { IfErr result (λ e. top as_sig (held self.old) ≡ None) }
+    {
+        match self.pop() {
+            Some(Part::Sig(found)) => Ok(found),
+            other => Err(misfit(other)),
+        }
+    }
+
+    pub fn pure(&mut self) -> Result<bool, BuildRefusal>
+        ensures part { IfOk result (λ v. top as_pure (held self.old) ≡ Some (v, held self.new)) }
+        ensures misfit { IfErr result (λ e. top as_pure (held self.old) ≡ None) }
+    {
+        match self.pop() {
+            Some(Part::Pure(found)) => Ok(found),
+            other => Err(misfit(other)),
+        }
+    }
+
+    pub fn wheres(&mut self) -> Result<Vec<Where>, BuildRefusal>
+        ensures part { IfOk result (λ v. top as_wheres (held self.old) ≡ Some (map where_in (reverse v.items), held self.new)) }
+        ensures misfit { IfErr result (λ e. top as_wheres (held self.old) ≡ None) }
+    {
+        match self.pop() {
+            Some(Part::Wheres(found)) => Ok(found),
+            other => Err(misfit(other)),
+        }
+    }
+
+    pub fn mods(&mut self) -> Result<Vec<Mod>, BuildRefusal>
+        ensures part { IfOk result (λ v. top as_mods (held self.old) ≡ Some (reverse v.items, held self.new)) }
+        ensures misfit { IfErr result (λ e. top as_mods (held self.old) ≡ None) }
+    {
+        match self.pop() {
+            Some(Part::Mods(found)) => Ok(found),
+            other => Err(misfit(other)),
+        }
+    }
+
+    pub fn ascriptions(&mut self) -> Result<Vec<Ascription>, BuildRefusal>
+        ensures part { IfOk result (λ v. top as_ascriptions (held self.old) ≡ Some (map ascription_in (reverse v.items), held self.new)) }
+        ensures misfit { IfErr result (λ e. top as_ascriptions (held self.old) ≡ None) }
+    {
+        match self.pop() {
+            Some(Part::Ascriptions(found)) => Ok(found),
+            other => Err(misfit(other)),
+        }
+    }
+
+    pub fn exp(&mut self) -> Result<Exp, BuildRefusal>
+        ensures part { IfOk result (λ v. top as_exp (held self.old) ≡ Some (v, held self.new)) }
+        ensures misfit { IfErr result (λ e. top as_exp (held self.old) ≡ None) }
+    {
+        match self.pop() {
+            Some(Part::Exp(found)) => Ok(found),
+            other => Err(misfit(other)),
+        }
+    }
+
+    pub fn abstraction(&mut self) -> Result<Abstraction, BuildRefusal>
+        ensures part { IfOk result (λ v. top as_abstraction (held self.old) ≡ Some (abstraction_in v, held self.new)) }
+        ensures misfit { IfErr result (λ e. top as_abstraction (held self.old) ≡ None) }
+    {
+        match self.pop() {
+            Some(Part::Abstraction(found)) => Ok(found),
+            other => Err(misfit(other)),
+        }
+    }
+
+    pub fn ops(&mut self) -> Result<Vec<(Op, Exp)>, BuildRefusal>
+        ensures part { IfOk result (λ v. top as_ops (held self.old) ≡ Some (ops_of (reverse v.items), held self.new)) }
+        ensures misfit { IfErr result (λ e. top as_ops (held self.old) ≡ None) }
+    {
+        match self.pop() {
+            Some(Part::Ops(found)) => Ok(found),
+            other => Err(misfit(other)),
+        }
+    }
+
+    pub fn args(&mut self) -> Result<Vec<Arg>, BuildRefusal>
+        ensures part { IfOk result (λ v. top as_args (held self.old) ≡ Some (args_of (reverse v.items), held self.new)) }
+        ensures misfit { IfErr result (λ e. top as_args (held self.old) ≡ None) }
+    {
+        match self.pop() {
+            Some(Part::Args(found)) => Ok(found),
+            other => Err(misfit(other)),
+        }
+    }
+
+    pub fn field_exps(&mut self) -> Result<Vec<(SpanName, Exp)>, BuildRefusal>
+        ensures part { IfOk result (λ v. top as_field_exps (held self.old) ≡ Some (field_exps_of (reverse v.items), held self.new)) }
+        ensures misfit { IfErr result (λ e. top as_field_exps (held self.old) ≡ None) }
+    {
+        match self.pop() {
+            Some(Part::FieldExps(found)) => Ok(found),
+            other => Err(misfit(other)),
+        }
+    }
+}
