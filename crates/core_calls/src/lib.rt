@@ -9,8 +9,6 @@ mod expressions;
 mod premises;
 mod records;
 mod refusal;
-#[cfg(test)]
-mod tests;
 mod types;
 
 pub use expressions::{

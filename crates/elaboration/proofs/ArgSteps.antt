@@ -1,8 +1,8 @@
 -- Operators, functions and operands applied one after the other.
-use Rattle.std.proofs.Common.{◌≡◌, ◌<◌, List, [], ◌∷◌, length, refl, sym, ap, ◌∙◌, subst, arith}
+use Rattle.std.proofs.Common.{◌≡◌, ◌<◌, List, [], ◌∷◌, length, refl, sym, ◌∙◌, subst, arith}
 use Rattle.omega_kinds.specs.Kind.{Kind}
 use Rattle.omega_types.specs.Ty.{Ty}
-use Rattle.omega_types.specs.Normality.{Normal, Neutral}
+use Rattle.omega_types.specs.Normality.{Normal}
 use Rattle.omega_types.specs.Normality.Normal.{n_arrow, n_neutral}
 use Rattle.omega_terms.specs.Term.{Term}
 use Rattle.signatures.specs.Env.{Env, kinds}

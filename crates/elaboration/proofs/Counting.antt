@@ -1,5 +1,5 @@
 -- As many type variables as an environment has.
-use Rattle.std.proofs.Common.{◌≡◌, List, Option, Some, None, IfSome, length, reverse, map, refl, sym, ap, ◌∙◌}
+use Rattle.std.proofs.Common.{◌≡◌, List, Option, Some, None, IfSome, length, map, refl, sym, ap, ◌∙◌}
 use Rattle.std.proofs.lemmas.List.{length-reverse, length-map}
 use Rattle.omega_kinds.specs.View.{kind_tree}
 use Rattle.omega_kinds.specs.declared.kind.Kind.{Kind}
@@ -7,10 +7,9 @@ use Rattle.omega_types.specs.Scope.{scope_of}
 use Rattle.signatures.specs.Env.{Env, kinds}
 use Rattle.fing_syntax.specs.Leaves.{place}
 use Rattle.fing_text.specs.declared.span.Span.{Span}
-use Rattle.refusal_lines.specs.Plain.{plain_reason, plain_refusal, refused}
+use Rattle.refusal_lines.specs.Plain.{plain_reason, refused}
 use Rattle.refusal_lines.specs.declared.refusal.ElabWhy.{ElabWhy}
 use Rattle.fing_refusals.specs.Refusal.{Refuse, ElabWhy as PlainWhy}
-use Rattle.refusal_lines.specs.declared.refusal.Refusal.{Refusal}
 use Rattle.elaboration.specs.Answered.{Placed}
 
 counted : (ks : List Kind) → length (scope_of ks) ≡ length ks

@@ -1,12 +1,12 @@
 -- Entries pushed one after the other, and taken away again.
-use Rattle.std.proofs.Common.{◌≡◌, ◌≤◌, ◌<◌, ◌+◌, ℕ, zero, suc, List, [], ◌∷◌, Option, Some, None, MatchOption, length, drop, map, get_or, refl, sym, ap, ◌∙◌, subst, arith, add-one, drop-cons}
+use Rattle.std.proofs.Common.{◌≡◌, ◌≤◌, ◌<◌, ◌+◌, ℕ, zero, suc, List, [], ◌∷◌, Option, Some, None, MatchOption, length, drop, map, get_or, refl, sym, ap, ◌∙◌, arith, add-one, drop-cons}
 use Rattle.std.proofs.lemmas.List.{drop_all}
 use Rattle.omega_kinds.specs.Kind.{Kind}
 use Rattle.omega_kinds.specs.Name.{Name}
 use Rattle.omega_kinds.specs.View.{kind_tree}
 use Rattle.omega_kinds.specs.declared.kind.Kind.{Kind as KindHandle}
-use Rattle.signatures.specs.Signatures.Sig.{Sig, SigRow}
-use Rattle.signatures.specs.Env.{Env, Entry, TypeVar, Named, type_vars, with_module, named_fields}
+use Rattle.signatures.specs.Signatures.Sig.{Sig}
+use Rattle.signatures.specs.Env.{Env, TypeVar, Named, type_vars, with_module, named_fields}
 use Rattle.semantic_sigs.specs.Entries.{entry_of}
 use Rattle.semantic_sigs.specs.Fields.{sig_row}
 use Rattle.semantic_sigs.specs.declared.env.Entry.{Entry as CodeEntry}

@@ -1,27 +1,23 @@
 -- What is given along the way: good environments, and answers where the environment is as before.
-use Rattle.std.proofs.Common.{◌≡◌, ◌≢◌, inl, inr, List, ◌∷◌, None, IfSome, Result, IfErr, IsErrAnd, refl, sym, subst}
+use Rattle.std.proofs.Common.{◌≡◌, ◌≢◌, inl, inr, List, ◌∷◌, None, IfSome, Result, IfErr, IsErrAnd, sym, subst}
 use Rattle.std.proofs.lemmas.Result.{err_from_is_err_and}
 use Rattle.omega_kinds.specs.Kind.{Kind}
 use Rattle.omega_kinds.specs.Name.{Name}
 use Rattle.omega_types.specs.Ty.{Ty}
-use Rattle.omega_types.specs.Normality.{Normal}
 use Rattle.omega_types.specs.Normality.Normal.{n_arrow}
-use Rattle.omega_types.specs.Binders.{extend}
-use Rattle.omega_terms.specs.Term.{Term}
-use Rattle.signatures.specs.Env.{Env, Value, TypeVar, TypeParam, kinds, find, with_module}
+use Rattle.signatures.specs.Env.{Env, Value, with_module}
 use Rattle.signatures.specs.Signatures.Sig.{Sig, Abs}
-use Rattle.sig_laws.specs.Good.{OkSig, OkRight, OkEnv}
+use Rattle.sig_laws.specs.Good.{OkEnv}
 use Rattle.sig_laws.proofs.Formed.Conditions.{explicit-right}
 use Rattle.premise_laws.proofs.Environments.{good-module}
-use Rattle.fing_syntax.specs.Phrase.{Span, TyEx, Exp, SigEx}
+use Rattle.fing_syntax.specs.Phrase.{Span, TyEx, SigEx}
 use Rattle.fing_syntax.specs.Place.{ty_span}
 use Rattle.fing_refusals.specs.Refusal.{KindDiffer}
-use Rattle.core_rules.specs.TypeRules.{AppliedGives}
 use Rattle.elab_rules.specs.Operators.{with_type}
-use Rattle.elab_rules.specs.Judgments.Meaning.{TyMeans, ExpMeans, SigMeans}
+use Rattle.elab_rules.specs.Judgments.Meaning.{TyMeans, SigMeans}
 use Rattle.elab_rules.specs.Refusals.Task.{Task, a_type}
 use Rattle.elab_rules.specs.Refusals.Refused.{Refused}
-use Rattle.elab_laws.proofs.Kept.{type_ok, exp_ok, sig_ok}
+use Rattle.elab_laws.proofs.Kept.{type_ok, sig_ok}
 use Rattle.refusal_lines.specs.Plain.{plain_refusal}
 use Rattle.refusal_lines.specs.declared.refusal.Refusal.{Refusal as CodeRefusal}
 use Rattle.elaboration.specs.Answered.{RefusedAs, ByTest, NoValueType}

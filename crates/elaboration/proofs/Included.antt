@@ -1,5 +1,5 @@
 -- Functors, structures and included modules: environments, conclusions and refusals, as the code has them.
-use Rattle.std.proofs.Common.{◌≡◌, ◌+◌, ◌<◌, inl, List, [], Option, Some, IfSome, drop, length, map, refl, sym, subst, ap, ◌∙◌}
+use Rattle.std.proofs.Common.{◌≡◌, ◌+◌, ◌<◌, inl, List, [], Option, Some, IfSome, drop, length, map, sym, subst, ap, ◌∙◌}
 use Rattle.std.proofs.lemmas.List.{length-map}
 use Rattle.omega_kinds.specs.Kind.{Kind}
 use Rattle.omega_kinds.specs.Name.{Name}
@@ -10,7 +10,7 @@ use Rattle.omega_kinds.specs.declared.effect.Effect.TheVariants.{Pure}
 use Rattle.omega_types.specs.Ty.{Ty}
 use Rattle.omega_types.specs.Binders.{extend}
 use Rattle.omega_terms.specs.Term.{Term, TermRow}
-use Rattle.signatures.specs.Env.{Env, kinds, type_vars, with_module, named_fields}
+use Rattle.signatures.specs.Env.{Env, kinds, with_module, named_fields}
 use Rattle.signatures.specs.Signatures.Sig.{Module, made, Sig, Abs, SigRow}
 use Rattle.signatures.specs.Signatures.FieldOrder.{with_names}
 use Rattle.sig_laws.specs.Good.{OkSig, OkRow, OkEnv, OkModule, Names}

@@ -1,5 +1,5 @@
 -- Conclusions and refusals over whole signatures and modules, as the code has them.
-use Rattle.std.proofs.Common.{◌≡◌, Bool, true, false, List, [], ◌∷◌, refl, sym, subst}
+use Rattle.std.proofs.Common.{◌≡◌, Bool, true, false, List, [], ◌∷◌, refl, subst}
 use Rattle.omega_kinds.specs.Kind.{Kind}
 use Rattle.omega_kinds.specs.Name.{Name}
 use Rattle.omega_kinds.specs.declared.effect.Effect.{Effect}
@@ -10,9 +10,9 @@ use Rattle.omega_terms.specs.Term.{Term}
 use Rattle.signatures.specs.Env.{Env, kinds, type_vars, with_module, named_fields}
 use Rattle.signatures.specs.Lifting.{Lift}
 use Rattle.signatures.specs.Signatures.Sig.{Module, made, Sig, Abs, SigRow}
-use Rattle.signatures.specs.Signatures.RecordOrder.{AreNew, NamesRise}
+use Rattle.signatures.specs.Signatures.RecordOrder.{AreNew}
 use Rattle.signatures.specs.Signatures.FieldOrder.{with_name, with_names}
-use Rattle.sig_laws.specs.Good.{OkSig, OkRight, OkEnv, OkModule, Names}
+use Rattle.sig_laws.specs.Good.{OkEnv, OkModule, Names}
 use Rattle.sig_laws.proofs.Formed.Conditions.{explicit-right, abs-body}
 use Rattle.sig_laws.proofs.Algebra.FormLaws.{kinds-type_vars}
 use Rattle.premise_laws.proofs.Environments.{good-module, bound-bind}
@@ -25,7 +25,7 @@ use Rattle.elab_rules.specs.Judgments.Meaning.{TyMeans, SigMeans, DeclMeans, Mod
 use Rattle.elab_rules.specs.Refusals.Refusal.{of_sig}
 use Rattle.elab_rules.specs.Refusals.Task.{a_sig, a_mod, decls, binds}
 use Rattle.elab_laws.proofs.FieldLaws.{rise-with_name}
-use Rattle.elab_laws.proofs.Kept.{sig_ok, mod_ok, bind_ok, binds_ok}
+use Rattle.elab_laws.proofs.Kept.{sig_ok, bind_ok, binds_ok}
 use Rattle.refusal_lines.specs.declared.refusal.Refusal.{Refusal as CodeRefusal}
 use Rattle.elaboration.specs.Answered.{RefusedAs, ByRule, ByWhere}
 use Rattle.elaboration.specs.Fields.{fields_in}

@@ -1,5 +1,5 @@
 -- Refusals where the environment is as before, at the place of a phrase.
-use Rattle.std.proofs.Common.{◌≡◌, sym, subst}
+use Rattle.std.proofs.Common.{◌≡◌, subst}
 use Rattle.signatures.specs.Env.{Env}
 use Rattle.fing_syntax.specs.Phrase.{Span}
 use Rattle.fing_refusals.specs.Refusal.{ElabWhy}

@@ -1,6 +1,6 @@
 -- Names that are new among those of parts.
 use Rattle.std.proofs.lemmas.Grind.{reverse_onto}
-use Rattle.std.proofs.Common.{IsTrue, false, ◌≡◌, ◌≢◌, ◌∙◌, ℕ, zero, suc, ◌+◌, ◌<◌, List, [], ◌∷◌, ◌++◌, length, take, map, reverse, get_or, refl, sym, ap, subst, arith, add-one}
+use Rattle.std.proofs.Common.{IsTrue, false, ◌≡◌, ◌≢◌, ◌∙◌, ℕ, zero, suc, ◌+◌, ◌<◌, List, [], ◌∷◌, ◌++◌, length, take, map, reverse, get_or, sym, ap, subst, arith, add-one}
 use Rattle.omega_kinds.specs.Name.{Name}
 use Rattle.signatures.specs.Signatures.RecordOrder.{IsNew}
 

@@ -1,9 +1,9 @@
 -- From a rule's reason, and its place, to a refusal of the rule.
-use Rattle.std.proofs.Common.{◌≡◌, ◌≢◌, List, Option, Some, None, IfSome, length, refl, sym, ap, ◌∙◌, subst}
+use Rattle.std.proofs.Common.{◌≡◌, ◌≢◌, Option, Some, None, IfSome, ap, ◌∙◌}
 use Rattle.std.specs.Option.{option_map}
 use Rattle.signatures.specs.Env.{Env}
 use Rattle.fing_syntax.specs.Phrase.{Span}
-use Rattle.fing_refusals.specs.Refusal.{Refusal, ElabWhy}
+use Rattle.fing_refusals.specs.Refusal.{ElabWhy}
 use Rattle.elab_rules.specs.Refusals.Refusal.{refuse}
 use Rattle.refusal_lines.specs.Plain.{plain_refusal}
 use Rattle.refusal_lines.specs.declared.refusal.Refusal.{Refusal as CodeRefusal}

@@ -5,8 +5,6 @@ use Rattle.omega_kinds.specs.Name.{Name}
 use Rattle.omega_kinds.specs.View.{kind_tree}
 use Rattle.omega_kinds.specs.declared.kind.Kind.{Kind as SharedKind}
 use Rattle.omega_types.specs.Binders.{extend, past}
-use Rattle.omega_types.specs.Normality.{Normal}
-use Rattle.omega_types.specs.Ty.{Ty}
 use Rattle.signatures.specs.Env.{Env, kinds, type_vars, with_module, named_fields}
 use Rattle.signatures.specs.Lifting.{Lift}
 use Rattle.signatures.specs.Signatures.Alike.{NormalAbs, NormalSig}
@@ -24,7 +22,7 @@ use Rattle.fing_text.specs.declared.span.Span.{Span as SpanAt}
 use Rattle.fing_syntax.specs.declared.leaf.SpanName.{SpanName as NameAt}
 use Rattle.fing_syntax.specs.declared.tree.DeclWhat.{DeclWhat as DeclNode}
 use Rattle.fing_syntax.specs.declared.tree.DeclWhat.TheVariants as decl_what_in
-use Rattle.fing_syntax.specs.Phrase.{Span, SpanName, TyEx, SigEx, SigAt, SigFun, Mod, Decl, Decls, MoreDecls}
+use Rattle.fing_syntax.specs.Phrase.{Span, SpanName, SigEx, SigAt, SigFun, Mod, Decl, Decls, MoreDecls}
 use Rattle.fing_syntax.specs.Place.{name_of}
 use Rattle.fing_syntax.specs.Size.{decl_size, decls_size}
 use Rattle.fing_syntax.specs.View.{decl_of, decls}
@@ -32,10 +30,10 @@ use Rattle.fing_refusals.specs.Refusal.{ElabWhy}
 use Rattle.sig_rules.specs.SigRules.{AbstractGives, DeclarationsGive}
 use Rattle.sig_calls.specs.Plain.{AreApart}
 use Rattle.sig_calls.proofs.Lists.{kinds-length}
-use Rattle.elab_rules.specs.Judgments.Meaning.{TyMeans, SigMeans, DeclMeans, DeclsMean, ModMeans}
+use Rattle.elab_rules.specs.Judgments.Meaning.{SigMeans, DeclMeans, DeclsMean, ModMeans}
 use Rattle.elab_rules.specs.Refusals.Task.{decls as decls_task}
 use Rattle.elab_laws.proofs.FieldLaws.{Apart, NoFields, no_fields-end, new-no_fields, no_fields-merge, no_fields-rename, with_names-no_fields}
-use Rattle.elab_laws.proofs.Kept.{decl_ok, mod_ok, sig_ok, type_ok}
+use Rattle.elab_laws.proofs.Kept.{decl_ok, mod_ok, sig_ok}
 use Rattle.refusal_lines.specs.declared.refusal.Refusal.{Refusal as CodeRefusal}
 use Rattle.elaboration.specs.Answered.{ByRule, RefusedAs}
 use Rattle.elaboration.specs.Fields.{fields_in}
@@ -116,9 +114,6 @@ right-under g b x y l h m = subst (λ ctx. OkRight ctx y) (kinds-type_vars g (ki
 
 pub env-in : {g h : Env} → h ≡ g → OkEnv g → OkEnv h
 env-in s o = subst OkEnv (sym s) o
-
-pub type-in : {g h : Env} {a : TyEx} {t : Ty} {k : Kind} → h ≡ g → OkEnv g → TyMeans g a t k → Normal (kinds h) t k
-type-in {g} {h} {a} {t} {k} s o p = subst (λ e. Normal (kinds e) t k) (sym s) (type_ok g a t k o p)
 
 pub sig-in : {g h : Env} {a : SigEx} {x : Abs} → h ≡ g → OkEnv g → SigMeans g a x → OkRight (kinds h) x
 sig-in {g} {h} {a} {x} s o p = subst (λ e. OkRight (kinds e) x) (sym s) (sig_ok g a x o p)

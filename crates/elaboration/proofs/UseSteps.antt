@@ -8,27 +8,21 @@ use Rattle.omega_terms.specs.Term.{Term}
 use Rattle.signatures.specs.Env.{Env, find, kinds}
 use Rattle.signatures.specs.Matching.Subtyping.{Match}
 use Rattle.signatures.specs.QuantifierOrder.{Norm}
-use Rattle.signatures.specs.Signatures.Sig.{Module, Sig, Abs}
-use Rattle.sig_laws.specs.Good.{OkEnv, OkModule, OkRight, OkAbs, OkSig}
+use Rattle.signatures.specs.Signatures.Sig.{Sig, Abs}
+use Rattle.sig_laws.specs.Good.{OkEnv, OkRight, OkAbs, OkSig}
 use Rattle.sig_laws.proofs.Formed.Conditions.{explicit-abs}
 use Rattle.premise_laws.proofs.Environments.{find-good}
 use Rattle.semantic_sigs.specs.View.{kinds_of}
 use Rattle.packages.specs.Package.{PackGives}
-use Rattle.fing_syntax.specs.Phrase.{Span, SpanName, Mod, SigEx, ExpAt, ExpPack}
+use Rattle.fing_syntax.specs.Phrase.{Span, SpanName, SigEx, ExpAt, ExpPack}
 use Rattle.fing_syntax.specs.Place.{name_of, sig_span}
-use Rattle.elab_rules.specs.Judgments.Meaning.{ModMeans, SigMeans, ExpMeans}
+use Rattle.elab_rules.specs.Judgments.Meaning.{SigMeans, ExpMeans}
 use Rattle.elab_rules.specs.Refusals.Task.{an_exp}
-use Rattle.elab_laws.proofs.Kept.{mod_ok, sig_ok}
+use Rattle.elab_laws.proofs.Kept.{sig_ok}
 use Rattle.refusal_lines.specs.declared.refusal.Refusal.{Refusal as CodeRefusal}
 use Rattle.elaboration.specs.Answered.{RefusedAs, ByMatch}
 use Rattle.elaboration.proofs.Refuse.Expressions.{exp_pack-match}
 use Rattle.elaboration.proofs.Ruled.{match-forms}
-
-pub module-in : {g h : Env} {m : Mod} {M : Module} → h ≡ g → OkEnv g → ModMeans g m M → OkModule (kinds h) M
-module-in {g} {m = m} {M = M} s o p = subst (λ x. OkModule (kinds x) M) (sym s) (mod_ok g m M o p)
-
-pub sig-in : {g h : Env} {a : SigEx} {x : Abs} → h ≡ g → OkEnv g → SigMeans g a x → OkRight (kinds h) x
-sig-in {g} {a = a} {x = x} s o p = subst (λ y. OkRight (kinds y) x) (sym s) (sig_ok g a x o p)
 
 pub found-in : {g h : Env} {left s : Sig} {d : Term} (x : Name) → h ≡ g → OkEnv g → find g x ≡ Some (s, d) → left ≡ s → OkSig (kinds h) left
 found-in {g} {left = left} {s = s} {d = d} x q o f e = subst (λ y. OkSig (kinds y) left) (sym q) (subst (OkSig (kinds g)) (sym e) (find-good g x o (s, d) f))

@@ -2,4 +2,3 @@ pub mod Answered
 pub mod Fields
 pub mod Leaving
 pub mod Modules
-pub mod NameSets

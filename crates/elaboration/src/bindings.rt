@@ -16,24 +16,29 @@ ghost use Rattle.elaboration.specs.Answered.{RefusedAs};
 ghost use Rattle.elaboration.specs.Modules.{IsSingle};
 
 use crate::expressions::exp;
-use crate::mod_rules::{fields_of, include_rule};
+use crate::mod_rules::{end_rule, fields_of, include_rule};
 use crate::modules::module;
 use crate::refusing::refuse;
 use crate::scopes::{leave, push_fields, push_module};
-use crate::sets::{with_name, with_names};
+use crate::sets::{NameSet, with_names};
 use crate::sigs::sig;
 use crate::types::ty;
 use fing_syntax::{Bind, BindWhat, Mod};
 use fing_text::Span;
-use module_calls::{bind_sig, bind_type, bind_val, end_struct, seq_bind};
-use omega_kinds::{Mem, Name, Names, name_of};
+use module_calls::{bind_sig, bind_type, bind_val, seq_bind};
+use omega_kinds::{Mem, Name, name_of};
 use refusal_lines::{ElabWhy, Refusal};
 use semantic_sigs::{Abs, Env, Module, SigFields};
 use std::alloc::Global;
 
 /// The rest of a structure, after bindings of the names before, which are bound in the environment and rise.
 #[cycle(elab)]
-pub fn binds(alloc: Global, env: &mut Env, before: Names, list: &[Bind]) -> Result<Module, Refusal>
+pub fn binds(
+    alloc: Global,
+    env: &mut Env,
+    before: NameSet,
+    list: &[Bind],
+) -> Result<Module, Refusal>
     requires env { OkEnv env.old }
     requires names { GoodNames env.old before }
     ensures given { IfOk result (λ m. BindsMean env.old before (binds_of list.now) (module_of m)) }
@@ -42,7 +47,7 @@ pub fn binds(alloc: Global, env: &mut Env, before: Names, list: &[Bind]) -> Resu
 {
     match list {
         [] => {
-            let whole = end_struct(alloc, env, &before)?;
+            let whole = end_rule(alloc, env, &before)?;
             Ok(whole)
         }
         [first, rest @ ..] => binds_from(alloc, env, before, first, rest),
@@ -54,7 +59,7 @@ pub fn binds(alloc: Global, env: &mut Env, before: Names, list: &[Bind]) -> Resu
 fn binds_from(
     alloc: Global,
     env: &mut Env,
-    before: Names,
+    before: NameSet,
     first: &Bind,
     rest: &[Bind],
 ) -> Result<Module, Refusal>
@@ -85,7 +90,7 @@ fn include_of(phrase: &Bind) -> Option<&Mod>
 fn bound(
     alloc: Global,
     env: &mut Env,
-    before: Names,
+    before: NameSet,
     first: &Bind,
     rest: &[Bind],
 ) -> Result<Module, Refusal>
@@ -107,7 +112,7 @@ fn bound(
 fn binds_under(
     alloc: Global,
     env: &mut Env,
-    before: Names,
+    before: NameSet,
     name: &Name,
     head: &Abs,
     rest: &[Bind],
@@ -118,7 +123,7 @@ fn binds_under(
     ensures refused { IfErr result (λ e. RefusedAs (with_module env.old (kinds_of head.now) name.now (body_of head.now)) (binds_task (with_name_after name.now before) (binds_of rest.now)) e) }
     ensures same { OnOk result (env.new ≡ env.old) }
 {
-    let names = with_name(alloc, &before, name)?;
+    let names = before.with(name)?;
     push_module(env, name, head)?;
     let found = binds(alloc, env, names, rest)?;
     leave(env, head.kinds().items().len() + 1);
@@ -130,7 +135,7 @@ fn binds_under(
 fn included(
     alloc: Global,
     env: &mut Env,
-    before: Names,
+    before: NameSet,
     at: Span,
     whole: &Mod,
     rest: &[Bind],
@@ -155,7 +160,7 @@ fn included(
 fn included_under(
     alloc: Global,
     env: &mut Env,
-    before: Names,
+    before: NameSet,
     head: &Abs,
     fields: &SigFields,
     rest: &[Bind],
@@ -166,7 +171,7 @@ fn included_under(
     ensures refused { IfErr result (λ e. RefusedAs (named_fields (with_module env.old (kinds_of head.now) include_name (body_of head.now)) (sig_row fields.now)) (binds_task (with_names_after (sig_row fields.now) before) (binds_of rest.now)) e) }
     ensures same { OnOk result (env.new ≡ env.old) }
 {
-    let names = with_names(alloc, before, fields)?;
+    let names = with_names(before, fields)?;
     push_included(alloc, env, head, fields)?;
     let found = binds(alloc, env, names, rest)?;
     leave(env, fields.items().len());

@@ -16,7 +16,7 @@ ghost use Rattle.elaboration.specs.Answered.{RefusedAs};
 ghost use Rattle.elaboration.specs.Fields.{fields_in};
 
 use crate::scopes::{leave, push_fields, push_type_vars};
-use crate::sets::with_names;
+use crate::sets::{NameSet, with_names};
 use crate::signature_rules::{
     abstract_rule, declarations_rule, distinct_rule, include_rule, module_rule, no_fields,
     signature_rule, type_rule, value_rule,
@@ -25,7 +25,6 @@ use crate::sigs::sig;
 use crate::types::ty;
 use fing_syntax::{Decl, DeclWhat, SigEx, SpanName, TyEx};
 use fing_text::Span;
-use omega_kinds::Names;
 use refusal_lines::Refusal;
 use semantic_sigs::{Abs, Env, SigFields, SigNode};
 use std::alloc::Global;
@@ -157,7 +156,7 @@ fn decl_place(phrase: &Decl) -> Span
 pub(crate) fn decls(
     alloc: Global,
     env: &mut Env,
-    before: Names,
+    before: NameSet,
     list: &[Decl],
 ) -> Result<Abs, Refusal>
     requires { OkEnv env.old }
@@ -182,7 +181,7 @@ pub(crate) fn decls(
 fn decls_under(
     alloc: Global,
     env: &mut Env,
-    before: Names,
+    before: NameSet,
     head: &Abs,
     rest: &[Decl],
 ) -> Result<Abs, Refusal>
@@ -195,7 +194,7 @@ fn decls_under(
     let fields = fields_of(head);
     push_type_vars(env, head.kinds())?;
     push_fields(env, fields)?;
-    let names = with_names(alloc, before, fields)?;
+    let names = with_names(before, fields)?;
     let found = decls(alloc, env, names, rest)?;
     leave(env, fields.items().len());
     leave(env, head.kinds().items().len());

@@ -26,3 +26,4 @@ mod types;
 mod uses;
 
 pub use bindings::binds;
+pub use sets::NameSet;

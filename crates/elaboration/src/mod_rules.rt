@@ -1,27 +1,32 @@
 // The rules of modules, refused at a place in an environment.
-ghost use Rattle.std.specs.Prelude.{◌≡◌, List, MatchOption, Some, IfErr, IfOk};
+ghost use Rattle.std.specs.Prelude.{◌≡◌, [], List, MatchOption, Some, IfErr, IfOk};
 ghost use Rattle.omega_kinds.specs.Kind.{Kind as KindTree};
 ghost use Rattle.omega_kinds.specs.declared.effect.Effect.{Effect as EffectTree};
+ghost use Rattle.omega_kinds.specs.declared.effect.Effect.TheVariants.{Pure};
 ghost use Rattle.omega_types.specs.Binders.{extend};
+ghost use Rattle.omega_terms.specs.Term.{Fields, TermRow};
 ghost use Rattle.signatures.specs.Env.{find, kinds as kinds_in};
 ghost use Rattle.signatures.specs.Matching.Subtyping.{Match};
-ghost use Rattle.signatures.specs.Signatures.Sig.{Abs as AbsTree, Sig as SigTree, SigRow, Str};
-ghost use Rattle.sig_laws.specs.Good.{OkModule, OkRight, OkSig};
+ghost use Rattle.signatures.specs.Signatures.RecordOrder.{NamesRise};
+ghost use Rattle.signatures.specs.Signatures.Sig.{Abs as AbsTree, Sig as SigTree, SigRow, Str, made};
+ghost use Rattle.sig_laws.specs.Good.{Bound, OkModule, OkRight, OkSig};
 ghost use Rattle.semantic_sigs.specs.Fields.{sig_row};
 ghost use Rattle.semantic_sigs.specs.Made.{module_of};
 ghost use Rattle.semantic_sigs.specs.View.{body_of, kinds_of};
 ghost use Rattle.module_rules.specs.ModRules.{ApplyGives, FunctorRefuses, IncludeGives, NamedGives, NamedRefuses, PartsGive, ProjectRefuses};
 ghost use Rattle.module_rules.specs.Projection.{Projected};
+ghost use Rattle.module_rules.specs.Sequence.{Collected};
 ghost use Rattle.elab_rules.specs.Refusals.Refusal.{of_mod};
 ghost use Rattle.fing_syntax.specs.Leaves.{place};
 ghost use Rattle.elaboration.specs.Answered.{ByMatch, ByRule};
 ghost use Rattle.elaboration.specs.Modules.{FunctorGives};
 
 use crate::mod_refusing::{match_refusal, mod_refusal};
+use crate::sets::NameSet;
 use fing_syntax::SpanName;
 use fing_text::Span;
 use functor_calls::pure_functor;
-use module_calls::{apply, functor_parts, gen_functor, include_bind, named, project};
+use module_calls::{apply, end_struct, functor_parts, gen_functor, include_bind, named, project};
 use omega_kinds::{Effect, Mem, Name};
 use omega_terms::Term;
 use refusal_lines::Refusal;
@@ -148,4 +153,15 @@ pub(crate) fn include_rule(alloc: Global, first: Module, rest: Module) -> Result
         Ok(made) => Ok(made),
         Err(_) => Err(Mem),
     }
+}
+
+/// The end of a structure: what the environment has for each of these names, all of which are bound. `Err` is want of
+/// memory.
+pub(crate) fn end_rule(alloc: Global, env: &Env, names: &NameSet) -> Result<Module, Mem>
+    requires found { Bound env.now names.now }
+    requires rising { NamesRise names.now }
+    ensures { IfOk result (λ m. (fs : SigRow) × (es : TermRow) × Collected env.now names.now fs es × (module_of m ≡ made Pure (AbsTree.Ex [] (Str fs)) [] (Fields es))) }
+{
+    let list = names.list(alloc)?;
+    end_struct(alloc, env, &list)
 }

@@ -18,11 +18,12 @@ use crate::mod_rules::{
 };
 use crate::package_rules::unpack_rule;
 use crate::scopes::{leave, push_module};
+use crate::sets::NameSet;
 use crate::sigs::sig;
 use fing_syntax::{Bind, Exp, Mod, ModWhat, SigEx, SpanName};
 use fing_text::Span;
 use module_calls::seal;
-use omega_kinds::{Name, Names};
+use omega_kinds::Name;
 use package_calls::norm;
 use refusal_lines::Refusal;
 use semantic_sigs::{Abs, Env, Module};
@@ -74,7 +75,7 @@ fn mod_struct(alloc: Global, env: &mut Env, at: Span, list: &[Bind]) -> Result<M
     ensures refused { IfErr result (λ e. RefusedAs env.old (a_mod (ModAt (place at) (ModStruct (binds_of list.now)))) e) }
     ensures same { OnOk result (env.new ≡ env.old) }
 {
-    let whole = binds(alloc, env, Names::new(alloc), list)?;
+    let whole = binds(alloc, env, NameSet::new(alloc), list)?;
     Ok(whole)
 }
 

@@ -1,56 +1,72 @@
 // Sets of names, in their order.
-ghost use Rattle.std.specs.Prelude.{◌≡◌, IfOk};
-ghost use Rattle.signatures.specs.Signatures.FieldOrder.{with_name as with_name_of, with_names as with_names_of};
+ghost use Rattle.std.specs.Prelude.{◌≡◌, [], IfOk};
+ghost use Rattle.signatures.specs.Signatures.FieldOrder.{with_name, with_names as with_names_of};
 ghost use Rattle.semantic_sigs.specs.Fields.{sig_row};
-ghost use Rattle.elaboration.specs.NameSets.{Put};
 
 use omega_kinds::{Mem, Name, Names};
 use semantic_sigs::SigFields;
 use std::alloc::Global;
-use std::cmp::Ordering;
+use std::collections::BTreeSet;
+use std::marker::Model;
 
-/// A name more. `Err` is want of memory, as for all calls here.
-pub(crate) fn with_name(alloc: Global, before: &Names, name: &Name) -> Result<Names, Mem>
-    ensures { IfOk result (λ n. n ≡ with_name_of name.now before.now) }
-{
-    let mut all = Names::new(alloc);
-    let mut placed = false;
-    for other in before.items() {
-        placed = put_before(&mut all, name, other, placed)?;
-        all.push(other.share()?)?;
-    }
-    if placed {
-        return Ok(all);
-    }
-    all.push(name.share()?)?;
-    Ok(all)
+/// A set of names. Contracts see it as the list of its names, in their order.
+pub struct NameSet {
+    names: BTreeSet<Name>,
 }
 
-// Adds the name where it comes before the other one, unless it has its place. Whether it has its place then, before the
-// other one or in it.
-fn put_before(all: &mut Names, name: &Name, other: &Name, placed: bool) -> Result<bool, Mem>
-    ensures { IfOk result (λ b. Put all.old all.new placed b name.now other.now) }
-{
-    if placed {
-        return Ok(true);
+impl Model for NameSet {
+    ghost use Rattle.std.specs.Prelude.{List, ℕ};
+
+    ghost Value = { List (List ℕ) };
+
+    ghost view = { λ n. n.names.keys };
+}
+
+impl Drop for NameSet {
+    fn drop(self) {
+        let NameSet { names } = self;
+        drop(names);
     }
-    match name.cmp(other) {
-        Ordering::Less => {
-            all.push(name.share()?)?;
-            Ok(true)
+}
+
+impl NameSet {
+    /// No names.
+    pub fn new(alloc: Global) -> NameSet
+        ensures { result ≡ [] }
+    {
+        NameSet {
+            names: BTreeSet::new(alloc),
         }
-        Ordering::Equal => Ok(true),
-        Ordering::Greater => Ok(false),
+    }
+
+    /// The names, in their order. `Err` is want of memory, as for all calls below.
+    pub(crate) fn list(&self, alloc: Global) -> Result<Names, Mem>
+        ensures { IfOk result (λ n. n ≡ self.now) }
+    {
+        let mut list = Names::new(alloc);
+        for name in &self.names {
+            list.push(name.share()?)?;
+        }
+        Ok(list)
+    }
+
+    /// A name more.
+    pub(crate) fn with(self, name: &Name) -> Result<NameSet, Mem>
+        ensures { IfOk result (λ n. n ≡ with_name name.now self) }
+    {
+        let NameSet { mut names } = self;
+        names.insert(name.share()?)?;
+        Ok(NameSet { names })
     }
 }
 
 /// The names of fields more.
-pub(crate) fn with_names(alloc: Global, before: Names, fields: &SigFields) -> Result<Names, Mem>
+pub(crate) fn with_names(before: NameSet, fields: &SigFields) -> Result<NameSet, Mem>
     ensures { IfOk result (λ n. n ≡ with_names_of (sig_row fields.now) before) }
 {
     let mut names = before;
     for field in fields.items() {
-        names = with_name(alloc, &names, &field.0)?;
+        names = names.with(&field.0)?;
     }
     Ok(names)
 }

@@ -23,6 +23,7 @@ ghost use Rattle.elaboration.specs.Fields.{fields_in};
 
 use crate::places::where_place;
 use crate::refusing::refuse;
+use crate::sets::NameSet;
 use fing_syntax::{SpanName, TyEx};
 use fing_text::Span;
 use functor_calls::lift;
@@ -133,13 +134,14 @@ pub(crate) fn distinct_rule(
     alloc: Global,
     env: &Env,
     at: Span,
-    before: &Names,
+    before: &NameSet,
     next: &Abs,
 ) -> Result<(), Refusal>
     ensures given { OnOk result (AreNew (fields_in next.now) before.now) }
     ensures refused { IfErr result (λ e. ByRule of_sig env.now (place at) (DistinctRefuses before.now (fields_in next.now)) e) }
 {
-    match distinct(alloc, before, next) {
+    let names = before.list(alloc)?;
+    match distinct(alloc, &names, next) {
         Ok(()) => Ok(()),
         Err(why) => Err(sig_refusal(alloc, env, at, why)),
     }

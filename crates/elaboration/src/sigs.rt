@@ -14,11 +14,12 @@ use crate::declarations::decls;
 use crate::modules::module;
 use crate::path_rules::sig_path_rule;
 use crate::scopes::{leave, push_module};
+use crate::sets::NameSet;
 use crate::signature_rules::{functor_rule, lift_rule, where_rule};
 use crate::types::ty;
 use fing_syntax::{Decl, Mod, SigEx, SigWhat, SpanName, TyEx};
 use fing_text::Span;
-use omega_kinds::{Name, Names};
+use omega_kinds::Name;
 use refusal_lines::Refusal;
 use semantic_sigs::{Abs, Env};
 use std::alloc::Global;
@@ -71,7 +72,7 @@ fn sig_decls(alloc: Global, env: &mut Env, at: Span, list: &[Decl]) -> Result<Ab
     ensures refused { IfErr result (λ e. RefusedAs env.old (a_sig (SigAt (place at) (SigDecls (decls_of list.now)))) e) }
     ensures same { OnOk result (env.new ≡ env.old) }
 {
-    let whole = decls(alloc, env, Names::new(alloc), list)?;
+    let whole = decls(alloc, env, NameSet::new(alloc), list)?;
     Ok(whole)
 }
 

@@ -8,10 +8,10 @@ ghost use Rattle.semantic_sigs.specs.Made.{module_of};
 ghost use Rattle.refusal_lines.specs.Plain.{plain_refusal};
 ghost use Rattle.fing_elab.specs.Exactly.{Means, IsRefused};
 
-use elaboration::binds;
+use elaboration::{NameSet, binds};
 use fing_syntax::Program;
 use module_calls::packed;
-use omega_kinds::{Effect, Mem, Names};
+use omega_kinds::{Effect, Mem};
 use omega_terms::Term;
 use refusal_lines::Refusal;
 use semantic_sigs::{Abs, Env, Module, Witnesses};
@@ -56,7 +56,7 @@ pub fn elab(alloc: Global, program: &Program) -> Result<Elaborated, Refusal>
     ensures refused { IfErr result (λ e. IfSome (plain_refusal e) (IsRefused program.now)) }
 {
     let mut env = Env::new(alloc);
-    let found = binds(alloc, &mut env, Names::new(alloc), &program.binds)?;
+    let found = binds(alloc, &mut env, NameSet::new(alloc), &program.binds)?;
     let whole = whole_of(alloc, &found)?;
     Ok(Elaborated {
         effect: found.effect,

@@ -17,9 +17,12 @@ fn sink(alloc: Global) -> Result<MemSink, Fail> {
 
 #[test]
 fn other_words(rt: HostRuntime) -> Result<(), Fail> {
-    let lines: [&[&str]; 9] = [
+    let lines: [&[&str]; 12] = [
         &[],
-        &["gen", "1"],
+        &["gen"],
+        &["gen", "0"],
+        &["gen", "301"],
+        &["gen", "1", "--budget", "1"],
         &["check", "1"],
         &["run", "--budget", "10000001"],
         &["emit", "1"],

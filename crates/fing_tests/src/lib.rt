@@ -8,9 +8,13 @@ mod ample;
 #[cfg(test)]
 mod check;
 #[cfg(test)]
+mod cut;
+#[cfg(test)]
 mod emit;
 #[cfg(test)]
 mod faults;
+#[cfg(test)]
+mod generated;
 #[cfg(test)]
 mod outcomes;
 #[cfg(test)]

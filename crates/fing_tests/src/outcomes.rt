@@ -3,7 +3,7 @@ use crate::runs::ran;
 use fing_top::Status;
 use std::test::Fail;
 
-const ROWS: [(&[&str], &str, Status, &str); 22] = [
+const ROWS: [(&[&str], &str, Status, &str); 23] = [
     (&["run"], "", Status::Ok, ""),
     (&["run"], "val x = 1 + 2", Status::Ok, "x = 3\n"),
     (
@@ -35,6 +35,12 @@ const ROWS: [(&[&str], &str, Status, &str); 22] = [
         "module M = struct type t = Int val x = 5 end :> sig type t val x : t end",
         Status::Spent,
         "spent 10\n",
+    ),
+    (
+        &["run"],
+        "module I = struct type f = fun (a : Type) => a -> a val g = fun [a : Type] => fun (x : a) => x end :> sig type f : Type -> Type val g : [a : Type] -> f a end where type f = fun (a : Type) => a -> a",
+        Status::Ok,
+        "I = {f = type, g = fun}\n",
     ),
     (
         &["run"],

@@ -1,11 +1,10 @@
 -- What is compiled and what is verified is replied, and a source whose bytes are known is answered by its one reply.
 use Rattle.std.proofs.Common.{◌≡◌, ◌⊎◌, inl, inr, ℕ, ◌+◌, ◌≤◌, List, [], ◌∷◌, ◌++◌, length, Option, Some, None, Ok, Err, Result, IfErr, IsErrAnd, arith, refl, sym, ap, subst, ◌∙◌}
-use Rattle.std.specs.Prelude.{MatchOption, MatchResult, IfSome, codes}
+use Rattle.std.specs.Prelude.{MatchResult, IfSome, codes}
 use Rattle.std.specs.Io.KnownBytes.{Consumes, IsAtEnd}
 use Rattle.std.proofs.lemmas.List.{append-nil}
 use Rattle.std.proofs.lemmas.Result.{err_from_is_err_and}
 use Rattle.fing_text.specs.Told.{Told}
-use Rattle.fing_text.specs.Reads.{ReadAll}
 use Rattle.fing_text.specs.Writes.{Wrote}
 use Rattle.omega_types.specs.Ty.{Ty}
 use Rattle.omega_terms.specs.Term.{Term}
@@ -27,7 +26,8 @@ use Rattle.fing_grammar.specs.declared.refusal.ParseRefusal.TheVariants as parse
 use Rattle.fing_grammar.specs.Refusal.{Refuses as TokensRefuse}
 use Rattle.fing_words.specs.CommandLines.{IsCommandLine}
 use Rattle.fing_words.specs.declared.command_line.CommandLine.{CommandLine}
-use Rattle.fing_words.proofs.OneLine.{one_line as one_command_line}
+use Rattle.fing_words.specs.declared.command_line.CommandLine.TheVariants as command
+use Rattle.fing_words.proofs.OneLine.{one_line}
 use Rattle.fing_refusals.specs.Refusal.{Refusal as PlainRefusal}
 use Rattle.refusal_lines.specs.InScope.{HasLine as RefusalHasLine}
 use Rattle.refusal_lines.specs.Line.{line_of as program_line}
@@ -35,23 +35,21 @@ use Rattle.refusal_lines.specs.Plain.{plain_refusal}
 use Rattle.refusal_lines.specs.declared.refusal.Refusal.{Refusal}
 use Rattle.fing_elab.specs.Exactly.{Means, IsRefused as MeansNothing}
 use Rattle.fing_elab.specs.declared.whole.Elaborated.{Elaborated}
-use Rattle.fing_top.specs.Compiled.{IsCompiled, IsElaborated, IsRefused}
+use Rattle.fing_top.specs.Compiled.{IsCompiled, IsRefused}
 use Rattle.omega_machine.specs.Outcomes.{fault_of, Tells as Ends}
 use Rattle.omega_machine.specs.ValueText.{value_text}
 use Rattle.omega_machine.specs.declared.outcome.End.{End}
 use Rattle.omega_machine.specs.declared.outcome.End.TheVariants as ending
-use Rattle.fing_top.specs.Ending.{ending_status, ending_text}
-use Rattle.fing_top.specs.Refusing.{untokened, unparsed, refusal_line, HasLine, numbered}
+use Rattle.fing_top.specs.Counts.{bind_count, node_count, counts_line}
+use Rattle.fing_top.specs.Ending.{ending_status, ending_text, counted_text}
+use Rattle.fing_top.specs.Refusing.{untokened, unparsed, numbered}
 use Rattle.fing_top.specs.declared.programs.Compiled.{Compiled}
 use Rattle.fing_top.specs.declared.refusing.Refused.TheVariants.{Program as InProgram}
-use Rattle.fing_top.specs.declared.command.Command.{Command}
-use Rattle.fing_top.specs.declared.command.Command.TheVariants as command
 use Rattle.fing_top.specs.declared.status.Status.{Status}
 use Rattle.fing_top.specs.declared.status.Status.TheVariants as status
-use Rattle.fing_top.specs.Words.{line_of, Line, IsLine}
-use Rattle.fing_top.specs.Reply.{answered, accepted, refused, Spells, Telling, TellsOutcome, fault_line, Refuses, ProgramReplies, Replies, VerifyReplies}
+use Rattle.fing_top.specs.Reply.{answered, accepted, refused, Spells, Telling, TellsOutcome, TellsCounts, fault_line, Refuses, ProgramReplies, Replies, VerifyReplies}
 use Rattle.fing_top.specs.Verdict.{unread, verdict_line, HasLine as HasVerdict}
-use Rattle.fing_top.specs.Answer.{limit, Change, Output, Confirms, IsWritten, AnswersBytes, IsAnswered, Untouched, Completes}
+use Rattle.fing_top.specs.Answer.{limit, Change, Output, Confirms, IsWritten, AnswersBytes, IsAnswered, Untouched, Takes, IsHanded, Completes}
 use Rattle.fing_top.proofs.Replies.{one_reply}
 
 -- the exit with a refusal
@@ -90,27 +88,32 @@ line_refuses bytes program (Some r) p h l = Refuses.meaningless p h.refused
 pub program_refused : (bytes : List ℕ) (program : Program) (e : Refusal) → Spells bytes program → IfSome (plain_refusal e) (MeansNothing program) → IsRefused bytes (InProgram e)
 program_refused bytes program e p h l = line_refuses bytes program (plain_refusal e) p h l
 
-pub is_elaborated : (bytes : List ℕ) (program : Program) (o : Elaborated) → Spells bytes program → Means program o → IsElaborated bytes o
-is_elaborated bytes program o p m = record { program = program; spelled = p; means = m }
-
-pub is_compiled : (bytes : List ℕ) (o : Elaborated) (j : Judgment) → IsElaborated bytes o → (j.term ≡ o.whole) × (j.ty ≡ enc_abs o.sig) → IsCompiled bytes (record { effect = o.effect; sig = o.sig; checked = j })
-is_compiled bytes o j m h = record {
-  program = m.program;
-  spelled = m.spelled;
+pub is_compiled : (bytes : List ℕ) (program : Program) (n : ℕ) (o : Elaborated) (j : Judgment) → Spells bytes program → n ≡ bind_count program → Means program o → (j.term ≡ o.whole) × (j.ty ≡ enc_abs o.sig)
+    → IsCompiled bytes (record { bindings = n; effect = o.effect; sig = o.sig; checked = j })
+is_compiled bytes program n o j p b m h = record {
+  program = program;
+  spelled = p;
+  bindings = b;
   types = o.types;
   term = o.term;
-  means = rw h.0 m.means.derived;
+  means = rw h.0 m.derived;
   ty = h.1;
 }
 
 -- what is told of what is compiled is replied
-pub told : (Tells : Telling) (bytes : List ℕ) (c : Compiled) (s : Status) (text : List ℕ) → IsCompiled bytes c → Tells c.effect c.sig c.checked.term s text → ProgramReplies Tells bytes (answered s c.checked.ty c.checked.term text)
+pub told : (Tells : Telling) (bytes : List ℕ) (c : Compiled) (s : Status) (text : List ℕ) (h : IsCompiled bytes c) → Tells h.program c.effect c.sig c.checked.term s text → ProgramReplies Tells bytes (answered s c.checked.ty c.checked.term text)
 told Tells bytes c s text h t = rw h.ty (ProgramReplies.meant h.spelled h.means t)
 
 pub outcome_told : (bytes : List ℕ) (budget : ℕ) (c : Compiled) (end : End) → IsCompiled bytes c → Ends c.checked.term budget end → ProgramReplies (TellsOutcome budget) bytes (answered (ending_status end) c.checked.ty c.checked.term (ending_text budget end))
 outcome_told bytes budget c (ending.Value shown steps) h t = rw t.2 (told (TellsOutcome budget) bytes c status.Ok (value_text t.0) h (TellsOutcome.value t.1))
 outcome_told bytes budget c (ending.Fault fault steps) h t = told (TellsOutcome budget) bytes c status.Faulted (fault_line (fault_of fault)) h (TellsOutcome.fault t)
 outcome_told bytes budget c ending.Spent h t = told (TellsOutcome budget) bytes c status.Spent (numbered (codes "spent ") budget) h (TellsOutcome.spent t)
+
+-- what is counted of what is compiled is replied
+pub counts_told : (bytes : List ℕ) (budget : ℕ) (c : Compiled) (end : End) → IsCompiled bytes c → Ends c.checked.term budget end → ProgramReplies (TellsCounts budget) bytes (answered (ending_status end) c.checked.ty c.checked.term (counted_text budget c.bindings (node_count c.checked.term) end))
+counts_told bytes budget c (ending.Value shown steps) h t = rw h.bindings (told (TellsCounts budget) bytes c status.Ok (counts_line (bind_count h.program) (node_count c.checked.term) steps) h (TellsCounts.counts t.1))
+counts_told bytes budget c (ending.Fault fault steps) h t = told (TellsCounts budget) bytes c status.Faulted (fault_line (fault_of fault)) h (TellsCounts.no_value (TellsOutcome.fault t) (λ e. cc))
+counts_told bytes budget c ending.Spent h t = told (TellsCounts budget) bytes c status.Spent (numbered (codes "spent ") budget) h (TellsCounts.no_value (TellsOutcome.spent t) (λ e. cc))
 
 -- ---- what is written
 
@@ -122,7 +125,7 @@ IsOfReply status.Faulted = Unit {0}
 IsOfReply status.Spent = Unit {0}
 IsOfReply _ = ⊥
 
-whole_answer : (c : Command) (bytes : List ℕ) (out : Output) (s : Status) → IsOfReply s → IsWritten c bytes out s → AnswersBytes c bytes out s
+whole_answer : (c : CommandLine) (bytes : List ℕ) (out : Output) (s : Status) → IsOfReply s → IsWritten c bytes out s → AnswersBytes c bytes out s
 whole_answer c bytes out status.Ok i w = w
 whole_answer c bytes out status.Refused i w = w
 whole_answer c bytes out status.Faulted i w = w
@@ -134,7 +137,7 @@ whole_answer c bytes out status.NoMemory i w = absurd i
 whole_answer c bytes out status.TooLong i w = absurd i
 
 -- a reply that is written, whole or up to a fault, is the answer
-pub wrote_reply : {T E : Type 0} (c : Command) (bytes : List ℕ) (s : Status) (text : List ℕ) (j : Option Judgment) (sink : Change Told) (confirmed : Change (Option Judgment)) (wrote : Result T E) (answer : Status)
+pub wrote_reply : {T E : Type 0} (c : CommandLine) (bytes : List ℕ) (s : Status) (text : List ℕ) (j : Option Judgment) (sink : Change Told) (confirmed : Change (Option Judgment)) (wrote : Result T E) (answer : Status)
     → IsOfReply s → Replies c bytes (record { status = s; text = text; confirmed = j }) → Confirms confirmed j
     → Wrote sink.old sink.new text wrote → MatchResult wrote (λ _. answer ≡ s) (λ _. answer ≡ status.WriteFault)
     → AnswersBytes c bytes (record { sink = sink; confirmed = confirmed }) answer
@@ -177,38 +180,6 @@ well_replied bytes t e j r p q h =
 pub ill_replied : (bytes : List ℕ) (t : Ty) (e : Term) → ReadAs bytes (Ok (t, e)) → (HasType [] [] e t → ⊥) → VerifyReplies bytes (refused (codes "refused IllTyped\n"))
 ill_replied bytes t e r n = VerifyReplies.ill_typed r.1 r.0 n
 
--- ---- one command line
-
-one_word : (a b : Command) → line_of a ≡ line_of b → a ≡ b
-one_word command.Check command.Check e = refl
-one_word command.Check command.Emit e = absurd (cc)
-one_word command.Check command.Verify e = absurd (cc)
-one_word command.Emit command.Check e = absurd (cc)
-one_word command.Emit command.Emit e = refl
-one_word command.Emit command.Verify e = absurd (cc)
-one_word command.Check (command.Run b) e = absurd (cc)
-one_word command.Emit (command.Run b) e = absurd (cc)
-one_word command.Verify (command.Run b) e = absurd (cc)
-one_word (command.Run a) command.Check e = absurd (cc)
-one_word (command.Run a) command.Emit e = absurd (cc)
-one_word (command.Run a) command.Verify e = absurd (cc)
-one_word (command.Run a) (command.Run b) e = cc
-one_word command.Verify command.Check e = absurd (cc)
-one_word command.Verify command.Emit e = absurd (cc)
-one_word command.Verify command.Verify e = refl
-
-one_line : (words : List (List ℕ)) (a b : Command) → Line words a → Line words b → a ≡ b
-one_line words a b p q = one_word a b (one_command_line words (line_of a) (line_of b) p q)
-
--- words that are no command line are the command line of no command
-pub no_line : (words : List (List ℕ)) → ((l : CommandLine) → IsCommandLine words l → ⊥) → IsLine words → ⊥
-no_line words n is = n (line_of is.0) is.1
-
--- the command of words that are a command line
-pub built_line : (words : List (List ℕ)) (l : CommandLine) (found : Option Command) → IsCommandLine words l → MatchOption found ((c : Command) → l ≡ line_of c → ⊥) (λ c. l ≡ line_of c) → MatchOption found (IsLine words → ⊥) (λ c. Line words c)
-built_line words l None p n = λ is. n is.0 (one_command_line words l (line_of is.0) p is.1)
-built_line words l (Some c) p e = subst (λ (m : CommandLine). IsCommandLine words m) e p
-
 -- ---- a source whose bytes are known
 
 whole_read : (a b : Option (List ℕ)) (bytes read : List ℕ) → a ≡ Some bytes → Consumes a b read → IsAtEnd b → read ≡ bytes
@@ -217,9 +188,18 @@ whole_read (Some xs) None bytes read e c z = elim c [ ]
 whole_read (Some xs) (Some ys) bytes read e c z =
     sym (append-nil read) ∙ ap (λ (w : List ℕ). read ++ w) (sym z) ∙ sym c ∙ ap (λ (o : Option (List ℕ)). elim o [ None ↦ xs | Some w ↦ w ]) e
 
-pub completes : (words : List (List ℕ)) (source : Change Told) (out : Output) (a : Command) (read : List ℕ) (answer : Status) → Line words a → ReadAll source.old source.new limit read → AnswersBytes a read out answer → Completes words source out answer
-completes words source out a read answer p r e c bytes q known short quiet silent =
-    by answer (subst (λ (b : Command). AnswersBytes b bytes out answer) (one_line words a c p q) (subst (λ (bs : List ℕ). AnswersBytes a bs out answer) (whole_read source.old.bytes source.new.bytes bytes read known r.lost.taken r.last) e))
+-- the bytes that a command takes are those that it is handed
+takes_handed : (c : CommandLine) (source : Change Told) (bytes read : List ℕ) → IsHanded c source bytes → Takes c source read → read ≡ bytes
+takes_handed (command.Gen size) source bytes read h t = t.0 ∙ sym h
+takes_handed command.Check source bytes read h t = whole_read source.old.bytes source.new.bytes bytes read h.0 t.lost.taken t.last
+takes_handed command.Emit source bytes read h t = whole_read source.old.bytes source.new.bytes bytes read h.0 t.lost.taken t.last
+takes_handed (command.Run budget) source bytes read h t = whole_read source.old.bytes source.new.bytes bytes read h.0 t.lost.taken t.last
+takes_handed command.Verify source bytes read h t = whole_read source.old.bytes source.new.bytes bytes read h.0 t.lost.taken t.last
+
+pub completes : (words : List (List ℕ)) (source : Change Told) (out : Output) (a : CommandLine) (read : List ℕ) (answer : Status) → IsCommandLine words a → Takes a source read → AnswersBytes a read out answer → Completes words source out answer
+completes words source out a read answer p t e c bytes q handed silent =
+    let same = one_line words a c p q in
+    by answer (subst (λ (b : CommandLine). AnswersBytes b bytes out answer) same (subst (λ (bs : List ℕ). AnswersBytes a bs out answer) (takes_handed a source bytes read (subst (λ (b : CommandLine). IsHanded b source bytes) (sym same) handed) t) e))
   where
     written : (s : Status) → IsWritten c bytes out s → IsAnswered c bytes out s
     written s w = record {
@@ -240,3 +220,7 @@ completes words source out a read answer p r e c bytes q known short quiet silen
     by status.Spent w = inl (written status.Spent w)
     by status.ReadFault w = absurd w
     by status.TooLong w = absurd w
+
+-- words that are no command line are handed no bytes
+pub nothing_handed : (words : List (List ℕ)) (source : Change Told) (out : Output) (answer : Status) → ((c : CommandLine) → IsCommandLine words c → ⊥) → Completes words source out answer
+nothing_handed words source out answer none c bytes line handed silent = absurd (none c line)

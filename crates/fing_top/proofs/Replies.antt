@@ -4,7 +4,7 @@ use Rattle.std.specs.Prelude.{codes}
 use Rattle.omega_kinds.specs.declared.effect.Effect.{Effect}
 use Rattle.omega_types.specs.Ty.{Ty}
 use Rattle.omega_terms.specs.Term.{Term}
-use Rattle.omega_terms.specs.Steps.{Fault, End, Result, Outcome as Ends}
+use Rattle.omega_terms.specs.Steps.{End, Result, Outcome as Ends}
 use Rattle.omega_terms.specs.Typing.{HasType}
 use Rattle.omega_spelling.specs.Omega.{OmegaText}
 use Rattle.omega_spelling.specs.Refused.{Refused}
@@ -30,11 +30,12 @@ use Rattle.elab_exact.proofs.Theorems.{each-program}
 use Rattle.refusal_lines.specs.Line.{line}
 use Rattle.omega_machine.specs.ValueText.{value_text}
 use Rattle.omega_laws.proofs.Runs.{outcome_unique}
+use Rattle.fing_top.specs.Counts.{most_steps, bind_count, node_count, counts_line}
 use Rattle.fing_top.specs.Refusing.{lexical_line, syntax_line, numbered}
 use Rattle.fing_top.specs.declared.status.Status.{Status}
 use Rattle.fing_top.specs.declared.status.Status.TheVariants as status
-use Rattle.fing_top.specs.declared.command.Command.TheVariants as command
-use Rattle.fing_top.specs.Reply.{Reply, answered, accepted, refused, Spells, Telling, TellsSignature, TellsTerm, TellsOutcome, fault_line, Refuses, ProgramReplies, VerifyReplies, text_line, OneReply}
+use Rattle.fing_words.specs.declared.command_line.CommandLine.TheVariants as command
+use Rattle.fing_top.specs.Reply.{Reply, answered, accepted, refused, Spells, Telling, TellsSignature, TellsTerm, TellsOutcome, TellsCounts, fault_line, Refuses, ProgramReplies, VerifyReplies, text_line, OneReply}
 
 -- ---- bytes have one list of tokens or one refusal, and spell one program
 
@@ -104,16 +105,16 @@ sig_in (made f x ts e, whole) = x
 
 -- one thing is told of one program
 abbrev OneTold : Telling → Type 0
-OneTold Tells = (f : Effect) (x : Abs) (e : Term) (s r : Status) (t u : List ℕ) → Tells f x e s t → Tells f x e r u → (s ≡ r) × (t ≡ u)
+OneTold Tells = (bs : Program) (f : Effect) (x : Abs) (e : Term) (s r : Status) (t u : List ℕ) → Tells bs f x e s t → Tells bs f x e r u → (s ≡ r) × (t ≡ u)
 
-told_alike : (Tells : Telling) → OneTold Tells → (f g : Effect) (x y : Abs) (ts us : List Ty) (d e v w : Term) (s r : Status) (t u : List ℕ)
-    → ◌≡◌ {A = Module × Term} (made f x ts d, v) (made g y us e, w) → Tells f x v s t → Tells g y w r u → answered r (enc_abs y) w u ≡ answered s (enc_abs x) v t
+told_alike : (Tells : Telling) → OneTold Tells → (ps qs : Program) (f g : Effect) (x y : Abs) (ts us : List Ty) (d e v w : Term) (s r : Status) (t u : List ℕ)
+    → ps ≡ qs → ◌≡◌ {A = Module × Term} (made f x ts d, v) (made g y us e, w) → Tells ps f x v s t → Tells qs g y w r u → answered r (enc_abs y) w u ≡ answered s (enc_abs x) v t
 unfolding effect_in sig_in
-told_alike Tells one f g x y ts us d e v w s r t u h p q =
+told_alike Tells one ps qs f g x y ts us d e v w s r t u k h p q =
     let same_effect : f ≡ g = ap effect_in h in
     let same_sig : x ≡ y = ap sig_in h in
     let same_whole : v ≡ w = ap (λ (o : Module × Term). o.1) h in
-    let same = one g y w s r t u (rw (same_effect, same_sig, same_whole) at p) q in
+    let same = one qs g y w s r t u (rw (k, same_effect, same_sig, same_whole) at p) q in
     rw (same_sig, same_whole, same.0, same.1) refl
 
 refusal_alone : {bytes : List ℕ} {program : Program} {m : Module} {e : Term} {text : List ℕ} → Spells bytes program → ProgramMeans program m e → Refuses bytes text → ⊥
@@ -133,16 +134,16 @@ one_line bytes t u (Refuses.no_tokens {why = why} w) (Refuses.syntax_error {toke
 one_line bytes t u (Refuses.no_tokens {why = why} w) (Refuses.no_tokens {why = other} v) = ap lexical_line (one_refusal bytes why other w v)
 
 program_one : (Tells : Telling) → OneTold Tells → (bytes : List ℕ) (r s : Reply) → ProgramReplies Tells bytes r → ProgramReplies Tells bytes s → s ≡ r
-program_one Tells one bytes r s (ProgramReplies.meant {f = f} {x = x} {ts = ts} {e = d} {whole = v} {s = i} {text = t} p m a) (ProgramReplies.meant {f = g} {x = y} {ts = us} {e = e} {whole = w} {s = j} {text = u} q n b) = told_alike Tells one f g x y ts us d e v w i j t u (one_meaning m (meaning_of (spells_one p q) n)) a b
+program_one Tells one bytes r s (ProgramReplies.meant {program = ps} {f = f} {x = x} {ts = ts} {e = d} {whole = v} {s = i} {text = t} p m a) (ProgramReplies.meant {program = qs} {f = g} {x = y} {ts = us} {e = e} {whole = w} {s = j} {text = u} q n b) = told_alike Tells one ps qs f g x y ts us d e v w i j t u (spells_one p q) (one_meaning m (meaning_of (spells_one p q) n)) a b
 program_one Tells one bytes r s (ProgramReplies.meant p m a) (ProgramReplies.refuses u) = absurd (refusal_alone p m u)
 program_one Tells one bytes r s (ProgramReplies.refuses u) (ProgramReplies.meant q m a) = absurd (refusal_alone q m u)
 program_one Tells one bytes r s (ProgramReplies.refuses {text = t} a) (ProgramReplies.refuses {text = u} b) = ap refused (one_line bytes u t b a)
 
 one_signature : OneTold TellsSignature
-one_signature f x e s r t u p q = (p.0 ∙ sym q.0, p.1 ∙ sym q.1)
+one_signature bs f x e s r t u p q = (p.0 ∙ sym q.0, p.1 ∙ sym q.1)
 
 one_term : OneTold TellsTerm
-one_term f x e s r t u p q = (p.0 ∙ sym q.0, p.1 ∙ sym q.1)
+one_term bs f x e s r t u p q = (p.0 ∙ sym q.0, p.1 ∙ sym q.1)
 
 -- the status and the line of an outcome
 outcome_status : Result → Status
@@ -155,18 +156,38 @@ outcome_text budget (Result.ended (End.the_value v) steps) = value_text v
 outcome_text budget (Result.ended (End.the_fault why) steps) = fault_line why
 outcome_text budget Result.spent = numbered (codes "spent ") budget
 
-outcome_told : (budget : ℕ) (f : Effect) (x : Abs) (e : Term) (s : Status) (t : List ℕ) → TellsOutcome budget f x e s t → (r : Result) × Ends e budget r × (s ≡ outcome_status r) × (t ≡ outcome_text budget r)
+outcome_told : (budget : ℕ) (bs : Program) (f : Effect) (x : Abs) (e : Term) (s : Status) (t : List ℕ) → TellsOutcome budget bs f x e s t → (r : Result) × Ends e budget r × (s ≡ outcome_status r) × (t ≡ outcome_text budget r)
 unfolding outcome_status outcome_text
-outcome_told budget f x e s t (TellsOutcome.value {v = v} {steps = n} o) = (Result.ended (End.the_value v) n, o, refl, refl)
-outcome_told budget f x e s t (TellsOutcome.fault {why = why} {steps = n} o) = (Result.ended (End.the_fault why) n, o, refl, refl)
-outcome_told budget f x e s t (TellsOutcome.spent o) = (Result.spent, o, refl, refl)
+outcome_told budget bs f x e s t (TellsOutcome.value {v = v} {steps = n} o) = (Result.ended (End.the_value v) n, o, refl, refl)
+outcome_told budget bs f x e s t (TellsOutcome.fault {why = why} {steps = n} o) = (Result.ended (End.the_fault why) n, o, refl, refl)
+outcome_told budget bs f x e s t (TellsOutcome.spent o) = (Result.spent, o, refl, refl)
 
 one_outcome_told : (budget : ℕ) → OneTold (TellsOutcome budget)
-one_outcome_told budget f x e s r t u p q =
-    let a = outcome_told budget f x e s t p in
-    let b = outcome_told budget f x e r u q in
+one_outcome_told budget bs f x e s r t u p q =
+    let a = outcome_told budget bs f x e s t p in
+    let b = outcome_told budget bs f x e r u q in
     let same = outcome_unique a.1 b.1 in
     (a.2 ∙ ap outcome_status same ∙ sym b.2, a.3 ∙ ap (outcome_text budget) same ∙ sym b.3)
+
+-- the line of `gen` of an outcome
+counts_text : ℕ → Program → Term → Result → List ℕ
+counts_text budget bs e (Result.ended (End.the_value v) steps) = counts_line (bind_count bs) (node_count e) steps
+counts_text budget bs e (Result.ended (End.the_fault why) steps) = fault_line why
+counts_text budget bs e Result.spent = numbered (codes "spent ") budget
+
+counts_told : (budget : ℕ) (bs : Program) (f : Effect) (x : Abs) (e : Term) (s : Status) (t : List ℕ) → TellsCounts budget bs f x e s t → (r : Result) × Ends e budget r × (s ≡ outcome_status r) × (t ≡ counts_text budget bs e r)
+unfolding outcome_status counts_text
+counts_told budget bs f x e s t (TellsCounts.counts {v = v} {steps = n} o) = (Result.ended (End.the_value v) n, o, refl, refl)
+counts_told budget bs f x e s t (TellsCounts.no_value (TellsOutcome.value o) n) = absurd (n refl)
+counts_told budget bs f x e s t (TellsCounts.no_value (TellsOutcome.fault {why = why} {steps = n} o) _) = (Result.ended (End.the_fault why) n, o, refl, refl)
+counts_told budget bs f x e s t (TellsCounts.no_value (TellsOutcome.spent o) _) = (Result.spent, o, refl, refl)
+
+one_counts_told : (budget : ℕ) → OneTold (TellsCounts budget)
+one_counts_told budget bs f x e s r t u p q =
+    let a = counts_told budget bs f x e s t p in
+    let b = counts_told budget bs f x e r u q in
+    let same = outcome_unique a.1 b.1 in
+    (a.2 ∙ ap outcome_status same ∙ sym b.2, a.3 ∙ ap (counts_text budget bs e) same ∙ sym b.3)
 
 -- a text is the text of one type and one term
 text_one : {bytes : List ℕ} {t u : Ty} {e d : Term} → OmegaText bytes t e → OmegaText bytes u d → (t ≡ u) × (e ≡ d)
@@ -191,3 +212,4 @@ one_reply command.Check bytes reply other p q = program_one TellsSignature one_s
 one_reply command.Emit bytes reply other p q = program_one TellsTerm one_term bytes reply other p q
 one_reply (command.Run budget) bytes reply other p q = program_one (TellsOutcome budget) (one_outcome_told budget) bytes reply other p q
 one_reply command.Verify bytes reply other p q = verify_one bytes reply other p q
+one_reply (command.Gen size) bytes reply other p q = program_one (TellsCounts most_steps) (one_counts_told most_steps) bytes reply other p q

@@ -4,10 +4,15 @@ use Rattle.fing_text.specs.Told.{Told, Rose}
 use Rattle.fing_text.specs.Reads.{ReadAll, TookMore, TookSome}
 use Rattle.fing_text.specs.Writes.{Grew, Broke}
 use Rattle.omega_checker.specs.Judgment.{Judgment}
-use Rattle.fing_top.specs.declared.command.Command.{Command}
+use Rattle.fing_text.specs.declared.reading.ReadEnd.{ReadEnd}
+use Rattle.fing_text.specs.declared.reading.ReadEnd.TheVariants as end
+use Rattle.fing_gen.specs.Source.{source_text}
+use Rattle.fing_words.specs.CommandLines.{IsCommandLine}
+use Rattle.fing_words.specs.declared.command_line.CommandLine.{CommandLine}
+use Rattle.fing_words.specs.declared.command_line.CommandLine.TheVariants as command
 use Rattle.fing_top.specs.declared.status.Status.{Status}
 use Rattle.fing_top.specs.declared.status.Status.TheVariants as status
-use Rattle.fing_top.specs.Words.{Line, IsLine}
+use Rattle.fing_top.specs.Words.{IsLine, IsReadingLine, ReadsSource}
 use Rattle.fing_top.specs.Reply.{Reply, Replies, IsOnlyReply}
 
 -- the most bytes that a source has
@@ -43,7 +48,7 @@ Confirms c None = Stands c
 Confirms c (Some j) = c.new ≡ Some j
 
 -- the reply to the bytes was written whole
-pub record IsWritten (c : Command) (bytes : List ℕ) (out : Output) (answer : Status) : Type 0 where
+pub record IsWritten (c : CommandLine) (bytes : List ℕ) (out : Output) (answer : Status) : Type 0 where
   pub reply : Reply
   pub replies : Replies c bytes reply
   pub status : answer ≡ reply.status
@@ -51,14 +56,14 @@ pub record IsWritten (c : Command) (bytes : List ℕ) (out : Output) (answer : S
   pub confirmed : Confirms out.confirmed reply.confirmed
 
 -- the sink failed, and a front of the reply to the bytes was written
-pub record IsBroken (c : Command) (bytes : List ℕ) (out : Output) : Type 0 where
+pub record IsBroken (c : CommandLine) (bytes : List ℕ) (out : Output) : Type 0 where
   pub reply : Reply
   pub replies : Replies c bytes reply
   pub written : Broke out.sink.old out.sink.new reply.text
   pub confirmed : Confirms out.confirmed reply.confirmed
 
 -- what is answered, written and confirmed for all the bytes of a source
-abbrev pub AnswersBytes : Command → List ℕ → Output → Status → Type 0
+abbrev pub AnswersBytes : CommandLine → List ℕ → Output → Status → Type 0
 AnswersBytes c bytes out status.Ok = IsWritten c bytes out status.Ok
 AnswersBytes c bytes out status.Refused = IsWritten c bytes out status.Refused
 AnswersBytes c bytes out status.Faulted = IsWritten c bytes out status.Faulted
@@ -67,12 +72,27 @@ AnswersBytes c bytes out status.WriteFault = IsBroken c bytes out
 AnswersBytes c bytes out status.NoMemory = Untouched out
 AnswersBytes c bytes out _ = ⊥
 
--- the words are a command line, the whole source was read, and its bytes were answered so
+-- the bytes that a command answers for: all that the source had left; or, for `gen`, the generated program, and the source stands
+abbrev pub Takes : CommandLine → (source : Change Told) → List ℕ → Type 0
+Takes (command.Gen size) source bytes = (bytes ≡ source_text size) × Stands source
+Takes _ source bytes = ReadAll source.old source.new limit bytes
+
+-- `gen` leaves the source as it was
+abbrev pub Spares : CommandLine → (source : Change Told) → Type 0
+Spares c source = (size : ℕ) → c ≡ command.Gen size → Stands source
+
+-- why a command has no bytes to answer for
+abbrev pub Lacks : CommandLine → (source : Change Told) → ReadEnd → Type 0
+Lacks c source end.ReadFault = ReadsSource c × TookSome source.old source.new × Rose source.old.faults source.new.faults
+Lacks c source end.TooLong = ReadsSource c × TookMore source.old source.new limit
+Lacks c source end.Mem = Spares c source
+
+-- the words are a command line, and its bytes were taken and answered so
 pub record IsReplied (words : List (List ℕ)) (source : Change Told) (out : Output) (answer : Status) : Type 0 where
-  pub command : Command
-  pub line : Line words command
+  pub command : CommandLine
+  pub line : IsCommandLine words command
   pub bytes : List ℕ
-  pub read : ReadAll source.old source.new limit bytes
+  pub taken : Takes command source bytes
   pub answered : AnswersBytes command bytes out answer
 
 -- the cause of each answer
@@ -82,23 +102,28 @@ Answers words source out status.Refused = IsReplied words source out status.Refu
 Answers words source out status.Words = (IsLine words → ⊥) × Stands source × Untouched out
 Answers words source out status.Faulted = IsReplied words source out status.Faulted
 Answers words source out status.Spent = IsReplied words source out status.Spent
-Answers words source out status.ReadFault = IsLine words × TookSome source.old source.new × Rose source.old.faults source.new.faults × Untouched out
+Answers words source out status.ReadFault = IsReadingLine words × TookSome source.old source.new × Rose source.old.faults source.new.faults × Untouched out
 Answers words source out status.WriteFault = IsReplied words source out status.WriteFault
-Answers words source out status.NoMemory = Untouched out
-Answers words source out status.TooLong = IsLine words × TookMore source.old source.new limit × Untouched out
+Answers words source out status.NoMemory = Untouched out × ((c : CommandLine) → IsCommandLine words c → Spares c source)
+Answers words source out status.TooLong = IsReadingLine words × TookMore source.old source.new limit × Untouched out
 
 -- the answer is the status of the one reply to the bytes, its text was written whole, and what it confirms was handed out
-pub record IsAnswered (c : Command) (bytes : List ℕ) (out : Output) (answer : Status) : Type 0 where
+pub record IsAnswered (c : CommandLine) (bytes : List ℕ) (out : Output) (answer : Status) : Type 0 where
   pub reply : Reply
   pub one : IsOnlyReply c bytes reply
   pub status : answer ≡ reply.status
   pub written : Grew out.sink.old out.sink.new reply.text
   pub confirmed : Confirms out.confirmed reply.confirmed
 
--- where the words are a command line, the source's bytes are known and within the limit, and no count rises, these bytes
--- are answered, or there was no memory and nothing was written
+-- the bytes that a command is handed: those of a source that tells them, within the limit, where its count does not rise;
+-- or, for `gen`, the generated program, whatever the source is
+abbrev pub IsHanded : CommandLine → (source : Change Told) → List ℕ → Type 0
+IsHanded (command.Gen size) source bytes = bytes ≡ source_text size
+IsHanded _ source bytes = (source.old.bytes ≡ Some bytes) × (length bytes ≤ limit) × (Rose source.old.faults source.new.faults → ⊥)
+
+-- where the words are a command line that is handed bytes, and no write fails, these bytes are answered, or there was no
+-- memory and nothing was written
 abbrev pub Completes : List (List ℕ) → (source : Change Told) → Output → Status → Type 0
 Completes words source out answer =
-    (c : Command) (bytes : List ℕ) → Line words c → source.old.bytes ≡ Some bytes → length bytes ≤ limit
-    → (Rose source.old.faults source.new.faults → ⊥) → (Rose out.sink.old.faults out.sink.new.faults → ⊥)
+    (c : CommandLine) (bytes : List ℕ) → IsCommandLine words c → IsHanded c source bytes → (Rose out.sink.old.faults out.sink.new.faults → ⊥)
     → IsAnswered c bytes out answer ⊎ (answer ≡ status.NoMemory) × Untouched out

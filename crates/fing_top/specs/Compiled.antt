@@ -6,23 +6,17 @@ use Rattle.signatures.specs.Signatures.Encoding.{enc_abs}
 use Rattle.signatures.specs.Signatures.Sig.{made}
 use Rattle.fing_syntax.specs.Phrase.{Binds as Program}
 use Rattle.elab_rules.specs.Judgments.Program.{ProgramMeans}
-use Rattle.fing_elab.specs.Exactly.{Means}
-use Rattle.fing_elab.specs.declared.whole.Elaborated.{Elaborated}
+use Rattle.fing_top.specs.Counts.{bind_count}
 use Rattle.fing_top.specs.Refusing.{refusal_line, HasLine}
 use Rattle.fing_top.specs.Reply.{Spells, Refuses}
 use Rattle.fing_top.specs.declared.programs.Compiled.{Compiled}
 use Rattle.fing_top.specs.declared.refusing.Refused.{Refused}
 
--- the bytes spell a program of just this meaning
-pub record IsElaborated (bytes : List ℕ) (o : Elaborated) : Type 0 where
-  pub program : Program
-  pub spelled : Spells bytes program
-  pub means : Means program o
-
--- the bytes spell a program of this effect, this signature and this whole term
+-- the bytes spell a program of so many bindings, of this effect, this signature and this whole term
 pub record IsCompiled (bytes : List ℕ) (c : Compiled) : Type 0 where
   pub program : Program
   pub spelled : Spells bytes program
+  pub bindings : c.bindings ≡ bind_count program
   pub types : List Ty
   pub term : Term
   pub means : ProgramMeans program (made c.effect c.sig types term) c.checked.term

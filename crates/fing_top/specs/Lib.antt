@@ -1,5 +1,6 @@
 pub mod Words
 pub mod Refusing
+pub mod Counts
 pub mod Reply
 pub mod Compiled
 pub mod Ending

@@ -1,21 +1,22 @@
--- Command lines that are built.
-use Rattle.std.specs.Prelude.{ℕ, List}
+-- Command lines, and which of them read the source.
+use Rattle.std.specs.Prelude.{◌≡◌, ℕ, ◌≤◌, List}
 use Rattle.fing_words.specs.CommandLines.{IsCommandLine}
 use Rattle.fing_words.specs.declared.command_line.CommandLine.{CommandLine}
-use Rattle.fing_words.specs.declared.command_line.CommandLine.TheVariants as line
-use Rattle.fing_top.specs.declared.command.Command.{Command}
-use Rattle.fing_top.specs.declared.command.Command.TheVariants as command
+use Rattle.fing_words.specs.declared.command_line.CommandLine.TheVariants as command
 
--- the command line of a command that is built
-abbrev pub line_of : Command → CommandLine
-line_of command.Check = line.Check
-line_of command.Emit = line.Emit
-line_of (command.Run budget) = line.Run budget
-line_of command.Verify = line.Verify
-
--- the words are the command line of the command
-abbrev pub Line : List (List ℕ) → Command → Type 0
-Line words c = IsCommandLine words (line_of c)
-
+-- the words are a command line
 abbrev pub IsLine : List (List ℕ) → Type 0
-IsLine words = (c : Command) × Line words c
+IsLine words = (c : CommandLine) × IsCommandLine words c
+
+-- all commands but `gen` read the source
+abbrev pub ReadsSource : CommandLine → Type 0
+ReadsSource (command.Gen size) = ⊥
+ReadsSource _ = Unit {0}
+
+-- the words are the command line of a command that reads the source
+abbrev pub IsReadingLine : List (List ℕ) → Type 0
+IsReadingLine words = (c : CommandLine) × IsCommandLine words c × ReadsSource c
+
+-- a generated program has a size up to 300
+abbrev pub IsSized : CommandLine → Type 0
+IsSized c = (size : ℕ) → c ≡ command.Gen size → size ≤ 300

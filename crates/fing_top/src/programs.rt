@@ -4,13 +4,14 @@ ghost use Rattle.omega_terms.specs.InScope.{TermInScope, TyInScope};
 ghost use Rattle.omega_terms.specs.Typing.{HasType};
 ghost use Rattle.signatures.specs.Signatures.Encoding.{enc_abs};
 ghost use Rattle.fing_top.specs.Answer.{limit, AnswersBytes, change, output};
-ghost use Rattle.fing_top.specs.Compiled.{IsCompiled, IsElaborated, IsRefused};
+ghost use Rattle.fing_top.specs.Compiled.{IsCompiled, IsRefused};
+ghost use Rattle.fing_top.specs.Counts.{bind_count};
 ghost use Rattle.fing_top.specs.Reply.{Spells};
-ghost use Rattle.fing_top.specs.declared.command.Command.TheVariants as command;
+ghost use Rattle.fing_words.specs.declared.command_line.CommandLine.TheVariants as command;
 
 use crate::refusing::{Refused, has_line, write_line};
 use crate::status::{Status, status_of};
-use fing_elab::{Elaborated, elab};
+use fing_elab::elab;
 use fing_lexer::tokens;
 use fing_parser::program;
 use fing_syntax::Program;
@@ -25,10 +26,11 @@ use sig_scopes::abs_in_scope;
 use sig_text::write_elab;
 use std::alloc::Global;
 
-/// What a source is compiled into: the effect and the signature of its program, and its whole term, which the checker
-/// found to have the encoding of the signature as its type.
+/// What a source is compiled into: how many bindings its program has, not counting those inside them, the program's effect
+/// and signature, and its whole term, which the checker found to have the encoding of the signature as its type.
 #[derive(Drop)]
 pub struct Compiled {
+    pub bindings: usize,
     pub effect: Effect,
     pub sig: Abs,
     pub checked: Checked,
@@ -44,17 +46,6 @@ fn parsed(alloc: Global, bytes: &[u8]) -> Result<Program, Refused>
     Ok(program(alloc, &tokens)?)
 }
 
-// What the program that a source's bytes are means, or why they are refused.
-fn elaborated(alloc: Global, bytes: &[u8]) -> Result<Elaborated, Refused>
-    requires { length bytes.now ≤ limit }
-    ensures means { IfOk result (λ o. IsElaborated bytes.now o) }
-    ensures typed { IfOk result (λ o. HasType [] [] o.whole (enc_abs o.sig)) }
-    ensures refused { IfErr result (IsRefused bytes.now) }
-{
-    let program = parsed(alloc, bytes)?;
-    Ok(elab(alloc, &program)?)
-}
-
 // What the checker makes of a term that has the encoding of a signature as its type. `Err` is want of memory.
 fn confirm(alloc: Global, sig: &Abs, term: Term) -> Result<Checked, Mem>
     requires { HasType [] [] term (enc_abs sig.now) }
@@ -67,16 +58,25 @@ fn confirm(alloc: Global, sig: &Abs, term: Term) -> Result<Checked, Mem>
     }
 }
 
+// How many bindings a program has, not counting those inside them.
+fn bind_total(program: &Program) -> usize
+    ensures { result ≡ bind_count program.now }
+{
+    program.binds.len()
+}
+
 // What a source's bytes are compiled into, or why they are refused.
 pub(crate) fn compile(alloc: Global, bytes: &[u8]) -> Result<Compiled, Refused>
     requires { length bytes.now ≤ limit }
     ensures compiled { IfOk result (λ c. IsCompiled bytes.now c) }
     ensures refused { IfErr result (IsRefused bytes.now) }
 {
-    let found = elaborated(alloc, bytes)?;
+    let program = parsed(alloc, bytes)?;
+    let found = elab(alloc, &program)?;
     let whole = found.whole;
     let checked = confirm(alloc, &found.sig, whole)?;
     Ok(Compiled {
+        bindings: bind_total(&program),
         effect: found.effect,
         sig: found.sig,
         checked,

@@ -5,7 +5,7 @@ ghost use Rattle.omega_machine.specs.Outcomes.{Tells};
 ghost use Rattle.fing_top.specs.Answer.{limit, AnswersBytes, change, output};
 ghost use Rattle.fing_top.specs.Compiled.{IsCompiled, IsRefused};
 ghost use Rattle.fing_top.specs.Ending.{ending_status, ending_text};
-ghost use Rattle.fing_top.specs.declared.command.Command.TheVariants as command;
+ghost use Rattle.fing_words.specs.declared.command_line.CommandLine.TheVariants as command;
 
 use crate::programs::{Compiled, compile};
 use crate::refusing::{Refused, has_line, write_line, write_numbered};
@@ -16,7 +16,11 @@ use omega_machine::{Arith, End, run as evaluate};
 use std::alloc::Global;
 
 // What a source's bytes are compiled into, and what its term comes to; or why they are refused.
-fn evaluated(alloc: Global, budget: u32, bytes: &[u8]) -> Result<(Compiled, End), Refused>
+pub(crate) fn evaluated(
+    alloc: Global,
+    budget: u32,
+    bytes: &[u8],
+) -> Result<(Compiled, End), Refused>
     requires { length bytes.now ≤ limit }
     ensures compiled { IfOk result (λ o. IsCompiled bytes.now o.0) }
     ensures told { IfOk result (λ o. Tells o.0.checked.term budget o.1) }
@@ -28,7 +32,7 @@ fn evaluated(alloc: Global, budget: u32, bytes: &[u8]) -> Result<(Compiled, End)
 }
 
 // The status of an outcome.
-fn status_at(end: &End) -> Status
+pub(crate) fn status_at(end: &End) -> Status
     ensures { result ≡ ending_status end.now }
 {
     match end {
@@ -39,7 +43,7 @@ fn status_at(end: &End) -> Status
 }
 
 // Writes an outcome within a budget. Takes no memory.
-fn write_end<K: Sink>(sink: &mut K, budget: u32, end: &End) -> Result<(), WriteFault>
+pub(crate) fn write_end<K: Sink>(sink: &mut K, budget: u32, end: &End) -> Result<(), WriteFault>
     ensures { Wrote (K.told sink.old) (K.told sink.new) (ending_text budget end.now) result }
 {
     match end {

@@ -4,7 +4,7 @@ ghost use Rattle.fing_text.specs.Writes.{Wrote};
 ghost use Rattle.fing_top.specs.Reply.{accepted, refused, VerifyReplies};
 ghost use Rattle.fing_top.specs.Answer.{AnswersBytes, change, output};
 ghost use Rattle.fing_top.specs.Verdict.{HasLine, verdict_line};
-ghost use Rattle.fing_top.specs.declared.command.Command.TheVariants as command;
+ghost use Rattle.fing_words.specs.declared.command_line.CommandLine.TheVariants as command;
 
 use crate::status::{Status, status_of};
 use fing_text::{Sink, WriteFault, put};

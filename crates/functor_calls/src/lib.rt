@@ -8,8 +8,6 @@ pub mod functors;
 pub mod lifting;
 mod operators;
 mod parameters;
-#[cfg(test)]
-mod tests;
 
 pub use functors::pure_functor;
 pub use lifting::{lift, lift_witness};

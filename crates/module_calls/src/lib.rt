@@ -13,8 +13,6 @@ pub mod paths;
 pub mod projecting;
 pub mod refusal;
 pub mod sequences;
-#[cfg(test)]
-mod tests;
 
 pub use bindings::{bind_sig, bind_type, bind_val, end_struct};
 pub use functors::{apply, functor_parts, gen_functor, seal};

@@ -109,13 +109,23 @@ fn named_part(alloc: Global, term: &Term, name: &Name) -> Result<Term, Mem>
 }
 
 // A term below binders, with their variables packed into it; the signature stands outside of the binders, and hides
-// types of their kinds first.
+// types of their kinds first. Where there are no binders, nothing is encoded.
 pub(crate) fn packed_again(
     alloc: Global,
     kinds: &Kinds,
     term: &Term,
     sig: &Abs,
 ) -> Result<Term, Mem>
+    ensures { IfOk result (λ d. PackedAgain kinds.now sig.now term.now d) }
+{
+    if kinds.items().is_empty() {
+        return term.share();
+    }
+    packed_below(alloc, kinds, term, sig)
+}
+
+// The same, whether there are binders or none.
+fn packed_below(alloc: Global, kinds: &Kinds, term: &Term, sig: &Abs) -> Result<Term, Mem>
     ensures { IfOk result (λ d. PackedAgain kinds.now sig.now term.now d) }
 {
     let from = encode(alloc, sig)?;

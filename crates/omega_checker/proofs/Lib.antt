@@ -1,5 +1,6 @@
 pub mod Trees
 pub mod ForCode
+pub mod NormalAlready
 pub mod FieldLoop
 pub mod Inverted
 pub mod Exact

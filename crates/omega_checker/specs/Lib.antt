@@ -1,3 +1,4 @@
 pub mod SameTy
 pub mod Found
+pub mod IsNormal
 pub mod Judgment

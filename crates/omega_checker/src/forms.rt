@@ -14,6 +14,7 @@ ghost use Rattle.omega_terms.specs.Typing.{shift_all, result_type};
 ghost use Rattle.omega_checker.specs.Found.{normal_at as normal_at_of, put_normal as put_normal_of, call_type, inst_type, part_at as part_at_of, get_type, if_same as if_same_of, pack_type, lowered as lowered_of, if_type, op_type, fix_type};
 ghost use Rattle.omega_checker.specs.SameTy.{same_ty};
 
+use crate::normality::is_normal;
 use omega_kinds::{Kind, Label, Mem, compare, same_kind};
 use omega_terms::Op;
 use omega_types::{Ty, TyFields, TyNode, kind_of};
@@ -27,13 +28,8 @@ fn find_kind(alloc: Global, ctx: &[Kind], ty: &Ty) -> Result<Option<Kind>, Mem>
     kind_of(alloc, ctx, ty)
 }
 
-/// The normal form of a type, and none where it has not the kind. `Err` is want of memory.
-pub(crate) fn normal_at(
-    alloc: Global,
-    ctx: &[Kind],
-    ty: &Ty,
-    kind: &Kind,
-) -> Result<Option<NormalTy>, Mem>
+// The normal form of a type that may not be normal yet, and none where it has not the kind.
+fn normalised(alloc: Global, ctx: &[Kind], ty: &Ty, kind: &Kind) -> Result<Option<NormalTy>, Mem>
     ensures { IfOk result (λ o. o ≡ normal_at_of (scope_of ctx.now) ty.now (kind_tree kind.now)) }
 {
     match find_kind(alloc, ctx, ty)? {
@@ -45,6 +41,23 @@ pub(crate) fn normal_at(
             }
         }
         None => Ok(None),
+    }
+}
+
+/// The normal form of a type, and none where it has not the kind. A type that is normal is given back as it is.
+/// `Err` is want of memory.
+pub(crate) fn normal_at(
+    alloc: Global,
+    ctx: &[Kind],
+    ty: &Ty,
+    kind: &Kind,
+) -> Result<Option<NormalTy>, Mem>
+    ensures { IfOk result (λ o. o ≡ normal_at_of (scope_of ctx.now) ty.now (kind_tree kind.now)) }
+{
+    if is_normal(alloc, ctx, ty, kind)? {
+        Ok(Some(part(ty)?))
+    } else {
+        normalised(alloc, ctx, ty, kind)
     }
 }
 

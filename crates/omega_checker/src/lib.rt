@@ -6,6 +6,7 @@
 
 pub mod checked;
 mod forms;
+mod normality;
 mod synthesis;
 #[cfg(test)]
 mod tests;

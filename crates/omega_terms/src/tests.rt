@@ -35,29 +35,49 @@ fn indexes(term: &Term) -> Option<(Option<u64>, u64, u64)> {
     }
 }
 
-#[test]
-fn a_record_is_made_and_shared(rt: HostRuntime) -> Result<(), Fail> {
-    let alloc = rt.alloc();
+// {.val = -1, x = true}
+fn record(alloc: Global) -> Result<Term, Mem> {
     let mut fields = TermFields::new(alloc);
     fields.push((Label::Val, Term::make(alloc, TermNode::Int(-1))?))?;
     let name = name_of(alloc, b"x")?;
     fields.push((Label::Name(name), Term::make(alloc, TermNode::Bool(true))?))?;
-    let term = Term::make(alloc, TermNode::Fields(fields))?.share()?;
-    assert!(rt; matches!(term.node(), TermNode::Fields(made) if made.items().len() == 2));
+    Term::make(alloc, TermNode::Fields(fields))
+}
+
+#[test]
+fn a_record_is_shared(rt: HostRuntime) -> Result<(), Fail> {
+    let term = record(rt.alloc())?.share()?;
     assert!(rt; is_value(&term));
     assert!(rt; nodes(&term) == 3);
     Ok(())
 }
 
-#[test]
-fn indexes_are_raised_and_filled(rt: HostRuntime) -> Result<(), Fail> {
-    let alloc = rt.alloc();
+fn raised(alloc: Global) -> Result<Term, Mem> {
     let term = caller(alloc, 0, 1, 2)?;
-    let raised = shift_term(alloc, &term, 2, 3)?;
-    assert!(rt; matches!(indexes(&raised), Some((Some(2), 4, 5))));
-    let filled = put_term(alloc, &term, 0, &var(alloc, 7)?)?;
-    assert!(rt; matches!(indexes(&filled), Some((Some(0), 8, 1))));
-    let typed = put_type(alloc, &term, 0, &Ty::make(alloc, TyNode::Int)?)?;
-    assert!(rt; matches!(indexes(&typed), Some((None, 1, 2))));
+    shift_term(alloc, &term, 2, 3)
+}
+
+fn filled(alloc: Global) -> Result<Term, Mem> {
+    let term = caller(alloc, 0, 1, 2)?;
+    let arg = var(alloc, 7)?;
+    put_term(alloc, &term, 0, &arg)
+}
+
+fn typed(alloc: Global) -> Result<Term, Mem> {
+    let term = caller(alloc, 0, 1, 2)?;
+    let int = Ty::make(alloc, TyNode::Int)?;
+    put_type(alloc, &term, 0, &int)
+}
+
+#[test]
+fn indexes_are_raised(rt: HostRuntime) -> Result<(), Fail> {
+    assert!(rt; matches!(indexes(&raised(rt.alloc())?), Some((Some(2), 4, 5))));
+    Ok(())
+}
+
+#[test]
+fn indexes_are_filled(rt: HostRuntime) -> Result<(), Fail> {
+    assert!(rt; matches!(indexes(&filled(rt.alloc())?), Some((Some(0), 8, 1))));
+    assert!(rt; matches!(indexes(&typed(rt.alloc())?), Some((None, 1, 2))));
     Ok(())
 }

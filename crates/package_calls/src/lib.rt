@@ -13,8 +13,6 @@ pub mod refusal;
 mod renumbering;
 mod renumbering_types;
 mod rooted;
-#[cfg(test)]
-mod tests;
 
 pub use norms::norm;
 pub use packing::{pack_type, pack_value, unpack_module};

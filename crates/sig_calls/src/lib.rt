@@ -10,8 +10,6 @@ mod hidden;
 mod refinement;
 mod refusal;
 mod sequences;
-#[cfg(test)]
-mod tests;
 
 pub use declarations::{decl_is, decl_meta, decl_module, decl_of, decl_val, functor_sig, include};
 pub use refinement::where_type;

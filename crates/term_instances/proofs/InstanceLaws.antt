@@ -1,5 +1,7 @@
 -- A term of normal types, with normal types put in, is the instance of the definitions.
-use Rattle.std.specs.Prelude.{ℕ, List, ◌∷◌}
+use Rattle.std.specs.Prelude.{ℕ, List, [], ◌∷◌, ◌≡◌, length}
+use Rattle.std.proofs.Common.{arith}
+use Rattle.std.proofs.Math.Path.{sym, subst}
 use Rattle.omega_kinds.specs.Kind.{Kind}
 use Rattle.omega_types.specs.Ty.{Ty}
 use Rattle.omega_types.specs.Substitution.{under}
@@ -38,3 +40,9 @@ mutual
 
 pub instance_given : (ts : List Ty) (e : Term) (ctx ks : List Kind) → NormalTerm (extend ctx ks) e → NormalForms ctx ts ks ts → Instance (extend ctx ks) ctx (puts ts Ty.Var) e (term_in (sunk 0 (putting ts)) e)
 instance_given ts e ctx ks n ns = given (good-puts ns (good-vars ctx)) n
+
+-- with no types put in, a term of normal types stays as it is
+pub instance_at_none : (ts : List Ty) (e d : Term) → length ts ≡ 0 → d ≡ e → (ctx ks : List Kind) → NormalTerm (extend ctx ks) e → NormalForms ctx ts ks ts → Instance (extend ctx ks) ctx (puts ts Ty.Var) e d
+instance_at_none [] e d l h ctx [] n ns = subst (Instance ctx ctx Ty.Var e) (sym h) n
+instance_at_none [] e d l h ctx (k ∷ ks) n ns = elim ns [ ]
+instance_at_none (t ∷ ts) e d l h ctx ks n ns = absurd (omega (arith, l))

@@ -26,6 +26,9 @@ use type_normal::{NormalTy, as_normal, plain};
 pub fn instance(alloc: Global, term: &Term, types: &[NormalTy]) -> Result<Term, Mem>
     ensures { IfOk result (λ e. (ctx ks : List KindTree) → NormalTerm (extend ctx ks) term.now → NormalForms ctx types.now ks types.now → Instance (extend ctx ks) ctx (puts types.now Var) term.now e) }
 {
+    if types.is_empty() {
+        return term.share();
+    }
     put_in(alloc, term, types, 0)
 }
 

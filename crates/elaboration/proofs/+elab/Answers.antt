@@ -1,4 +1,4 @@
-use Rattle.elab_laws.proofs.Kept.{bind_ok, mod_ok, sig_ok, type_ok}
+use Rattle.elab_laws.proofs.Kept.{bind_ok, mod_ok, sig_ok}
 use Rattle.elab_rules.specs.Judgments.Meaning.{ArgTysMean, ArgsMean, BindsMean, DeclMeans, OpsMean, SigMeans}
 use Rattle.elab_rules.specs.Judgments.Meaning.ArgTysMean.{next_arg, no_args}
 use Rattle.elab_rules.specs.Judgments.Meaning.ArgsMean.{next_type, next_value, no_arg}
@@ -13,7 +13,7 @@ use Rattle.elaboration.proofs.ArgSteps.{applied-normal, args-at, called-normal, 
 use Rattle.elaboration.proofs.BaseSteps.{bool-means, bool_exp-means, int-means, int_exp-means, text-means, text_exp-means}
 use Rattle.elaboration.proofs.FieldSteps.{ExpsLeft, TypesLeft, exps-later, exps-next, exps-none, record-means, record-parts, record-rule, record_type-means, record_type-parts, record_type-rule, types-later, types-next, types-none}
 use Rattle.elaboration.proofs.FixSteps.{entered, fix-env-in, left, value-env-in}
-use Rattle.elaboration.proofs.Given.{exit, no_star, no_type, type-env, wanting}
+use Rattle.elaboration.proofs.Given.{exit, no_star, no_type}
 use Rattle.elaboration.proofs.Included.{bind-include, body-module, ended, include-at, include-in, include-means, include-none, include-rest, include-size, included-env, included-names, left-included, left-under as mods-left-under, means-bind, placed-at, refused-bind}
 use Rattle.elaboration.proofs.Means.{bind-env, bind-names, binds-in, binds-mean, decls-again-in, decls-in, functor-means, generative-means, mod_functor-in, param-env, refine-in, rest-module, sig_fun-in}
 use Rattle.elaboration.proofs.Moved.{refused-in, rule-at, test-at}
@@ -22,7 +22,7 @@ use Rattle.elaboration.proofs.Refuse.Modules.{bind_module-module, bind_signature
 use Rattle.elaboration.proofs.Refuse.Signatures.{decl_include-rule, decl_include-sig, decl_is-type, decl_module-sig, decl_signature-sig, decl_val-rule, decl_val-type, decls-first, sig_decls-list, sig_fun-param, sig_path-module, sig_path-use, sig_refine-sig, sig_refine-type}
 use Rattle.elaboration.proofs.Refuse.Types.{ty_all-body, ty_all-rule, ty_apply-args, ty_apply-operator, ty_arg-later, ty_arg-no_operator, ty_arg-rule, ty_arg-type, ty_arrow-from, ty_arrow-rule, ty_arrow-to, ty_field-again, ty_field-type, ty_lam-body, ty_pack-sig, ty_path-module, ty_path-use}
 use Rattle.elaboration.proofs.SigLaws.{abstract-means, decl-body, decl-in, decls-mean, fields-env, left-decl, left-under, lifted-means, module-in, no-row, param-in, refused-row, row-means, row-size, sig-in}
-use Rattle.elaboration.proofs.UseSteps.{found-in, module-in as path_type-module-in, module-in as path_value-module-in, pack-means, pack-unmatched, sig-in as pack_value-sig-in}
+use Rattle.elaboration.proofs.UseSteps.{found-in, pack-means, pack-unmatched}
 use Rattle.elaboration.specs.Answered.{RefusedAs}
 use Rattle.fing_syntax.specs.Leaves.{op_of, place, spelled}
 use Rattle.fing_syntax.specs.Phrase.{Exp, MoreBinds}
@@ -34,7 +34,7 @@ use Rattle.premise_laws.proofs.Environments.{find-good}
 use Rattle.semantic_sigs.specs.Fields.{sig_row}
 use Rattle.semantic_sigs.specs.Made.{module_of}
 use Rattle.semantic_sigs.specs.View.{kinds_of}
-use Rattle.signatures.specs.Env.{Value, kinds, named_fields, type_vars}
+use Rattle.signatures.specs.Env.{kinds, named_fields, type_vars}
 use Rattle.std.proofs.Common.{IfErr, IfOk, ap, arith, length, refl, rules, subst, sym, ◌+◌, ◌∙◌, ◌∷◌, ◌≡◌}
 use Rattle.std.proofs.lemmas.Int.{to_z-of_z}
 use mir.Syntax.{w64}
@@ -734,7 +734,7 @@ pub uses::path_type-returns-in_err-found-clause-refused : goal.uses::path_type-r
 uses::path_type-returns-in_err-found-clause-refused t c = exit _ c.from_residual.result c.in_err-found.field-0.0 c.from_residual.ensures.1 (ty_path-module c.in_err-found.ensures.refused)
 
 pub uses::path_type-type_path_rule-requires : goal.uses::path_type-type_path_rule-requires
-uses::path_type-type_path_rule-requires t c = path_type-module-in c.in_ok-found.ensures.same c.requires c.in_ok-found.ensures.given
+uses::path_type-type_path_rule-requires t c = module-in c.in_ok-found.ensures.same c.requires c.in_ok-found.ensures.given
 
 pub uses::path_type-returns-in_err-whole-clause-refused : goal.uses::path_type-returns-in_err-whole-clause-refused
 uses::path_type-returns-in_err-whole-clause-refused t c = exit _ c.from_residual-in_err-whole.result c.in_err-whole.field-0.0 c.from_residual-in_err-whole.ensures.1 (ty_path-use c.in_ok-found.ensures.given (rw c.in_ok-found.ensures.same at c.in_err-whole.ensures.refused))
@@ -752,7 +752,7 @@ pub uses::path_value-returns-in_err-found-clause-refused : goal.uses::path_value
 uses::path_value-returns-in_err-found-clause-refused t c = exit _ c.from_residual.result c.in_err-found.field-0.0 c.from_residual.ensures.1 (exp_path-module c.in_err-found.ensures.refused)
 
 pub uses::path_value-value_path_rule-requires : goal.uses::path_value-value_path_rule-requires
-uses::path_value-value_path_rule-requires t c = path_value-module-in c.in_ok-found.ensures.same c.requires c.in_ok-found.ensures.given
+uses::path_value-value_path_rule-requires t c = module-in c.in_ok-found.ensures.same c.requires c.in_ok-found.ensures.given
 
 pub uses::path_value-returns-in_err-whole-clause-refused : goal.uses::path_value-returns-in_err-whole-clause-refused
 uses::path_value-returns-in_err-whole-clause-refused t c = exit _ c.from_residual-in_err-whole.result c.in_err-whole.field-0.0 c.from_residual-in_err-whole.ensures.1 (exp_path-use c.in_ok-found.ensures.given (rw c.in_ok-found.ensures.same at c.in_err-whole.ensures.refused))
@@ -770,7 +770,7 @@ pub uses::pack_value-match_rule-requires-clause-left : goal.uses::pack_value-mat
 uses::pack_value-match_rule-requires-clause-left t c = found-in c.args.name.now.name c.in_ok-target.ensures.same c.requires c.in_ok-found.ensures.found c.body.ensures
 
 pub uses::pack_value-match_rule-requires-clause-right : goal.uses::pack_value-match_rule-requires-clause-right
-uses::pack_value-match_rule-requires-clause-right t c = c.in_ok-ordered.ensures.good _ (pack_value-sig-in c.in_ok-target.ensures.same c.requires c.in_ok-target.ensures.given)
+uses::pack_value-match_rule-requires-clause-right t c = c.in_ok-ordered.ensures.good _ (sig-in c.in_ok-target.ensures.same c.requires c.in_ok-target.ensures.given)
 
 pub uses::pack_value-returns-in_err-matched-clause-refused : goal.uses::pack_value-returns-in_err-matched-clause-refused
 uses::pack_value-returns-in_err-matched-clause-refused t c = exit _ c.from_residual-in_err-matched.result c.in_err-matched.field-0.0 c.from_residual-in_err-matched.ensures.1 (pack-unmatched {x = spelled c.args.name.now} c.requires c.in_ok-target.ensures.same c.in_ok-found.ensures.found c.in_ok-target.ensures.given c.in_ok-ordered.ensures.value c.body.ensures (ap sig_span c.by.view_is) c.in_err-matched.ensures.refused)

@@ -1,7 +1,7 @@
 use Rattle.std.proofs.Common.{refl}
 use Rattle.sig_text.specs.SigText.{elab_text}
 use Rattle.fing_top.specs.Reply.{ProgramReplies, TellsSignature}
-use Rattle.fing_top.specs.declared.command.Command.TheVariants as command
+use Rattle.fing_words.specs.declared.command_line.CommandLine.TheVariants as command
 use Rattle.fing_top.specs.declared.status.Status.TheVariants as status
 use Rattle.fing_top.proofs.Answering.{told, wrote_reply}
 use Rattle.fing_top.proofs.programs.check.Goals as goal

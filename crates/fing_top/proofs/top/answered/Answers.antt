@@ -1,12 +1,12 @@
 use Rattle.std.proofs.Common.{ℕ, List, sym, subst}
-use Rattle.fing_text.specs.Reads.{ReadAll}
-use Rattle.fing_top.specs.Answer.{limit}
+use Rattle.fing_top.specs.Answer.{Takes, change, output}
 use Rattle.fing_top.proofs.Answering.{completes}
 use Rattle.fing_top.proofs.top.answered.Goals as goal
 
 pub returns-in-Ok-clause-completes : goal.returns-in-Ok-clause-completes
 returns-in-Ok-clause-completes g c = λ words line.
-    completes words (record { old = g.S.Source.told c.args.source.now; new = g.S.Source.told c.read_all.new.source }) (record {
-      sink = record { old = g.K.Sink.told c.args.sink.now; new = g.K.Sink.told c.reply.new.sink };
-      confirmed = record { old = c.args.confirmed.now; new = c.reply.new.confirmed };
-    }) c.args.command c.deref.result.now c.reply.result line (subst (λ (bytes : List ℕ). ReadAll (g.S.Source.told c.args.source.now) (g.S.Source.told c.read_all.new.source) limit bytes) (sym c.deref.ensures.value) c.in-Ok.ensures) c.reply.ensures
+    completes words (change (g.S.Source.told c.args.source.now) (g.S.Source.told c.taken.new.source))
+    (output (change (g.K.Sink.told c.args.sink.now) (g.K.Sink.told c.reply.new.sink)) (change c.args.confirmed.now c.reply.new.confirmed))
+    c.args.command c.deref.result.now c.reply.result line
+    (subst (λ (bytes : List ℕ). Takes c.args.command (change (g.S.Source.told c.args.source.now) (g.S.Source.told c.taken.new.source)) bytes) (sym c.deref.ensures.value) c.in-Ok.ensures.taken)
+    c.reply.ensures

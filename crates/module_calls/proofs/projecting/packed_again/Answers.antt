@@ -1,10 +1,11 @@
+use Rattle.std.proofs.lemmas.Bool.{eqb-true}
 use Rattle.std.proofs.lemmas.Result.{IfOk-weaker}
-use Rattle.omega_terms.specs.Term.{Term}
+use Rattle.std.proofs.Common.{◌≡◌, sym}
 use Rattle.module_calls.specs.Shown.{PackedAgain}
-use Rattle.module_calls.proofs.Made.{packs-again}
+use Rattle.module_calls.proofs.Packs.{no-kinds, packs-nothing}
 use Rattle.module_calls.proofs.projecting.packed_again.Goals as goal
 
-pub returns : goal.returns
-returns c =
-    IfOk-weaker _ _ (λ (d : Term). PackedAgain c.args.kinds.now c.args.sig.now c.args.term.now d)
-    (λ d q. packs-again c.args.kinds.now c.count_of.result c.args.sig.now c.in_ok-from.from c.in_ok-to.to c.items.result.now c.in_ok-own.own c.args.term.now d c.in_ok-from.ensures c.count_of.ensures c.in_ok-to.ensures c.in_ok-own.ensures c.items.ensures q) c.pack_up.ensures.packs
+pub returns-then-is_empty : goal.returns-then-is_empty
+returns-then-is_empty c =
+    let e = no-kinds c.items.result.now c.args.kinds.now c.items.ensures (eqb-true _ _ (sym c.if-is_empty.ensures)) in
+    IfOk-weaker c.share.result (λ d. d ≡ c.args.term.now) (PackedAgain c.args.kinds.now c.args.sig.now c.args.term.now) (λ d h. packs-nothing c.args.kinds.now c.args.sig.now c.args.term.now d e h) c.share.ensures

@@ -1,0 +1,78 @@
+// Sources that are cut off, sources and sinks of which one call fails, and sinks with little room.
+use crate::runs::{checked, run};
+use fing_text::{MemSink, MemSource};
+use fing_top::Status;
+use std::test::Fail;
+
+// Each front of a source, with the reply of `check`, and two more sources that break off in the middle of a phrase.
+const FRONTS: [(&str, &str); 16] = [
+    ("", "pure (ex () (str))\n"),
+    ("v", "refused Syntax 0\n"),
+    ("va", "refused Syntax 0\n"),
+    ("val", "refused Syntax 1\n"),
+    ("val ", "refused Syntax 1\n"),
+    ("val x", "refused Syntax 2\n"),
+    ("val x ", "refused Syntax 2\n"),
+    ("val x =", "refused Syntax 3\n"),
+    ("val x = ", "refused Syntax 3\n"),
+    ("val x = 1", "pure (ex () (str (x (val int))))\n"),
+    ("val x = 1 ", "pure (ex () (str (x (val int))))\n"),
+    ("val x = 1 +", "refused Syntax 5\n"),
+    ("val x = 1 + ", "refused Syntax 5\n"),
+    ("val x = 1 + 2", "pure (ex () (str (x (val int))))\n"),
+    ("val x = )", "refused Syntax 3\n"),
+    ("val x = 1 < 2 < 3", "refused Syntax 6\n"),
+];
+
+#[test]
+fn cut_sources(rt: HostRuntime) -> Result<(), Fail> {
+    for (source, reply) in FRONTS {
+        let found = checked(rt.alloc(), source.as_bytes())?;
+        assert!(rt; found.written.as_slice() == reply.as_bytes(), "at {source}");
+    }
+    Ok(())
+}
+
+const SUM: &[u8] = b"val x = 1 + 2";
+
+const REPLY: &[u8] = b"pure (ex () (str (x (val int))))\n";
+
+// Thirteen bytes in pieces of four are read in five calls, the last of which finds the end.
+#[test]
+fn each_read_fails(rt: HostRuntime) -> Result<(), Fail> {
+    for call in 0..5 {
+        let source = MemSource::new(SUM.to_vec(rt.alloc())?, 4, [call].to_vec(rt.alloc())?);
+        let sink = MemSink::new(rt.alloc(), 4096, 4096, Vec::new(rt.alloc()))?;
+        let found = run(rt.alloc(), &["check"], source, sink)?;
+        assert_eq!(rt; found.status, Status::ReadFault, "at {call}");
+        assert!(rt; found.written.is_empty(), "at {call}");
+    }
+    Ok(())
+}
+
+// A byte is written in each call; the one that fails leaves the bytes before it.
+#[test]
+fn each_write_fails(rt: HostRuntime) -> Result<(), Fail> {
+    for call in 0..33 {
+        let source = MemSource::new(SUM.to_vec(rt.alloc())?, 4, Vec::new(rt.alloc()));
+        let sink = MemSink::new(rt.alloc(), 33, 1, [call].to_vec(rt.alloc())?)?;
+        let found = run(rt.alloc(), &["check"], source, sink)?;
+        assert_eq!(rt; found.status, Status::WriteFault, "at {call}");
+        assert!(rt; REPLY.starts_with(found.written.as_slice()), "at {call}");
+        assert!(rt; found.written.len() <= call as usize, "at {call}");
+    }
+    Ok(())
+}
+
+#[test]
+fn room_for_the_reply(rt: HostRuntime) -> Result<(), Fail> {
+    for (room, status) in [(33, Status::Ok), (32, Status::WriteFault)] {
+        let source = MemSource::new(SUM.to_vec(rt.alloc())?, 4, Vec::new(rt.alloc()));
+        let sink = MemSink::new(rt.alloc(), room, 1, Vec::new(rt.alloc()))?;
+        let found = run(rt.alloc(), &["check"], source, sink)?;
+        assert_eq!(rt; found.status, status, "at {room}");
+        assert!(rt; REPLY.starts_with(found.written.as_slice()), "at {room}");
+        assert_eq!(rt; found.written.len(), room, "at {room}");
+    }
+    Ok(())
+}

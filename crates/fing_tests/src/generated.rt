@@ -1,0 +1,75 @@
+// Generated programs. By the rules a program of size n has 5 + 3 n bindings, and its term 138 + 85 n nodes and 30 + 54 n
+// steps.
+use crate::runs::{Answer, run};
+use fing_elab::elab;
+use fing_gen::source_of;
+use fing_lexer::tokens;
+use fing_parser::program;
+use fing_syntax::Program;
+use fing_text::{MemSink, MemSource};
+use fing_top::Status;
+use omega_checker::{Checked, check};
+use omega_machine::{End, run as evaluate};
+use semantic_sigs::encode;
+use std::alloc::Global;
+use std::test::Fail;
+
+// Each reply twice.
+const COUNTS: [(&str, &str); 8] = [
+    ("1", "bindings 8 nodes 223 steps 84\n"),
+    ("1", "bindings 8 nodes 223 steps 84\n"),
+    ("2", "bindings 11 nodes 308 steps 138\n"),
+    ("30", "bindings 95 nodes 2688 steps 1650\n"),
+    ("00000030", "bindings 95 nodes 2688 steps 1650\n"),
+    ("30", "bindings 95 nodes 2688 steps 1650\n"),
+    ("300", "bindings 905 nodes 25638 steps 16230\n"),
+    ("300", "bindings 905 nodes 25638 steps 16230\n"),
+];
+
+// The answer of `gen`, with a source whose first read fails.
+fn counted(alloc: Global, size: &str) -> Result<Answer, Fail> {
+    let source = MemSource::new(b"val x = 1".to_vec(alloc)?, 4, [0].to_vec(alloc)?);
+    let sink = MemSink::new(alloc, 4096, 7, Vec::new(alloc))?;
+    run(alloc, &["gen", size], source, sink)
+}
+
+#[test]
+fn counts(rt: HostRuntime) -> Result<(), Fail> {
+    for (size, text) in COUNTS {
+        let found = counted(rt.alloc(), size)?;
+        assert!(rt; found.written.as_slice() == text.as_bytes(), "at {size}");
+        assert_eq!(rt; found.status, Status::Ok, "at {size}");
+        assert!(rt; found.is_confirmed, "at {size}");
+    }
+    Ok(())
+}
+
+// The tree of a source.
+fn tree(alloc: Global, source: &[u8]) -> Result<Program, Fail> {
+    if source.len() > 1048576 {
+        Err::<(), &str>("too many bytes")?;
+    }
+    let tokens = tokens(alloc, source)?;
+    if tokens.len() > 1048576 {
+        Err::<(), &str>("too many tokens")?;
+    }
+    Ok(program(alloc, &tokens)?)
+}
+
+// What the checker makes of the whole term of a program.
+fn confirmed(alloc: Global, program: &Program) -> Result<Checked, Fail> {
+    let found = elab(alloc, program).ok().ok_or("refused")?;
+    let ty = encode(alloc, &found.sig)?;
+    let checked = check(alloc, found.whole, ty)?.ok_or("ill typed")?;
+    Ok(checked)
+}
+
+#[test]
+fn the_least_program_by_its_calls(rt: HostRuntime) -> Result<(), Fail> {
+    let source = source_of(rt.alloc(), 1)?;
+    let program = tree(rt.alloc(), &source)?;
+    let checked = confirmed(rt.alloc(), &program)?;
+    let end = evaluate(rt.alloc(), &checked, 10000000)?;
+    assert!(rt; matches!(end, End::Value { steps: 84, .. }));
+    Ok(())
+}
