@@ -9,7 +9,9 @@ import tempfile
 
 TOP = pathlib.Path(__file__).resolve().parent.parent
 STACK = 8192  # KiB
+MEMORY = 4194304  # KiB
 SECONDS = 120  # of processor time, after which a run counts as hanging
+WRITTEN = 262144  # KiB that a run may write
 
 
 def found(path=None):
@@ -60,7 +62,8 @@ class Runner:
 
 
 class Timer:
-    """Runs the program under a stack of 8 MiB, and tells time and memory."""
+    """Runs the program under a stack of 8 MiB, and tells time and memory. Status -24 says that it took too much time, -25
+    that it wrote too much. With more than 4 GiB it is refused memory."""
 
     def __init__(self, program):
         self.program = program
@@ -75,10 +78,10 @@ class Timer:
         shutil.rmtree(self.folder)
 
     def run(self, words, source=b"", seconds=SECONDS):
-        """The exit status, standard output, the seconds that it took, and the greatest memory in KiB."""
+        """The exit status, standard output, the seconds of processor time that it took, and the greatest memory in KiB."""
         given, written, told = scratch(source), scratch(), scratch()
         actions = [(os.POSIX_SPAWN_DUP2, file, i) for i, file in ((0, given), (1, written), (3, told))]
-        line = [self.timed, str(STACK), str(seconds), self.program, *words]
+        line = [self.timed, str(STACK), str(MEMORY), str(seconds), str(WRITTEN), self.program, *words]
         child = os.posix_spawn(self.timed, line, os.environ, file_actions=actions)
         os.waitpid(child, 0)
         status, took, peak = map(int, content(told).split())

@@ -6,8 +6,6 @@
 
 pub mod packing;
 pub mod parts;
-#[cfg(test)]
-mod tests;
 
 pub use packing::{abs_part, match_part};
 pub use parts::{fields_part, functor_part, meta_part, same_part};

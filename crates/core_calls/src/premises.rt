@@ -19,7 +19,7 @@ pub(crate) fn expect_star(kind: &Kind) -> Result<(), CoreRefusal>
 {
     match kind {
         Kind::Star => Ok(()),
-        Kind::Arrow(_, _) => Err(CoreRefusal::KindDiffer(kind.share()?, Kind::Star)),
+        Kind::Arrow(_, _, _) => Err(CoreRefusal::KindDiffer(kind.share()?, Kind::Star)),
     }
 }
 

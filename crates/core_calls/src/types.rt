@@ -113,7 +113,7 @@ pub fn apply_ty(
 {
     match &operator.kind {
         Kind::Star => Err(CoreRefusal::NotOperator),
-        Kind::Arrow(from, to) => {
+        Kind::Arrow(from, to, _) => {
             if !same_kind(&arg.kind, from) {
                 return Err(CoreRefusal::KindDiffer(arg.kind.share()?, from.share()?));
             }

@@ -132,6 +132,7 @@ fn binds_under(
 
 // `include M` and the rest of a structure.
 #[cycle(elab)]
+#[inline(never)]
 fn included(
     alloc: Global,
     env: &mut Env,
@@ -191,6 +192,7 @@ fn push_included(alloc: Global, env: &mut Env, head: &Abs, fields: &SigFields) -
 
 // A single binding: its name, and what it binds. An include is none: the rest of a structure takes it.
 #[cycle(elab)]
+#[inline(never)]
 fn bind(alloc: Global, env: &mut Env, phrase: &Bind) -> Result<(Name, Module), Refusal>
     requires { OkEnv env.old }
     ensures given { IfOk result (λ o. BindMeans env.old phrase.now o.0 (module_of o.1)) }

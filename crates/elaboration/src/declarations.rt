@@ -31,6 +31,7 @@ use std::alloc::Global;
 
 // A declaration.
 #[cycle(elab)]
+#[inline(never)]
 fn decl(alloc: Global, env: &mut Env, phrase: &Decl) -> Result<Abs, Refusal>
     requires { OkEnv env.old }
     ensures given { IfOk result (λ x. DeclMeans env.old phrase.now x) }
@@ -50,6 +51,7 @@ fn decl(alloc: Global, env: &mut Env, phrase: &Decl) -> Result<Abs, Refusal>
 
 // `val X : T`.
 #[cycle(elab)]
+#[inline(never)]
 fn decl_val(
     alloc: Global,
     env: &mut Env,
@@ -69,6 +71,7 @@ fn decl_val(
 
 // `type X = T`.
 #[cycle(elab)]
+#[inline(never)]
 fn decl_is(
     alloc: Global,
     env: &mut Env,
@@ -88,6 +91,7 @@ fn decl_is(
 
 // `module X : S`.
 #[cycle(elab)]
+#[inline(never)]
 fn decl_module(
     alloc: Global,
     env: &mut Env,
@@ -107,6 +111,7 @@ fn decl_module(
 
 // `signature X = S`.
 #[cycle(elab)]
+#[inline(never)]
 fn decl_signature(
     alloc: Global,
     env: &mut Env,
@@ -126,6 +131,7 @@ fn decl_signature(
 
 // `include S`.
 #[cycle(elab)]
+#[inline(never)]
 fn decl_include(alloc: Global, env: &mut Env, at: Span, of: &SigEx) -> Result<Abs, Refusal>
     requires { OkEnv env.old }
     ensures given { IfOk result (λ x. DeclMeans env.old (DeclAt (place at) (DeclInclude of.now)) x) }

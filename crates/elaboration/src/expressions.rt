@@ -91,6 +91,7 @@ fn exp_under(
 
 // `fun (X : T) => E`.
 #[cycle(elab)]
+#[inline(never)]
 fn exp_lam(
     alloc: Global,
     env: &mut Env,
@@ -112,6 +113,7 @@ fn exp_lam(
 
 // `fun [X : K] => E`.
 #[cycle(elab)]
+#[inline(never)]
 fn exp_ty_lam(
     alloc: Global,
     env: &mut Env,
@@ -134,6 +136,7 @@ fn exp_ty_lam(
 
 // `fix F (X : T) : U => E`.
 #[cycle(elab)]
+#[inline(never)]
 fn exp_fix(
     alloc: Global,
     env: &mut Env,
@@ -169,6 +172,7 @@ fn arrow_of(alloc: Global, from: &Kinded, to: &Kinded) -> Result<NormalTy, Mem>
 
 // `if E1 then E2 else E3`.
 #[cycle(elab)]
+#[inline(never)]
 fn exp_if(
     alloc: Global,
     env: &mut Env,
@@ -192,6 +196,7 @@ fn exp_if(
 
 // Operators of one level, which group to the left.
 #[cycle(elab)]
+#[inline(never)]
 fn exp_ops(
     alloc: Global,
     env: &mut Env,
@@ -231,6 +236,7 @@ fn operands(
 
 // A left operand, which stands at a place, with one more operand, and then those that are left.
 #[cycle(elab)]
+#[inline(never)]
 fn operand(
     alloc: Global,
     env: &mut Env,
@@ -271,6 +277,7 @@ fn omega_op(op: Op) -> TermOp
 
 // A function and its arguments.
 #[cycle(elab)]
+#[inline(never)]
 fn exp_apply(
     alloc: Global,
     env: &mut Env,
@@ -314,6 +321,7 @@ fn arguments(
 
 // A function, which stands at a place, applied to a value, and then to the arguments that are left.
 #[cycle(elab)]
+#[inline(never)]
 fn value_argument(
     alloc: Global,
     env: &mut Env,
@@ -338,6 +346,7 @@ fn value_argument(
 
 // A function, which stands at a place, applied to a type, up to a place, and then to the arguments that are left.
 #[cycle(elab)]
+#[inline(never)]
 fn type_argument(
     alloc: Global,
     env: &mut Env,
@@ -363,6 +372,7 @@ fn type_argument(
 
 // A record.
 #[cycle(elab)]
+#[inline(never)]
 fn exp_record(
     alloc: Global,
     env: &mut Env,
@@ -422,6 +432,7 @@ fn exp_field(
 
 // `E#X`.
 #[cycle(elab)]
+#[inline(never)]
 fn exp_get(
     alloc: Global,
     env: &mut Env,

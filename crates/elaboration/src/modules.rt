@@ -57,6 +57,7 @@ pub(crate) fn module(alloc: Global, env: &mut Env, phrase: &Mod) -> Result<Modul
 }
 
 // `X`.
+#[inline(never)]
 fn mod_name(alloc: Global, env: &mut Env, at: Span, name: &SpanName) -> Result<Module, Refusal>
     requires { OkEnv env.old }
     ensures given { IfOk result (λ m. ModMeans env.old (ModAt (place at) (ModName (spelled name.now))) (module_of m)) }
@@ -81,6 +82,7 @@ fn mod_struct(alloc: Global, env: &mut Env, at: Span, list: &[Bind]) -> Result<M
 
 // `M.X`.
 #[cycle(elab)]
+#[inline(never)]
 fn mod_project(
     alloc: Global,
     env: &mut Env,
@@ -120,6 +122,7 @@ fn mod_under(
 
 // `fun (X : S) => M` and `gen (X : S) => M`.
 #[cycle(elab)]
+#[inline(never)]
 fn mod_functor(
     alloc: Global,
     env: &mut Env,
@@ -141,6 +144,7 @@ fn mod_functor(
 }
 
 // `X1 X2`.
+#[inline(never)]
 fn mod_apply(
     alloc: Global,
     env: &mut Env,
@@ -163,6 +167,7 @@ fn mod_apply(
 
 // `X :> S`.
 #[cycle(elab)]
+#[inline(never)]
 fn mod_seal(
     alloc: Global,
     env: &mut Env,
@@ -184,6 +189,7 @@ fn mod_seal(
 
 // `unpack E : S`.
 #[cycle(elab)]
+#[inline(never)]
 fn mod_unpack(
     alloc: Global,
     env: &mut Env,

@@ -53,6 +53,7 @@ pub(crate) fn sig(alloc: Global, env: &mut Env, phrase: &SigEx) -> Result<Abs, R
 
 // A path.
 #[cycle(elab)]
+#[inline(never)]
 fn path_sig(alloc: Global, env: &mut Env, at: Span, path: &Mod) -> Result<Abs, Refusal>
     requires { OkEnv env.old }
     ensures given { IfOk result (λ x. SigMeans env.old (SigAt (place at) (PathSig path.now)) x) }
@@ -66,6 +67,7 @@ fn path_sig(alloc: Global, env: &mut Env, at: Span, path: &Mod) -> Result<Abs, R
 
 // Declarations in a row.
 #[cycle(elab)]
+#[inline(never)]
 fn sig_decls(alloc: Global, env: &mut Env, at: Span, list: &[Decl]) -> Result<Abs, Refusal>
     requires { OkEnv env.old }
     ensures given { IfOk result (λ x. SigMeans env.old (SigAt (place at) (SigDecls (decls_of list.now))) x) }
@@ -98,6 +100,7 @@ fn sig_under(
 
 // The signature of functors.
 #[cycle(elab)]
+#[inline(never)]
 fn sig_fun(
     alloc: Global,
     env: &mut Env,
@@ -125,6 +128,7 @@ fn sig_fun(
 
 // A signature in which a type is made equal to another.
 #[cycle(elab)]
+#[inline(never)]
 fn sig_refine(
     alloc: Global,
     env: &mut Env,

@@ -28,7 +28,7 @@ pub(crate) fn expect_star(alloc: Global, env: &Env, at: Span, kind: &Kind) -> Re
 {
     match kind {
         Kind::Star => Ok(()),
-        Kind::Arrow(_, _) => {
+        Kind::Arrow(_, _, _) => {
             let why = ElabWhy::KindDiffer(kind.share()?, Kind::Star);
             Err(refuse(alloc, env, at, why))
         }
@@ -46,7 +46,7 @@ pub(crate) fn expect_operator(
     ensures refused { IfErr result (λ e. ByTest env.now (place at) ((p : KindTree × KindTree) → kind_tree kind.now ≡ KindTree.Arrow p.0 p.1 → ⊥) NotOperator e) }
 {
     match kind {
-        Kind::Arrow(_, _) => Ok(()),
+        Kind::Arrow(_, _, _) => Ok(()),
         Kind::Star => Err(refuse(alloc, env, at, ElabWhy::NotOperator)),
     }
 }

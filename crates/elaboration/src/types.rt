@@ -72,6 +72,7 @@ pub(crate) fn value_ty(alloc: Global, env: &mut Env, phrase: &TyEx) -> Result<Ki
 
 // `T -> U`.
 #[cycle(elab)]
+#[inline(never)]
 fn ty_arrow(
     alloc: Global,
     env: &mut Env,
@@ -92,6 +93,7 @@ fn ty_arrow(
 
 // An operator and its arguments.
 #[cycle(elab)]
+#[inline(never)]
 fn ty_apply(
     alloc: Global,
     env: &mut Env,
@@ -132,6 +134,7 @@ fn ty_args(
 
 // An operator, which stands at a place, applied to one argument, and then to those that are left.
 #[cycle(elab)]
+#[inline(never)]
 fn ty_arg(
     alloc: Global,
     env: &mut Env,
@@ -156,6 +159,7 @@ fn ty_arg(
 
 // A record type.
 #[cycle(elab)]
+#[inline(never)]
 fn ty_record(
     alloc: Global,
     env: &mut Env,
@@ -235,6 +239,7 @@ fn ty_under(
 
 // `[X : K] -> T`.
 #[cycle(elab)]
+#[inline(never)]
 fn ty_all(
     alloc: Global,
     env: &mut Env,
@@ -255,6 +260,7 @@ fn ty_all(
 
 // `fun (X : K) => T`.
 #[cycle(elab)]
+#[inline(never)]
 fn ty_lam(
     alloc: Global,
     env: &mut Env,

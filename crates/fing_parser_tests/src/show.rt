@@ -43,7 +43,7 @@ fn end(out: &mut Vec<u8>, span: Span) -> Result<(), Mem> {
 fn kind(out: &mut Vec<u8>, shown: &Kind) -> Result<(), Mem> {
     match shown {
         Kind::Star => text(out, b"*"),
-        Kind::Arrow(from, to) => {
+        Kind::Arrow(from, to, _) => {
             text(out, b"(> ")?;
             kind(out, from)?;
             text(out, b" ")?;

@@ -16,6 +16,8 @@ mod faults;
 #[cfg(test)]
 mod generated;
 #[cfg(test)]
+mod heights;
+#[cfg(test)]
 mod outcomes;
 #[cfg(test)]
 mod reasons;

@@ -8,7 +8,5 @@ pub mod checked;
 mod forms;
 mod normality;
 mod synthesis;
-#[cfg(test)]
-mod tests;
 
 pub use checked::{Checked, check};

@@ -52,7 +52,7 @@ fn normal_at_kind(ctx: &[Kind], inner: &mut Vec<Kind>, ty: &Ty, kind: &Kind) -> 
 {
     match kind {
         Kind::Star => normal_type(ctx, inner, ty),
-        Kind::Arrow(from, to) => match ty.node() {
+        Kind::Arrow(from, to, _) => match ty.node() {
             TyNode::Lam(k, b) => {
                 if same_kind(k, from) {
                     normal_body(ctx, inner, b, k, to)
@@ -145,7 +145,7 @@ fn applied_kind(
     ensures kept { OnOk result (scope_of inner.new.items ≡ scope_of inner.old.items) }
     ensures value { IfOk result (λ o. option_map kind_tree o ≡ with_arg_of (neutral_kind_of (scope_below ctx.now inner.old.items) operator.now) (is_normal_of (scope_below ctx.now inner.old.items) arg.now)) }
 {
-    let Some(Kind::Arrow(from, to)) = neutral_kind(ctx, inner, operator)? else {
+    let Some(Kind::Arrow(from, to, _)) = neutral_kind(ctx, inner, operator)? else {
         return Ok(None);
     };
     if normal_at_kind(ctx, inner, arg, &from)? {

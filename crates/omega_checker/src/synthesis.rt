@@ -5,6 +5,7 @@ ghost use Rattle.omega_kinds.specs.View.{kind_tree};
 ghost use Rattle.omega_types.specs.Scope.{scope_of};
 ghost use Rattle.omega_types.specs.Ty.{Ty as TyTree};
 ghost use Rattle.omega_terms.specs.Fields.{term_row};
+ghost use Rattle.omega_terms.specs.Term.{Term as TermTree};
 ghost use Rattle.omega_terms.specs.Typing.{shift_all};
 ghost use Rattle.omega_checker.specs.Found.{synth_in, synth_row, and_then, of_package, lowered as lowered_of, fix_type, labels_differ};
 
@@ -13,8 +14,8 @@ use crate::forms::{
     packed, part, raised, variable,
 };
 use omega_kinds::{Kind, Mem};
-use omega_terms::{Term, TermFields, TermNode};
-use omega_types::{TyFields, TyNode};
+use omega_terms::{Op, Term, TermFields, TermNode};
+use omega_types::{Ty, TyFields, TyNode};
 use std::alloc::Global;
 use type_normal::{NormalTy, plain};
 
@@ -48,11 +49,7 @@ fn synth(
             let from = normal_at(alloc, kinds, t, &Kind::Star)?;
             synth_function(alloc, kinds, vars, from, e)
         }
-        TermNode::Call(f, a) => {
-            let function = synth(alloc, kinds, vars, f)?;
-            let arg = synth(alloc, kinds, vars, a)?;
-            called(function, arg)
-        }
+        TermNode::Call(f, a) => synth_call(alloc, kinds, vars, f, a),
         TermNode::TyLam(k, e) => synth_type_function(alloc, kinds, vars, k, e),
         TermNode::Inst(e, t) => {
             let body = synth(alloc, kinds, vars, e)?;
@@ -63,32 +60,99 @@ fn synth(
             let whole = synth(alloc, kinds, vars, e)?;
             field_type(whole, l)
         }
-        TermNode::Pack(t, e, u) => {
-            let target = normal_at(alloc, kinds, u, &Kind::Star)?;
-            let body = synth(alloc, kinds, vars, e)?;
-            packed(alloc, kinds, t, target, body)
-        }
+        TermNode::Pack(t, e, u) => synth_package(alloc, kinds, vars, t, e, u),
         TermNode::Unpack(p, e) => {
             let package = synth(alloc, kinds, vars, p)?;
             synth_opened(alloc, kinds, vars, package, e)
         }
-        TermNode::If(a, b, c) => {
-            let test = synth(alloc, kinds, vars, a)?;
-            let yes = synth(alloc, kinds, vars, b)?;
-            let no = synth(alloc, kinds, vars, c)?;
-            chosen(alloc, test, yes, no)
-        }
-        TermNode::Arith(op, a, b) => {
-            let left = synth(alloc, kinds, vars, a)?;
-            let right = synth(alloc, kinds, vars, b)?;
-            computed(alloc, *op, left, right)
-        }
+        TermNode::If(a, b, c) => synth_choice(alloc, kinds, vars, a, b, c),
+        TermNode::Arith(op, a, b) => synth_arith(alloc, kinds, vars, *op, a, b),
         TermNode::Fix(t, u, e) => {
             let from = normal_at(alloc, kinds, t, &Kind::Star)?;
             let to = normal_at(alloc, kinds, u, &Kind::Star)?;
             synth_fix(alloc, kinds, vars, from, to, e)
         }
     }
+}
+
+// The type of a call.
+#[cycle(synth)]
+#[inline(never)]
+fn synth_call(
+    alloc: Global,
+    kinds: &mut Vec<Kind>,
+    vars: &mut Vec<NormalTy>,
+    function: &Term,
+    arg: &Term,
+) -> Result<Option<NormalTy>, Mem>
+    ensures kinds { OnOk result (scope_of kinds.new.items ≡ scope_of kinds.old.items) }
+    ensures vars { OnOk result (vars.new.items ≡ vars.old.items) }
+    ensures found { IfOk result (λ o. o ≡ synth_in (scope_of kinds.old.items) (reverse vars.old.items) (TermTree.Call function.now arg.now)) }
+{
+    let function = synth(alloc, kinds, vars, function)?;
+    let arg = synth(alloc, kinds, vars, arg)?;
+    called(function, arg)
+}
+
+// The type of a package.
+#[cycle(synth)]
+#[inline(never)]
+fn synth_package(
+    alloc: Global,
+    kinds: &mut Vec<Kind>,
+    vars: &mut Vec<NormalTy>,
+    hidden: &Ty,
+    body: &Term,
+    target: &Ty,
+) -> Result<Option<NormalTy>, Mem>
+    ensures kinds { OnOk result (scope_of kinds.new.items ≡ scope_of kinds.old.items) }
+    ensures vars { OnOk result (vars.new.items ≡ vars.old.items) }
+    ensures found { IfOk result (λ o. o ≡ synth_in (scope_of kinds.old.items) (reverse vars.old.items) (TermTree.Pack hidden.now body.now target.now)) }
+{
+    let target = normal_at(alloc, kinds, target, &Kind::Star)?;
+    let body = synth(alloc, kinds, vars, body)?;
+    packed(alloc, kinds, hidden, target, body)
+}
+
+// The type of a choice.
+#[cycle(synth)]
+#[inline(never)]
+fn synth_choice(
+    alloc: Global,
+    kinds: &mut Vec<Kind>,
+    vars: &mut Vec<NormalTy>,
+    test: &Term,
+    yes: &Term,
+    no: &Term,
+) -> Result<Option<NormalTy>, Mem>
+    ensures kinds { OnOk result (scope_of kinds.new.items ≡ scope_of kinds.old.items) }
+    ensures vars { OnOk result (vars.new.items ≡ vars.old.items) }
+    ensures found { IfOk result (λ o. o ≡ synth_in (scope_of kinds.old.items) (reverse vars.old.items) (TermTree.If test.now yes.now no.now)) }
+{
+    let test = synth(alloc, kinds, vars, test)?;
+    let yes = synth(alloc, kinds, vars, yes)?;
+    let no = synth(alloc, kinds, vars, no)?;
+    chosen(alloc, test, yes, no)
+}
+
+// The type of a computation.
+#[cycle(synth)]
+#[inline(never)]
+fn synth_arith(
+    alloc: Global,
+    kinds: &mut Vec<Kind>,
+    vars: &mut Vec<NormalTy>,
+    op: Op,
+    left: &Term,
+    right: &Term,
+) -> Result<Option<NormalTy>, Mem>
+    ensures kinds { OnOk result (scope_of kinds.new.items ≡ scope_of kinds.old.items) }
+    ensures vars { OnOk result (vars.new.items ≡ vars.old.items) }
+    ensures found { IfOk result (λ o. o ≡ synth_in (scope_of kinds.old.items) (reverse vars.old.items) (TermTree.Arith op left.now right.now)) }
+{
+    let left = synth(alloc, kinds, vars, left)?;
+    let right = synth(alloc, kinds, vars, right)?;
+    computed(alloc, op, left, right)
 }
 
 // The type of a function, from that of its argument.

@@ -5,4 +5,4 @@ use Rattle.omega_kinds.specs.Kind.{Kind, Star, Arrow}
 
 abbrev pub kind_tree : SharedKind → Kind
 kind_tree SharedStar = Star
-kind_tree (SharedArrow p a q b) = Arrow (kind_tree a) (kind_tree b)
+kind_tree (SharedArrow p a q b h) = Arrow (kind_tree a) (kind_tree b)

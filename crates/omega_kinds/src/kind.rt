@@ -3,18 +3,19 @@ ghost use Rattle.std.specs.Prelude.{◌≡◌, ◌↔◌, IfOk, IsTrue};
 ghost use Rattle.omega_kinds.specs.Kind.{Star, Arrow, kind_eq};
 ghost use Rattle.omega_kinds.specs.View.{kind_tree};
 
+use crate::height::height_over;
 use crate::memory::Mem;
 use std::alloc::Global;
 use std::rc::Rc;
 
-/// A kind of System Fω: that of types, `*`, or that of operators, `K > K`.
+/// A kind of System Fω: that of types, `*`, or that of operators, `K > K`, which keeps its height.
 /// Contracts see it as its plain tree.
 ///
 /// Pierce, "Types and Programming Languages", section 29.1, Type operators and kinding.
 #[derive(Drop)]
 pub enum Kind {
     Star,
-    Arrow(Rc<Kind>, Rc<Kind>),
+    Arrow(Rc<Kind>, Rc<Kind>, u32),
 }
 
 impl Kind {
@@ -24,22 +25,31 @@ impl Kind {
     {
         match self {
             Kind::Star => Ok(Kind::Star),
-            Kind::Arrow(from, to) => {
+            Kind::Arrow(from, to, height) => {
                 let from = from.clone()?;
                 let to = to.clone()?;
-                Ok(Kind::Arrow(from, to))
+                Ok(Kind::Arrow(from, to, *height))
             }
+        }
+    }
+
+    /// How many arrows stand inside one another. It decides nothing but where memory is refused.
+    pub fn height(&self) -> u32 {
+        match self {
+            Kind::Star => 0,
+            Kind::Arrow(_, _, height) => *height,
         }
     }
 }
 
-/// The kind of operators from one kind to another. `Err` is want of memory.
+/// The kind of operators from one kind to another. `Err` is want of memory, also for a kind that is too high.
 pub fn arrow(alloc: Global, from: Kind, to: Kind) -> Result<Kind, Mem>
     ensures { IfOk result (λ k. kind_tree k ≡ Arrow (kind_tree from) (kind_tree to)) }
 {
+    let height = height_over(from.height().max(to.height()), 1)?;
     let from = Rc::new(alloc, from)?;
     let to = Rc::new(alloc, to)?;
-    Ok(Kind::Arrow(from, to))
+    Ok(Kind::Arrow(from, to, height))
 }
 
 /// Whether two kinds are the same tree. Takes no memory.
@@ -49,7 +59,7 @@ pub fn same_kind(left: &Kind, right: &Kind) -> bool
 {
     match (left, right) {
         (Kind::Star, Kind::Star) => true,
-        (Kind::Arrow(a, b), Kind::Arrow(c, d)) => same_kind(a, c) && same_kind(b, d),
+        (Kind::Arrow(a, b, _), Kind::Arrow(c, d, _)) => same_kind(a, c) && same_kind(b, d),
         _ => false,
     }
 }

@@ -12,8 +12,6 @@ mod outcome;
 mod redexes;
 mod refocus;
 mod shown;
-#[cfg(test)]
-mod tests;
 
 pub use machine::run;
 pub use outcome::{Arith, End};

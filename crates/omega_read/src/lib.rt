@@ -11,8 +11,6 @@ mod labels;
 mod left;
 mod numbers;
 mod terms;
-#[cfg(test)]
-mod tests;
 mod texts;
 mod types;
 mod whole;

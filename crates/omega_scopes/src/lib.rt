@@ -5,7 +5,5 @@
 #![tactic(auto)]
 
 mod scopes;
-#[cfg(test)]
-mod tests;
 
 pub use scopes::{term_in_scope, ty_in_scope};

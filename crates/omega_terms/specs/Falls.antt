@@ -5,7 +5,8 @@ use denote.Param.Weighed.{most}
 use Rattle.omega_kinds.specs.declared.label.Label.{Label}
 use Rattle.omega_terms.specs.declared.tree.TermNode.{TermNode}
 use Rattle.omega_terms.specs.declared.tree.TermNode.TheVariants as node
-use Rattle.omega_terms.specs.declared.tree.Term.TheDeep.{deep-TermNode}
+use Rattle.omega_terms.specs.declared.tree.Made.{Made}
+use Rattle.omega_terms.specs.declared.tree.Term.TheDeep.{deep-TermNode, deep-Made}
 use Rattle.omega_terms.specs.Term.{Term}
 use Rattle.omega_terms.specs.Size.{term_size, pairs_size}
 use Rattle.omega_terms.specs.View.{term_of}
@@ -30,6 +31,9 @@ depth_le-term_size (node.Unpack p e) = omega arith
 depth_le-term_size (node.If a b c) = omega arith
 depth_le-term_size (node.Arith op a b) = omega arith
 depth_le-term_size (node.Fix t u e) = omega arith
+
+pub made_le-term_size : (m : Made) → max (deep-Made m) 0 ≤ term_size (term_of m.node)
+made_le-term_size m = omega (arith, depth_le-term_size m.node)
 
 pub deep_le-pairs_size : (xs : List (Label × Term)) → max (most (λ x. max 0 (max (term_size x.1 + 1) 0)) xs) 0 ≤ pairs_size xs
 deep_le-pairs_size xs = omega (arith, most_le-pairs_size xs)

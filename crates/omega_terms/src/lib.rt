@@ -10,8 +10,6 @@ pub mod op;
 pub mod putting_terms;
 pub mod putting_types;
 pub mod shifting;
-#[cfg(test)]
-mod tests;
 pub mod theory;
 pub mod tree;
 pub mod values;

@@ -3,12 +3,14 @@ ghost use Rattle.std.specs.Prelude.{◌≡◌, IfOk};
 ghost use Rattle.omega_types.specs.Substitution.{under};
 ghost use Rattle.omega_types.specs.Ty.{Ty as TyTree};
 ghost use Rattle.omega_terms.specs.Fields.{term_row};
+ghost use Rattle.omega_terms.specs.Term.{Term as TermTree};
 ghost use Rattle.omega_terms.specs.TermSubst.{put_term, sub_term, sub_fields, put_at, up_term, under_type};
 
+use crate::op::Op;
 use crate::shifting::shift_term;
 use crate::tree::{Term, TermFields, TermNode};
 use omega_kinds::Mem;
-use omega_types::next_level;
+use omega_types::{Ty, next_level};
 use std::alloc::Global;
 
 /// The term with `arg` for the term variable `index`, and each greater index of a term variable lowered by one.
@@ -28,23 +30,13 @@ pub fn put_term(alloc: Global, body: &Term, index: u64, arg: &Term) -> Result<Te
         TermNode::Var(at) if *at == index => arg.share(),
         TermNode::Var(at) => Term::make(alloc, TermNode::Var(*at - 1)),
         TermNode::Int(_) | TermNode::Bool(_) | TermNode::Text(_) => body.share(),
-        TermNode::Lam(t, e) => {
-            let e = put_under_term(alloc, e, index, arg)?;
-            Term::make(alloc, TermNode::Lam(t.share()?, e))
-        }
-        TermNode::Call(f, a) => {
-            let f = put_term(alloc, f, index, arg)?;
-            let a = put_term(alloc, a, index, arg)?;
-            Term::make(alloc, TermNode::Call(f, a))
-        }
+        TermNode::Lam(t, e) => put_in_function(alloc, t, e, index, arg),
+        TermNode::Call(f, a) => put_in_call(alloc, f, a, index, arg),
         TermNode::TyLam(k, e) => {
             let e = put_under_type(alloc, e, index, arg)?;
             Term::make(alloc, TermNode::TyLam(k.share()?, e))
         }
-        TermNode::Inst(e, t) => {
-            let e = put_term(alloc, e, index, arg)?;
-            Term::make(alloc, TermNode::Inst(e, t.share()?))
-        }
+        TermNode::Inst(e, t) => put_in_inst(alloc, e, t, index, arg),
         TermNode::Fields(fields) => {
             let fields = put_in_fields(alloc, fields, index, arg)?;
             Term::make(alloc, TermNode::Fields(fields))
@@ -53,31 +45,126 @@ pub fn put_term(alloc: Global, body: &Term, index: u64, arg: &Term) -> Result<Te
             let e = put_term(alloc, e, index, arg)?;
             Term::make(alloc, TermNode::Get(e, l.share()?))
         }
-        TermNode::Pack(t, e, u) => {
-            let e = put_term(alloc, e, index, arg)?;
-            Term::make(alloc, TermNode::Pack(t.share()?, e, u.share()?))
-        }
-        TermNode::Unpack(p, e) => {
-            let p = put_term(alloc, p, index, arg)?;
-            let e = put_under_both(alloc, e, index, arg)?;
-            Term::make(alloc, TermNode::Unpack(p, e))
-        }
-        TermNode::If(a, b, c) => {
-            let a = put_term(alloc, a, index, arg)?;
-            let b = put_term(alloc, b, index, arg)?;
-            let c = put_term(alloc, c, index, arg)?;
-            Term::make(alloc, TermNode::If(a, b, c))
-        }
-        TermNode::Arith(op, a, b) => {
-            let a = put_term(alloc, a, index, arg)?;
-            let b = put_term(alloc, b, index, arg)?;
-            Term::make(alloc, TermNode::Arith(*op, a, b))
-        }
-        TermNode::Fix(t, u, e) => {
-            let e = put_under_two(alloc, e, index, arg)?;
-            Term::make(alloc, TermNode::Fix(t.share()?, u.share()?, e))
-        }
+        TermNode::Pack(t, e, u) => put_in_package(alloc, t, e, u, index, arg),
+        TermNode::Unpack(p, e) => put_in_opened(alloc, p, e, index, arg),
+        TermNode::If(a, b, c) => put_in_choice(alloc, a, b, c, index, arg),
+        TermNode::Arith(op, a, b) => put_in_arith(alloc, *op, a, b, index, arg),
+        TermNode::Fix(t, u, e) => put_in_fix(alloc, t, u, e, index, arg),
     }
+}
+
+// A function.
+#[cycle(put_term)]
+#[tactic(auto, using(crate::proofs::OneIndex::put_term_same))]
+#[inline(never)]
+fn put_in_function(alloc: Global, t: &Ty, e: &Term, index: u64, arg: &Term) -> Result<Term, Mem>
+    ensures { IfOk result (λ made. made ≡ put_term (TermTree.Lam t.now e.now) index arg.now) }
+{
+    let e = put_under_term(alloc, e, index, arg)?;
+    Term::make(alloc, TermNode::Lam(t.share()?, e))
+}
+
+// A call.
+#[cycle(put_term)]
+#[tactic(auto, using(crate::proofs::OneIndex::put_term_same))]
+#[inline(never)]
+fn put_in_call(alloc: Global, f: &Term, a: &Term, index: u64, arg: &Term) -> Result<Term, Mem>
+    ensures { IfOk result (λ made. made ≡ put_term (TermTree.Call f.now a.now) index arg.now) }
+{
+    let f = put_term(alloc, f, index, arg)?;
+    let a = put_term(alloc, a, index, arg)?;
+    Term::make(alloc, TermNode::Call(f, a))
+}
+
+// A term at a type.
+#[cycle(put_term)]
+#[tactic(auto, using(crate::proofs::OneIndex::put_term_same))]
+#[inline(never)]
+fn put_in_inst(alloc: Global, e: &Term, t: &Ty, index: u64, arg: &Term) -> Result<Term, Mem>
+    ensures { IfOk result (λ made. made ≡ put_term (TermTree.Inst e.now t.now) index arg.now) }
+{
+    let e = put_term(alloc, e, index, arg)?;
+    Term::make(alloc, TermNode::Inst(e, t.share()?))
+}
+
+// A package.
+#[cycle(put_term)]
+#[tactic(auto, using(crate::proofs::OneIndex::put_term_same))]
+#[inline(never)]
+fn put_in_package(
+    alloc: Global,
+    t: &Ty,
+    e: &Term,
+    u: &Ty,
+    index: u64,
+    arg: &Term,
+) -> Result<Term, Mem>
+    ensures { IfOk result (λ made. made ≡ put_term (TermTree.Pack t.now e.now u.now) index arg.now) }
+{
+    let e = put_term(alloc, e, index, arg)?;
+    Term::make(alloc, TermNode::Pack(t.share()?, e, u.share()?))
+}
+
+// An opened package.
+#[cycle(put_term)]
+#[tactic(auto, using(crate::proofs::OneIndex::put_term_same))]
+#[inline(never)]
+fn put_in_opened(alloc: Global, p: &Term, e: &Term, index: u64, arg: &Term) -> Result<Term, Mem>
+    ensures { IfOk result (λ made. made ≡ put_term (TermTree.Unpack p.now e.now) index arg.now) }
+{
+    let p = put_term(alloc, p, index, arg)?;
+    let e = put_under_both(alloc, e, index, arg)?;
+    Term::make(alloc, TermNode::Unpack(p, e))
+}
+
+// A choice.
+#[cycle(put_term)]
+#[tactic(auto, using(crate::proofs::OneIndex::put_term_same))]
+#[inline(never)]
+fn put_in_choice(
+    alloc: Global,
+    a: &Term,
+    b: &Term,
+    c: &Term,
+    index: u64,
+    arg: &Term,
+) -> Result<Term, Mem>
+    ensures { IfOk result (λ made. made ≡ put_term (TermTree.If a.now b.now c.now) index arg.now) }
+{
+    let a = put_term(alloc, a, index, arg)?;
+    let b = put_term(alloc, b, index, arg)?;
+    let c = put_term(alloc, c, index, arg)?;
+    Term::make(alloc, TermNode::If(a, b, c))
+}
+
+// A computation.
+#[cycle(put_term)]
+#[tactic(auto, using(crate::proofs::OneIndex::put_term_same))]
+#[inline(never)]
+fn put_in_arith(
+    alloc: Global,
+    op: Op,
+    a: &Term,
+    b: &Term,
+    index: u64,
+    arg: &Term,
+) -> Result<Term, Mem>
+    ensures { IfOk result (λ made. made ≡ put_term (TermTree.Arith op a.now b.now) index arg.now) }
+{
+    let a = put_term(alloc, a, index, arg)?;
+    let b = put_term(alloc, b, index, arg)?;
+    Term::make(alloc, TermNode::Arith(op, a, b))
+}
+
+// A function that calls itself.
+#[cycle(put_term)]
+#[tactic(auto, using(crate::proofs::OneIndex::put_term_same))]
+#[inline(never)]
+fn put_in_fix(alloc: Global, t: &Ty, u: &Ty, e: &Term, index: u64, arg: &Term) -> Result<Term, Mem>
+    ensures { IfOk result (λ made. made ≡ put_term (TermTree.Fix t.now u.now e.now) index arg.now) }
+{
+    let e = put_under_two(alloc, e, index, arg)?;
+    Term::make(alloc, TermNode::Fix(t.share()?, u.share()?, e))
 }
 
 // The body of a binder of a term variable with the argument put in.

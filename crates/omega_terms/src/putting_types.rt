@@ -6,6 +6,7 @@ ghost use Rattle.omega_terms.specs.Fields.{term_row};
 ghost use Rattle.omega_terms.specs.Term.{Term as TermTree};
 ghost use Rattle.omega_terms.specs.TermSubst.{put_type, sub_term, sub_fields, up_term, under_type};
 
+use crate::op::Op;
 use crate::tree::{Term, TermFields, TermNode};
 use omega_kinds::Mem;
 use omega_types::{Ty, next_level, shift, substitute};
@@ -26,25 +27,13 @@ pub fn put_type(alloc: Global, body: &Term, index: u64, arg: &Ty) -> Result<Term
     }
     match body.node() {
         TermNode::Var(_) | TermNode::Int(_) | TermNode::Bool(_) | TermNode::Text(_) => body.share(),
-        TermNode::Lam(t, e) => {
-            let t = substitute(alloc, t, index, arg)?;
-            let e = put_under_term(alloc, e, index, arg)?;
-            Term::make(alloc, TermNode::Lam(t, e))
-        }
-        TermNode::Call(f, a) => {
-            let f = put_type(alloc, f, index, arg)?;
-            let a = put_type(alloc, a, index, arg)?;
-            Term::make(alloc, TermNode::Call(f, a))
-        }
+        TermNode::Lam(t, e) => put_in_function(alloc, t, e, index, arg),
+        TermNode::Call(f, a) => put_in_call(alloc, f, a, index, arg),
         TermNode::TyLam(k, e) => {
             let e = put_under_type(alloc, e, index, arg)?;
             Term::make(alloc, TermNode::TyLam(k.share()?, e))
         }
-        TermNode::Inst(e, t) => {
-            let e = put_type(alloc, e, index, arg)?;
-            let t = substitute(alloc, t, index, arg)?;
-            Term::make(alloc, TermNode::Inst(e, t))
-        }
+        TermNode::Inst(e, t) => put_in_inst(alloc, e, t, index, arg),
         TermNode::Fields(fields) => {
             let fields = put_in_fields(alloc, fields, index, arg)?;
             Term::make(alloc, TermNode::Fields(fields))
@@ -53,35 +42,132 @@ pub fn put_type(alloc: Global, body: &Term, index: u64, arg: &Ty) -> Result<Term
             let e = put_type(alloc, e, index, arg)?;
             Term::make(alloc, TermNode::Get(e, l.share()?))
         }
-        TermNode::Pack(t, e, u) => {
-            let t = substitute(alloc, t, index, arg)?;
-            let e = put_type(alloc, e, index, arg)?;
-            let u = substitute(alloc, u, index, arg)?;
-            Term::make(alloc, TermNode::Pack(t, e, u))
-        }
-        TermNode::Unpack(p, e) => {
-            let p = put_type(alloc, p, index, arg)?;
-            let e = put_under_both(alloc, e, index, arg)?;
-            Term::make(alloc, TermNode::Unpack(p, e))
-        }
-        TermNode::If(a, b, c) => {
-            let a = put_type(alloc, a, index, arg)?;
-            let b = put_type(alloc, b, index, arg)?;
-            let c = put_type(alloc, c, index, arg)?;
-            Term::make(alloc, TermNode::If(a, b, c))
-        }
-        TermNode::Arith(op, a, b) => {
-            let a = put_type(alloc, a, index, arg)?;
-            let b = put_type(alloc, b, index, arg)?;
-            Term::make(alloc, TermNode::Arith(*op, a, b))
-        }
-        TermNode::Fix(t, u, e) => {
-            let t = substitute(alloc, t, index, arg)?;
-            let u = substitute(alloc, u, index, arg)?;
-            let e = put_under_two(alloc, e, index, arg)?;
-            Term::make(alloc, TermNode::Fix(t, u, e))
-        }
+        TermNode::Pack(t, e, u) => put_in_package(alloc, t, e, u, index, arg),
+        TermNode::Unpack(p, e) => put_in_opened(alloc, p, e, index, arg),
+        TermNode::If(a, b, c) => put_in_choice(alloc, a, b, c, index, arg),
+        TermNode::Arith(op, a, b) => put_in_arith(alloc, *op, a, b, index, arg),
+        TermNode::Fix(t, u, e) => put_in_fix(alloc, t, u, e, index, arg),
     }
+}
+
+// A function.
+#[cycle(put_type)]
+#[tactic(auto, using(crate::proofs::OneIndex::put_type_same))]
+#[inline(never)]
+fn put_in_function(alloc: Global, t: &Ty, e: &Term, index: u64, arg: &Ty) -> Result<Term, Mem>
+    ensures { IfOk result (λ made. made ≡ put_type (TermTree.Lam t.now e.now) index arg.now) }
+{
+    let t = substitute(alloc, t, index, arg)?;
+    let e = put_under_term(alloc, e, index, arg)?;
+    Term::make(alloc, TermNode::Lam(t, e))
+}
+
+// A call.
+#[cycle(put_type)]
+#[tactic(auto, using(crate::proofs::OneIndex::put_type_same))]
+#[inline(never)]
+fn put_in_call(alloc: Global, f: &Term, a: &Term, index: u64, arg: &Ty) -> Result<Term, Mem>
+    ensures { IfOk result (λ made. made ≡ put_type (TermTree.Call f.now a.now) index arg.now) }
+{
+    let f = put_type(alloc, f, index, arg)?;
+    let a = put_type(alloc, a, index, arg)?;
+    Term::make(alloc, TermNode::Call(f, a))
+}
+
+// A term at a type.
+#[cycle(put_type)]
+#[tactic(auto, using(crate::proofs::OneIndex::put_type_same))]
+#[inline(never)]
+fn put_in_inst(alloc: Global, e: &Term, t: &Ty, index: u64, arg: &Ty) -> Result<Term, Mem>
+    ensures { IfOk result (λ made. made ≡ put_type (TermTree.Inst e.now t.now) index arg.now) }
+{
+    let e = put_type(alloc, e, index, arg)?;
+    let t = substitute(alloc, t, index, arg)?;
+    Term::make(alloc, TermNode::Inst(e, t))
+}
+
+// A package.
+#[cycle(put_type)]
+#[tactic(auto, using(crate::proofs::OneIndex::put_type_same))]
+#[inline(never)]
+fn put_in_package(
+    alloc: Global,
+    t: &Ty,
+    e: &Term,
+    u: &Ty,
+    index: u64,
+    arg: &Ty,
+) -> Result<Term, Mem>
+    ensures { IfOk result (λ made. made ≡ put_type (TermTree.Pack t.now e.now u.now) index arg.now) }
+{
+    let t = substitute(alloc, t, index, arg)?;
+    let e = put_type(alloc, e, index, arg)?;
+    let u = substitute(alloc, u, index, arg)?;
+    Term::make(alloc, TermNode::Pack(t, e, u))
+}
+
+// An opened package.
+#[cycle(put_type)]
+#[tactic(auto, using(crate::proofs::OneIndex::put_type_same))]
+#[inline(never)]
+fn put_in_opened(alloc: Global, p: &Term, e: &Term, index: u64, arg: &Ty) -> Result<Term, Mem>
+    ensures { IfOk result (λ made. made ≡ put_type (TermTree.Unpack p.now e.now) index arg.now) }
+{
+    let p = put_type(alloc, p, index, arg)?;
+    let e = put_under_both(alloc, e, index, arg)?;
+    Term::make(alloc, TermNode::Unpack(p, e))
+}
+
+// A choice.
+#[cycle(put_type)]
+#[tactic(auto, using(crate::proofs::OneIndex::put_type_same))]
+#[inline(never)]
+fn put_in_choice(
+    alloc: Global,
+    a: &Term,
+    b: &Term,
+    c: &Term,
+    index: u64,
+    arg: &Ty,
+) -> Result<Term, Mem>
+    ensures { IfOk result (λ made. made ≡ put_type (TermTree.If a.now b.now c.now) index arg.now) }
+{
+    let a = put_type(alloc, a, index, arg)?;
+    let b = put_type(alloc, b, index, arg)?;
+    let c = put_type(alloc, c, index, arg)?;
+    Term::make(alloc, TermNode::If(a, b, c))
+}
+
+// A computation.
+#[cycle(put_type)]
+#[tactic(auto, using(crate::proofs::OneIndex::put_type_same))]
+#[inline(never)]
+fn put_in_arith(
+    alloc: Global,
+    op: Op,
+    a: &Term,
+    b: &Term,
+    index: u64,
+    arg: &Ty,
+) -> Result<Term, Mem>
+    ensures { IfOk result (λ made. made ≡ put_type (TermTree.Arith op a.now b.now) index arg.now) }
+{
+    let a = put_type(alloc, a, index, arg)?;
+    let b = put_type(alloc, b, index, arg)?;
+    Term::make(alloc, TermNode::Arith(op, a, b))
+}
+
+// A function that calls itself.
+#[cycle(put_type)]
+#[tactic(auto, using(crate::proofs::OneIndex::put_type_same))]
+#[inline(never)]
+fn put_in_fix(alloc: Global, t: &Ty, u: &Ty, e: &Term, index: u64, arg: &Ty) -> Result<Term, Mem>
+    ensures { IfOk result (λ made. made ≡ put_type (TermTree.Fix t.now u.now e.now) index arg.now) }
+{
+    let t = substitute(alloc, t, index, arg)?;
+    let u = substitute(alloc, u, index, arg)?;
+    let e = put_under_two(alloc, e, index, arg)?;
+    Term::make(alloc, TermNode::Fix(t, u, e))
 }
 
 // The body of a binder of a term variable with the argument put in.

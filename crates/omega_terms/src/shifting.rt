@@ -7,9 +7,10 @@ ghost use Rattle.omega_terms.specs.Fields.{term_row};
 ghost use Rattle.omega_terms.specs.Term.{Term as TermTree};
 ghost use Rattle.omega_terms.specs.TermSubst.{ren_term, ren_fields, shift_term};
 
+use crate::op::Op;
 use crate::tree::{Term, TermFields, TermNode};
 use omega_kinds::Mem;
-use omega_types::{next_level, shift};
+use omega_types::{Ty, next_level, shift};
 use std::alloc::Global;
 
 // By how much free indexes are raised, and from which ones on.
@@ -68,25 +69,13 @@ fn shift_in(alloc: Global, term: &Term, by: Raise) -> Result<Term, Mem>
     match term.node() {
         TermNode::Var(index) => shift_variable(alloc, *index, by),
         TermNode::Int(_) | TermNode::Bool(_) | TermNode::Text(_) => term.share(),
-        TermNode::Lam(t, e) => {
-            let t = shift(alloc, t, by.types, by.from_type)?;
-            let e = shift_under_term(alloc, e, by)?;
-            Term::make(alloc, TermNode::Lam(t, e))
-        }
-        TermNode::Call(f, a) => {
-            let f = shift_in(alloc, f, by)?;
-            let a = shift_in(alloc, a, by)?;
-            Term::make(alloc, TermNode::Call(f, a))
-        }
+        TermNode::Lam(t, e) => shift_function(alloc, t, e, by),
+        TermNode::Call(f, a) => shift_call(alloc, f, a, by),
         TermNode::TyLam(k, e) => {
             let e = shift_under_type(alloc, e, by)?;
             Term::make(alloc, TermNode::TyLam(k.share()?, e))
         }
-        TermNode::Inst(e, t) => {
-            let e = shift_in(alloc, e, by)?;
-            let t = shift(alloc, t, by.types, by.from_type)?;
-            Term::make(alloc, TermNode::Inst(e, t))
-        }
+        TermNode::Inst(e, t) => shift_inst(alloc, e, t, by),
         TermNode::Fields(fields) => {
             let fields = shift_in_fields(alloc, fields, by)?;
             Term::make(alloc, TermNode::Fields(fields))
@@ -95,35 +84,111 @@ fn shift_in(alloc: Global, term: &Term, by: Raise) -> Result<Term, Mem>
             let e = shift_in(alloc, e, by)?;
             Term::make(alloc, TermNode::Get(e, l.share()?))
         }
-        TermNode::Pack(t, e, u) => {
-            let t = shift(alloc, t, by.types, by.from_type)?;
-            let e = shift_in(alloc, e, by)?;
-            let u = shift(alloc, u, by.types, by.from_type)?;
-            Term::make(alloc, TermNode::Pack(t, e, u))
-        }
-        TermNode::Unpack(p, e) => {
-            let p = shift_in(alloc, p, by)?;
-            let e = shift_under_both(alloc, e, by)?;
-            Term::make(alloc, TermNode::Unpack(p, e))
-        }
-        TermNode::If(a, b, c) => {
-            let a = shift_in(alloc, a, by)?;
-            let b = shift_in(alloc, b, by)?;
-            let c = shift_in(alloc, c, by)?;
-            Term::make(alloc, TermNode::If(a, b, c))
-        }
-        TermNode::Arith(op, a, b) => {
-            let a = shift_in(alloc, a, by)?;
-            let b = shift_in(alloc, b, by)?;
-            Term::make(alloc, TermNode::Arith(*op, a, b))
-        }
-        TermNode::Fix(t, u, e) => {
-            let t = shift(alloc, t, by.types, by.from_type)?;
-            let u = shift(alloc, u, by.types, by.from_type)?;
-            let e = shift_under_two(alloc, e, by)?;
-            Term::make(alloc, TermNode::Fix(t, u, e))
-        }
+        TermNode::Pack(t, e, u) => shift_package(alloc, t, e, u, by),
+        TermNode::Unpack(p, e) => shift_opened(alloc, p, e, by),
+        TermNode::If(a, b, c) => shift_choice(alloc, a, b, c, by),
+        TermNode::Arith(op, a, b) => shift_arith(alloc, *op, a, b, by),
+        TermNode::Fix(t, u, e) => shift_fix(alloc, t, u, e, by),
     }
+}
+
+// A function.
+#[cycle(shift)]
+#[tactic(auto, using(crate::proofs::OneIndex::shift_same))]
+#[inline(never)]
+fn shift_function(alloc: Global, t: &Ty, e: &Term, by: Raise) -> Result<Term, Mem>
+    ensures { IfOk result (λ made. made ≡ ren_term (bump by.types by.from_type) (bump by.terms by.from_term) (TermTree.Lam t.now e.now)) }
+{
+    let t = shift(alloc, t, by.types, by.from_type)?;
+    let e = shift_under_term(alloc, e, by)?;
+    Term::make(alloc, TermNode::Lam(t, e))
+}
+
+// A call.
+#[cycle(shift)]
+#[tactic(auto, using(crate::proofs::OneIndex::shift_same))]
+#[inline(never)]
+fn shift_call(alloc: Global, f: &Term, a: &Term, by: Raise) -> Result<Term, Mem>
+    ensures { IfOk result (λ made. made ≡ ren_term (bump by.types by.from_type) (bump by.terms by.from_term) (TermTree.Call f.now a.now)) }
+{
+    let f = shift_in(alloc, f, by)?;
+    let a = shift_in(alloc, a, by)?;
+    Term::make(alloc, TermNode::Call(f, a))
+}
+
+// A term at a type.
+#[cycle(shift)]
+#[tactic(auto, using(crate::proofs::OneIndex::shift_same))]
+#[inline(never)]
+fn shift_inst(alloc: Global, e: &Term, t: &Ty, by: Raise) -> Result<Term, Mem>
+    ensures { IfOk result (λ made. made ≡ ren_term (bump by.types by.from_type) (bump by.terms by.from_term) (TermTree.Inst e.now t.now)) }
+{
+    let e = shift_in(alloc, e, by)?;
+    let t = shift(alloc, t, by.types, by.from_type)?;
+    Term::make(alloc, TermNode::Inst(e, t))
+}
+
+// A package.
+#[cycle(shift)]
+#[tactic(auto, using(crate::proofs::OneIndex::shift_same))]
+#[inline(never)]
+fn shift_package(alloc: Global, t: &Ty, e: &Term, u: &Ty, by: Raise) -> Result<Term, Mem>
+    ensures { IfOk result (λ made. made ≡ ren_term (bump by.types by.from_type) (bump by.terms by.from_term) (TermTree.Pack t.now e.now u.now)) }
+{
+    let t = shift(alloc, t, by.types, by.from_type)?;
+    let e = shift_in(alloc, e, by)?;
+    let u = shift(alloc, u, by.types, by.from_type)?;
+    Term::make(alloc, TermNode::Pack(t, e, u))
+}
+
+// An opened package.
+#[cycle(shift)]
+#[tactic(auto, using(crate::proofs::OneIndex::shift_same))]
+#[inline(never)]
+fn shift_opened(alloc: Global, p: &Term, e: &Term, by: Raise) -> Result<Term, Mem>
+    ensures { IfOk result (λ made. made ≡ ren_term (bump by.types by.from_type) (bump by.terms by.from_term) (TermTree.Unpack p.now e.now)) }
+{
+    let p = shift_in(alloc, p, by)?;
+    let e = shift_under_both(alloc, e, by)?;
+    Term::make(alloc, TermNode::Unpack(p, e))
+}
+
+// A choice.
+#[cycle(shift)]
+#[tactic(auto, using(crate::proofs::OneIndex::shift_same))]
+#[inline(never)]
+fn shift_choice(alloc: Global, a: &Term, b: &Term, c: &Term, by: Raise) -> Result<Term, Mem>
+    ensures { IfOk result (λ made. made ≡ ren_term (bump by.types by.from_type) (bump by.terms by.from_term) (TermTree.If a.now b.now c.now)) }
+{
+    let a = shift_in(alloc, a, by)?;
+    let b = shift_in(alloc, b, by)?;
+    let c = shift_in(alloc, c, by)?;
+    Term::make(alloc, TermNode::If(a, b, c))
+}
+
+// A computation.
+#[cycle(shift)]
+#[tactic(auto, using(crate::proofs::OneIndex::shift_same))]
+#[inline(never)]
+fn shift_arith(alloc: Global, op: Op, a: &Term, b: &Term, by: Raise) -> Result<Term, Mem>
+    ensures { IfOk result (λ made. made ≡ ren_term (bump by.types by.from_type) (bump by.terms by.from_term) (TermTree.Arith op a.now b.now)) }
+{
+    let a = shift_in(alloc, a, by)?;
+    let b = shift_in(alloc, b, by)?;
+    Term::make(alloc, TermNode::Arith(op, a, b))
+}
+
+// A function that calls itself.
+#[cycle(shift)]
+#[tactic(auto, using(crate::proofs::OneIndex::shift_same))]
+#[inline(never)]
+fn shift_fix(alloc: Global, t: &Ty, u: &Ty, e: &Term, by: Raise) -> Result<Term, Mem>
+    ensures { IfOk result (λ made. made ≡ ren_term (bump by.types by.from_type) (bump by.terms by.from_term) (TermTree.Fix t.now u.now e.now)) }
+{
+    let t = shift(alloc, t, by.types, by.from_type)?;
+    let u = shift(alloc, u, by.types, by.from_type)?;
+    let e = shift_under_two(alloc, e, by)?;
+    Term::make(alloc, TermNode::Fix(t, u, e))
 }
 
 // The body of a binder of a term variable, shifted where the binder stands.

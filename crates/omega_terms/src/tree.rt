@@ -6,7 +6,7 @@ ghost use Rattle.omega_terms.specs.Bound.{type_bound, term_bound, pairs_type_bou
 ghost use Rattle.omega_terms.specs.View.{term_of};
 
 use crate::op::Op;
-use omega_kinds::{Kind, Label, Mem, Name};
+use omega_kinds::{Kind, Label, Mem, Name, height_over};
 use omega_types::{Ty, next_level};
 use std::alloc::Global;
 use std::marker::Model;
@@ -24,7 +24,15 @@ pub struct Term {
     // the least numbers above all free type indexes and above all free term indexes
     type_bound: u64,
     term_bound: u64,
-    node: Rc<TermNode>,
+    made: Rc<Made>,
+}
+
+// A node, with how many forms stand inside one another in it, those of types counted too.
+#[cycle(term)]
+#[derive(Drop)]
+struct Made {
+    height: u32,
+    node: TermNode,
 }
 
 /// The outermost form of a term, with its parts in the order in which they are written.
@@ -55,6 +63,8 @@ pub enum TermNode {
 #[derive(Drop)]
 pub struct TermFields {
     pairs: Vec<(Label, Term)>,
+    // the height of the highest part
+    height: u32,
 }
 
 impl Model for Term {
@@ -73,13 +83,13 @@ impl Model for Term {
     ghost use Rattle.omega_terms.specs.Bound.{type_bound as type_bound_of, term_bound as term_bound_of};
     ghost use Rattle.omega_terms.specs.View.{term_of};
 
-    ghost view = { λ e. term_of e.node.value };
+    ghost view = { λ e. term_of e.made.value.node };
 
-    ghost invariant = { λ e. (e.type_bound ≡ type_bound_of (term_of e.node.value)) × (e.term_bound ≡ term_bound_of (term_of e.node.value)) };
+    ghost invariant = { λ e. (e.type_bound ≡ type_bound_of (term_of e.made.value.node)) × (e.term_bound ≡ term_bound_of (term_of e.made.value.node)) };
 
-    ghost use Rattle.omega_terms.specs.Falls.{depth_le-term_size};
+    ghost use Rattle.omega_terms.specs.Falls.{made_le-term_size};
 
-    ghost size_decreases = { λ e _. depth_le-term_size e.node.value };
+    ghost size_decreases = { λ e _. made_le-term_size e.made.value };
 }
 
 impl Model for TermFields {
@@ -106,16 +116,18 @@ impl Model for TermFields {
 }
 
 impl Term {
-    /// The term that a node makes. `Err` is want of memory, also for a variable whose index is the last number.
+    /// The term that a node makes. `Err` is want of memory, also for a variable whose index is the last number, and for
+    /// a term so high that the walks over it are not sure to fit on the stack.
     pub fn make(alloc: Global, node: TermNode) -> Result<Term, Mem>
         ensures { IfOk result (λ e. e ≡ term_of node) }
     {
         let type_bound = node.type_bound();
         let term_bound = node.term_bound()?;
+        let height = height_over(node.highest_part(), 1)?;
         Ok(Term {
             type_bound,
             term_bound,
-            node: Rc::new(alloc, node)?,
+            made: Rc::new(alloc, Made { height, node })?,
         })
     }
 
@@ -123,7 +135,12 @@ impl Term {
     pub fn node(&self) -> &TermNode
         ensures { term_of result.now ≡ self.now }
     {
-        &self.node
+        &self.made.node
+    }
+
+    // How many forms stand inside one another.
+    fn height(&self) -> u32 {
+        self.made.height
     }
 
     /// The same term, with its parts shared. `Err` is want of memory.
@@ -133,7 +150,7 @@ impl Term {
         Ok(Term {
             type_bound: self.type_bound,
             term_bound: self.term_bound,
-            node: self.node.clone()?,
+            made: self.made.clone()?,
         })
     }
 
@@ -194,6 +211,24 @@ impl TermNode {
             TermNode::Fix(_, _, e) => Ok(e.term_bound().saturating_sub(2)),
         }
     }
+
+    // The height of the highest part.
+    fn highest_part(&self) -> u32 {
+        match self {
+            TermNode::Var(_) | TermNode::Int(_) | TermNode::Bool(_) | TermNode::Text(_) => 0,
+            TermNode::Lam(t, e) | TermNode::Inst(e, t) => t.height().max(e.height()),
+            TermNode::Call(a, b) | TermNode::Arith(_, a, b) | TermNode::Unpack(a, b) => {
+                a.height().max(b.height())
+            }
+            TermNode::TyLam(k, e) => k.height().max(e.height()),
+            TermNode::Fields(fields) => fields.height,
+            TermNode::Get(e, _) => e.height(),
+            TermNode::Pack(t, e, u) | TermNode::Fix(t, u, e) => {
+                t.height().max(u.height()).max(e.height())
+            }
+            TermNode::If(a, b, c) => a.height().max(b.height()).max(c.height()),
+        }
+    }
 }
 
 impl TermFields {
@@ -203,6 +238,7 @@ impl TermFields {
     {
         TermFields {
             pairs: Vec::new(alloc),
+            height: 0,
         }
     }
 
@@ -213,7 +249,9 @@ impl TermFields {
         ensures ok { OnOk result (self.new ≡ self.old ++ item ∷ []) }
         ensures err { OnErr result (self.new ≡ self.old) }
     {
+        let height = self.height.max(item.1.height());
         self.pairs.push(item)?;
+        self.height = height;
         Ok(())
     }
 

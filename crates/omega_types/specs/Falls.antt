@@ -5,7 +5,8 @@ use denote.Param.Weighed.{most}
 use Rattle.omega_kinds.specs.declared.label.Label.{Label}
 use Rattle.omega_types.specs.declared.tree.TyNode.{TyNode}
 use Rattle.omega_types.specs.declared.tree.TyNode.TheVariants as node
-use Rattle.omega_types.specs.declared.tree.Ty.TheDeep.{deep-TyNode}
+use Rattle.omega_types.specs.declared.tree.Made.{Made}
+use Rattle.omega_types.specs.declared.tree.Ty.TheDeep.{deep-TyNode, deep-Made}
 use Rattle.omega_types.specs.Ty.{Ty}
 use Rattle.omega_types.specs.Size.{nodes, nodes_pairs}
 use Rattle.omega_types.specs.View.{ty_of}
@@ -25,6 +26,9 @@ depth_le-nodes (node.All k b) = omega arith
 depth_le-nodes (node.Ex k b) = omega arith
 depth_le-nodes (node.Lam k b) = omega arith
 depth_le-nodes (node.Apply f a) = omega arith
+
+pub made_le-nodes : (m : Made) → max (deep-Made m) 0 ≤ nodes (ty_of m.node)
+made_le-nodes m = omega (arith, depth_le-nodes m.node)
 
 pub deep_le-nodes_pairs : (xs : List (Label × Ty)) → max (most (λ x. max 0 (max (nodes x.1 + 1) 0)) xs) 0 ≤ nodes_pairs xs
 deep_le-nodes_pairs xs = omega (arith, most_le-nodes_pairs xs)

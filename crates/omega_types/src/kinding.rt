@@ -74,7 +74,7 @@ fn applied(operator: Option<Kind>, arg: Option<Kind>) -> Result<Option<Kind>, Me
     ensures { IfOk result (λ o. option_map kind_tree o ≡ applied_of (option_map kind_tree operator) (option_map kind_tree arg)) }
 {
     match (operator, arg) {
-        (Some(Kind::Arrow(from, to)), Some(arg)) => {
+        (Some(Kind::Arrow(from, to, _)), Some(arg)) => {
             if same_kind(&from, &arg) {
                 Ok(Some(to.share()?))
             } else {

@@ -6,7 +6,7 @@ ghost use Rattle.omega_types.specs.Fields.{Rises, MayFollow};
 ghost use Rattle.omega_types.specs.View.{ty_of};
 
 use crate::levels::next_level;
-use omega_kinds::{Kind, Label, Mem};
+use omega_kinds::{Kind, Label, Mem, height_over};
 use std::alloc::Global;
 use std::marker::Model;
 use std::rc::Rc;
@@ -20,7 +20,15 @@ use std::rc::Rc;
 pub struct Ty {
     // the least number above all free indexes
     bound: u64,
-    node: Rc<TyNode>,
+    made: Rc<Made>,
+}
+
+// A node, with how many forms stand inside one another in it, those of kinds counted too.
+#[cycle(ty)]
+#[derive(Drop)]
+struct Made {
+    height: u32,
+    node: TyNode,
 }
 
 /// The outermost form of a type, with its parts.
@@ -45,6 +53,8 @@ pub enum TyNode {
 #[derive(Drop)]
 pub struct TyFields {
     pairs: Vec<(Label, Ty)>,
+    // the height of the highest part
+    height: u32,
 }
 
 impl Model for Ty {
@@ -63,13 +73,13 @@ impl Model for Ty {
     ghost use Rattle.omega_types.specs.Bound.{bound_of};
     ghost use Rattle.omega_types.specs.View.{ty_of};
 
-    ghost view = { λ t. ty_of t.node.value };
+    ghost view = { λ t. ty_of t.made.value.node };
 
-    ghost invariant = { λ t. t.bound ≡ bound_of (ty_of t.node.value) };
+    ghost invariant = { λ t. t.bound ≡ bound_of (ty_of t.made.value.node) };
 
-    ghost use Rattle.omega_types.specs.Falls.{depth_le-nodes};
+    ghost use Rattle.omega_types.specs.Falls.{made_le-nodes};
 
-    ghost size_decreases = { λ t _. depth_le-nodes t.node.value };
+    ghost size_decreases = { λ t _. made_le-nodes t.made.value };
 }
 
 impl Model for TyFields {
@@ -96,14 +106,16 @@ impl Model for TyFields {
 }
 
 impl Ty {
-    /// The type that a node makes. `Err` is want of memory, also for a variable whose index is the last number.
+    /// The type that a node makes. `Err` is want of memory, also for a variable whose index is the last number, and for
+    /// a type so high that the walks over it are not sure to fit on the stack.
     pub fn make(alloc: Global, node: TyNode) -> Result<Ty, Mem>
         ensures { IfOk result (λ t. t ≡ ty_of node) }
     {
         let bound = node.bound()?;
+        let height = height_over(node.highest_part(), 1)?;
         Ok(Ty {
             bound,
-            node: Rc::new(alloc, node)?,
+            made: Rc::new(alloc, Made { height, node })?,
         })
     }
 
@@ -111,7 +123,7 @@ impl Ty {
     pub fn node(&self) -> &TyNode
         ensures { ty_of result.now ≡ self.now }
     {
-        &self.node
+        &self.made.node
     }
 
     /// The least number above all free indexes: 0 for a closed type. Takes one step.
@@ -121,13 +133,18 @@ impl Ty {
         self.bound
     }
 
+    /// How many forms stand inside one another. It decides nothing but where memory is refused. Takes one step.
+    pub fn height(&self) -> u32 {
+        self.made.height
+    }
+
     /// The same type, with its parts shared. `Err` is want of memory.
     pub fn share(&self) -> Result<Ty, Mem>
         ensures { IfOk result (λ t. t ≡ self.now) }
     {
         Ok(Ty {
             bound: self.bound,
-            node: self.node.clone()?,
+            made: self.made.clone()?,
         })
     }
 }
@@ -147,6 +164,16 @@ impl TyNode {
             }
         }
     }
+
+    // The height of the highest part.
+    fn highest_part(&self) -> u32 {
+        match self {
+            TyNode::Var(_) | TyNode::Int | TyNode::Bool | TyNode::Text => 0,
+            TyNode::Arrow(a, b) | TyNode::Apply(a, b) => a.height().max(b.height()),
+            TyNode::Fields(fields) => fields.height,
+            TyNode::All(k, b) | TyNode::Ex(k, b) | TyNode::Lam(k, b) => k.height().max(b.height()),
+        }
+    }
 }
 
 impl TyFields {
@@ -156,6 +183,7 @@ impl TyFields {
     {
         TyFields {
             pairs: Vec::new(alloc),
+            height: 0,
         }
     }
 
@@ -166,7 +194,9 @@ impl TyFields {
         ensures ok { OnOk result (self.new ≡ self.old ++ item ∷ []) }
         ensures err { OnErr result (self.new ≡ self.old) }
     {
+        let height = self.height.max(item.1.height());
         self.pairs.push(item)?;
+        self.height = height;
         Ok(())
     }
 

@@ -6,8 +6,6 @@
 
 mod example;
 mod leaves;
-#[cfg(test)]
-mod tests;
 mod trees;
 
 pub use example::spelled_example;

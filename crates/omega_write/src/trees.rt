@@ -55,7 +55,7 @@ pub fn write_kind<K: Sink>(sink: &mut K, kind: &Kind) -> Result<(), WriteFault>
 {
     match kind {
         Kind::Star => put(sink, b"*"),
-        Kind::Arrow(from, to) => write_two(sink, b"(> ", Piece::Kind(from), Piece::Kind(to)),
+        Kind::Arrow(from, to, _) => write_two(sink, b"(> ", Piece::Kind(from), Piece::Kind(to)),
     }
 }
 

@@ -7,8 +7,6 @@
 mod path;
 mod pieces;
 pub mod refusal;
-#[cfg(test)]
-mod tests;
 mod writing;
 
 pub use refusal::{ElabWhy, Refusal};

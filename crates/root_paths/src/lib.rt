@@ -13,8 +13,6 @@ ghost use Rattle.root_paths.specs.Roots.{AreRoots};
 
 mod least;
 mod rooted;
-#[cfg(test)]
-mod tests;
 mod walk;
 
 use crate::walk::Walk;

@@ -5,8 +5,9 @@ use denote.Param.Weighed.{most}
 use Rattle.omega_kinds.specs.Name.{Name}
 use Rattle.semantic_sigs.specs.declared.tree.SigNode.{SigNode}
 use Rattle.semantic_sigs.specs.declared.tree.SigNode.TheVariants as node
+use Rattle.semantic_sigs.specs.declared.tree.Made.{Made}
 use Rattle.semantic_sigs.specs.declared.tree.AbsNode.{AbsNode}
-use Rattle.semantic_sigs.specs.declared.tree.Abs.TheDeep.{deep-SigNode, deep-AbsNode}
+use Rattle.semantic_sigs.specs.declared.tree.Abs.TheDeep.{deep-SigNode, deep-Made, deep-AbsNode}
 use Rattle.signatures.specs.Signatures.Sig.{Sig}
 use Rattle.semantic_sigs.specs.Size.{sig_nodes, abs_nodes, sig_pairs_nodes}
 use Rattle.semantic_sigs.specs.View.{sig_of, abs_of}
@@ -17,6 +18,9 @@ sig_falls (node.Typ t k) = omega arith
 sig_falls (node.Meta x) = omega arith
 sig_falls (node.Str fs) = omega arith
 sig_falls (node.Fun e ks s x) = omega arith
+
+pub made_falls : (m : Made) → max (deep-Made m) 0 ≤ sig_nodes (sig_of m.node)
+made_falls m = omega (arith, sig_falls m.node)
 
 pub abs_falls : (n : AbsNode) → max (deep-AbsNode n) 0 ≤ abs_nodes (abs_of n)
 abs_falls n = omega arith

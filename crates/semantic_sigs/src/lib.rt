@@ -14,8 +14,6 @@ pub mod mentioning;
 pub mod part_terms;
 pub mod parts;
 pub mod path;
-#[cfg(test)]
-mod tests;
 pub mod tree;
 pub mod witnesses;
 

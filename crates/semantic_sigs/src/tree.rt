@@ -6,11 +6,15 @@ ghost use Rattle.semantic_sigs.specs.Bound.{bound_sig, bound_abs, bound_sig_pair
 ghost use Rattle.semantic_sigs.specs.Fields.{Rises, MayFollow};
 ghost use Rattle.semantic_sigs.specs.View.{sig_of, kinds_of, body_of};
 
-use omega_kinds::{Effect, Kind, Kinds, Mem, Name};
+use omega_kinds::{Effect, Kind, Kinds, Mem, Name, height_over};
 use std::alloc::Global;
 use std::marker::Model;
 use std::rc::Rc;
 use type_normal::{NormalTy, plain};
+
+// What a form of a signature counts for in its height: a walk over signatures takes more stack for a form than one over
+// types.
+const LEVELS: u32 = 3;
 
 /// A semantic signature: a handle on a tree under binders, whose parts are shared.
 /// Contracts see it as the plain tree with de Bruijn indexes, 0 being the innermost.
@@ -21,7 +25,15 @@ use type_normal::{NormalTy, plain};
 pub struct Sig {
     // the least number above all free indexes
     bound: u64,
-    node: Rc<SigNode>,
+    made: Rc<Made>,
+}
+
+// A node with its height, in which each form counts `LEVELS`, and those of types and kinds one.
+#[cycle(sig)]
+#[derive(Drop)]
+struct Made {
+    height: u32,
+    node: SigNode,
 }
 
 /// The outermost form of a signature, with its parts: a value, a type with its kind, a signature, a structure, and a
@@ -47,6 +59,8 @@ pub enum SigNode {
 #[derive(Drop)]
 pub struct SigFields {
     pairs: Vec<(Name, Sig)>,
+    // the height of the highest part
+    height: u32,
 }
 
 /// An abstract signature: one that hides types of some kinds, the outermost variable first.
@@ -65,6 +79,7 @@ pub struct Abs {
 #[cycle(sig)]
 #[derive(Drop)]
 struct AbsNode {
+    height: u32,
     kinds: Kinds,
     body: Sig,
 }
@@ -85,13 +100,13 @@ impl Model for Sig {
     ghost use Rattle.semantic_sigs.specs.Bound.{bound_sig as bound_of_sig};
     ghost use Rattle.semantic_sigs.specs.View.{sig_of};
 
-    ghost view = { λ s. sig_of s.node.value };
+    ghost view = { λ s. sig_of s.made.value.node };
 
-    ghost invariant = { λ s. s.bound ≡ bound_of_sig (sig_of s.node.value) };
+    ghost invariant = { λ s. s.bound ≡ bound_of_sig (sig_of s.made.value.node) };
 
-    ghost use Rattle.semantic_sigs.specs.Falls.{sig_falls};
+    ghost use Rattle.semantic_sigs.specs.Falls.{made_falls};
 
-    ghost size_decreases = { λ s _. sig_falls s.node.value };
+    ghost size_decreases = { λ s _. made_falls s.made.value };
 }
 
 impl Model for SigFields {
@@ -143,14 +158,16 @@ impl Model for Abs {
 }
 
 impl Sig {
-    /// The signature that a node makes. `Err` is want of memory.
+    /// The signature that a node makes. `Err` is want of memory, also for a signature so high that the walks over it are
+    /// not sure to fit on the stack.
     pub fn make(alloc: Global, node: SigNode) -> Result<Sig, Mem>
         ensures { IfOk result (λ s. s ≡ sig_of node) }
     {
         let bound = node.bound();
+        let height = height_over(node.highest_part(), LEVELS)?;
         Ok(Sig {
             bound,
-            node: Rc::new(alloc, node)?,
+            made: Rc::new(alloc, Made { height, node })?,
         })
     }
 
@@ -158,7 +175,7 @@ impl Sig {
     pub fn node(&self) -> &SigNode
         ensures { sig_of result.now ≡ self.now }
     {
-        &self.node
+        &self.made.node
     }
 
     /// The least number above all free indexes: 0 for a closed signature. Takes one step.
@@ -168,13 +185,18 @@ impl Sig {
         self.bound
     }
 
+    // The height.
+    fn height(&self) -> u32 {
+        self.made.height
+    }
+
     /// The same signature, with its parts shared. `Err` is want of memory.
     pub fn share(&self) -> Result<Sig, Mem>
         ensures { IfOk result (λ s. s ≡ self.now) }
     {
         Ok(Sig {
             bound: self.bound,
-            node: self.node.clone()?,
+            made: self.made.clone()?,
         })
     }
 }
@@ -199,6 +221,17 @@ impl SigNode {
             }
         }
     }
+
+    // The height of the highest part.
+    fn highest_part(&self) -> u32 {
+        match self {
+            SigNode::Val(ty) => plain(ty).height(),
+            SigNode::Typ(ty, kind) => plain(ty).height().max(kind.height()),
+            SigNode::Meta(sig) => sig.node.height,
+            SigNode::Str(fields) => fields.height,
+            SigNode::Fun { param, result, .. } => param.height().max(result.node.height),
+        }
+    }
 }
 
 impl SigFields {
@@ -208,6 +241,7 @@ impl SigFields {
     {
         SigFields {
             pairs: Vec::new(alloc),
+            height: 0,
         }
     }
 
@@ -218,7 +252,9 @@ impl SigFields {
         ensures ok { OnOk result (self.new ≡ self.old ++ item ∷ []) }
         ensures err { OnErr result (self.new ≡ self.old) }
     {
+        let height = self.height.max(item.1.height());
         self.pairs.push(item)?;
+        self.height = height;
         Ok(())
     }
 
@@ -250,14 +286,21 @@ impl SigFields {
 }
 
 impl Abs {
-    /// The signature that hides types of these kinds, the first being the outermost, in a body. `Err` is want of memory.
+    /// The signature that hides types of these kinds, the first being the outermost, in a body. `Err` is want of memory,
+    /// also for a signature so high that the walks over it are not sure to fit on the stack.
     pub fn make(alloc: Global, kinds: Kinds, body: Sig) -> Result<Abs, Mem>
         ensures { IfOk result (λ x. x ≡ Ex kinds body) }
     {
         let bound = body.bound().saturating_sub(kinds.items().len() as u64);
+        let height = height_over(body.height(), LEVELS)?;
+        let node = AbsNode {
+            height,
+            kinds,
+            body,
+        };
         Ok(Abs {
             bound,
-            node: Rc::new(alloc, AbsNode { kinds, body })?,
+            node: Rc::new(alloc, node)?,
         })
     }
 

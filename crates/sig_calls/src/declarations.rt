@@ -41,7 +41,7 @@ fn expect_star(kind: &Kind) -> Result<(), SigRefusal>
 {
     match kind {
         Kind::Star => Ok(()),
-        Kind::Arrow(_, _) => Err(SigRefusal::KindDiffer(kind.share()?, Kind::Star)),
+        Kind::Arrow(_, _, _) => Err(SigRefusal::KindDiffer(kind.share()?, Kind::Star)),
     }
 }
 

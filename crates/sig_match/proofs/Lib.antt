@@ -8,4 +8,3 @@ pub mod PutSteps
 pub mod CallSteps
 pub mod FindSteps
 pub mod MadeSteps
-pub mod ExampleSides

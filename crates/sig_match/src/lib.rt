@@ -12,8 +12,6 @@ mod matching;
 mod putting;
 pub mod refusal;
 mod refusing;
-#[cfg(test)]
-mod tests;
 
 pub use calls::{match_sig, sub_abs};
 pub use refusal::{MatchRefusal, Matched};

@@ -68,7 +68,7 @@ fn any_type(alloc: Global, kind: &Kind) -> Result<Ty, Mem>
 {
     match kind {
         Kind::Star => Ty::make(alloc, TyNode::Int),
-        Kind::Arrow(from, to) => {
+        Kind::Arrow(from, to, _) => {
             let body = any_type(alloc, to)?;
             Ty::make(alloc, TyNode::Lam(from.share()?, body))
         }

@@ -5,8 +5,6 @@
 #![tactic(auto)]
 
 mod refusals;
-#[cfg(test)]
-mod tests;
 mod walks;
 
 pub use refusals::refusal_in_scope;

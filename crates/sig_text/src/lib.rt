@@ -5,8 +5,6 @@
 #![tactic(auto)]
 
 mod kinds;
-#[cfg(test)]
-mod tests;
 mod trees;
 
 pub use trees::{write_abs, write_elab};

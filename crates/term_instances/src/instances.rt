@@ -4,13 +4,14 @@ ghost use Rattle.omega_kinds.specs.Kind.{Kind as KindTree};
 ghost use Rattle.omega_types.specs.Binders.{extend, puts, NormalForms};
 ghost use Rattle.omega_types.specs.Ty.{Var};
 ghost use Rattle.omega_terms.specs.Fields.{term_row};
+ghost use Rattle.omega_terms.specs.Term.{Term as TermTree};
 ghost use Rattle.omega_terms.specs.Instance.{Instance};
 ghost use Rattle.sig_laws.specs.Good.{NormalTerm};
 ghost use Rattle.semantic_sigs.specs.Changes.{ty_in, sunk, under_head, putting};
 ghost use Rattle.term_instances.specs.TermChanges.{term_in, fields_in};
 
 use omega_kinds::Mem;
-use omega_terms::{Term, TermFields, TermNode};
+use omega_terms::{Op, Term, TermFields, TermNode};
 use omega_types::{Ty, next_level};
 use semantic_sigs::put_types;
 use std::alloc::Global;
@@ -51,25 +52,13 @@ fn put_in(alloc: Global, term: &Term, types: &[NormalTy], depth: u64) -> Result<
     }
     match term.node() {
         TermNode::Var(_) | TermNode::Int(_) | TermNode::Bool(_) | TermNode::Text(_) => term.share(),
-        TermNode::Lam(t, e) => {
-            let t = put_in_type(alloc, t, types, depth)?;
-            let e = put_in(alloc, e, types, depth)?;
-            Term::make(alloc, TermNode::Lam(t, e))
-        }
-        TermNode::Call(f, a) => {
-            let f = put_in(alloc, f, types, depth)?;
-            let a = put_in(alloc, a, types, depth)?;
-            Term::make(alloc, TermNode::Call(f, a))
-        }
+        TermNode::Lam(t, e) => put_in_function(alloc, t, e, types, depth),
+        TermNode::Call(f, a) => put_in_call(alloc, f, a, types, depth),
         TermNode::TyLam(k, e) => {
             let e = put_under(alloc, e, types, depth)?;
             Term::make(alloc, TermNode::TyLam(k.share()?, e))
         }
-        TermNode::Inst(e, t) => {
-            let e = put_in(alloc, e, types, depth)?;
-            let t = put_in_type(alloc, t, types, depth)?;
-            Term::make(alloc, TermNode::Inst(e, t))
-        }
+        TermNode::Inst(e, t) => put_in_inst(alloc, e, t, types, depth),
         TermNode::Fields(fields) => {
             let fields = put_in_fields(alloc, fields, types, depth)?;
             Term::make(alloc, TermNode::Fields(fields))
@@ -78,35 +67,157 @@ fn put_in(alloc: Global, term: &Term, types: &[NormalTy], depth: u64) -> Result<
             let e = put_in(alloc, e, types, depth)?;
             Term::make(alloc, TermNode::Get(e, l.share()?))
         }
-        TermNode::Pack(t, e, u) => {
-            let t = put_in_type(alloc, t, types, depth)?;
-            let e = put_in(alloc, e, types, depth)?;
-            let u = put_in_type(alloc, u, types, depth)?;
-            Term::make(alloc, TermNode::Pack(t, e, u))
-        }
-        TermNode::Unpack(p, e) => {
-            let p = put_in(alloc, p, types, depth)?;
-            let e = put_under(alloc, e, types, depth)?;
-            Term::make(alloc, TermNode::Unpack(p, e))
-        }
-        TermNode::If(a, b, c) => {
-            let a = put_in(alloc, a, types, depth)?;
-            let b = put_in(alloc, b, types, depth)?;
-            let c = put_in(alloc, c, types, depth)?;
-            Term::make(alloc, TermNode::If(a, b, c))
-        }
-        TermNode::Arith(op, a, b) => {
-            let a = put_in(alloc, a, types, depth)?;
-            let b = put_in(alloc, b, types, depth)?;
-            Term::make(alloc, TermNode::Arith(*op, a, b))
-        }
-        TermNode::Fix(t, u, e) => {
-            let t = put_in_type(alloc, t, types, depth)?;
-            let u = put_in_type(alloc, u, types, depth)?;
-            let e = put_in(alloc, e, types, depth)?;
-            Term::make(alloc, TermNode::Fix(t, u, e))
-        }
+        TermNode::Pack(t, e, u) => put_in_package(alloc, t, e, u, types, depth),
+        TermNode::Unpack(p, e) => put_in_opened(alloc, p, e, types, depth),
+        TermNode::If(a, b, c) => put_in_choice(alloc, a, b, c, types, depth),
+        TermNode::Arith(op, a, b) => put_in_arith(alloc, *op, a, b, types, depth),
+        TermNode::Fix(t, u, e) => put_in_fix(alloc, t, u, e, types, depth),
     }
+}
+
+// A function.
+#[cycle(put_in)]
+#[tactic(auto, using(crate::proofs::InstanceSteps::closed))]
+#[inline(never)]
+fn put_in_function(
+    alloc: Global,
+    t: &Ty,
+    e: &Term,
+    types: &[NormalTy],
+    depth: u64,
+) -> Result<Term, Mem>
+    ensures { IfOk result (λ made. made ≡ term_in (sunk depth (putting types.now)) (TermTree.Lam t.now e.now)) }
+{
+    let t = put_in_type(alloc, t, types, depth)?;
+    let e = put_in(alloc, e, types, depth)?;
+    Term::make(alloc, TermNode::Lam(t, e))
+}
+
+// A call.
+#[cycle(put_in)]
+#[tactic(auto, using(crate::proofs::InstanceSteps::closed))]
+#[inline(never)]
+fn put_in_call(
+    alloc: Global,
+    f: &Term,
+    a: &Term,
+    types: &[NormalTy],
+    depth: u64,
+) -> Result<Term, Mem>
+    ensures { IfOk result (λ made. made ≡ term_in (sunk depth (putting types.now)) (TermTree.Call f.now a.now)) }
+{
+    let f = put_in(alloc, f, types, depth)?;
+    let a = put_in(alloc, a, types, depth)?;
+    Term::make(alloc, TermNode::Call(f, a))
+}
+
+// A term at a type.
+#[cycle(put_in)]
+#[tactic(auto, using(crate::proofs::InstanceSteps::closed))]
+#[inline(never)]
+fn put_in_inst(alloc: Global, e: &Term, t: &Ty, types: &[NormalTy], depth: u64) -> Result<Term, Mem>
+    ensures { IfOk result (λ made. made ≡ term_in (sunk depth (putting types.now)) (TermTree.Inst e.now t.now)) }
+{
+    let e = put_in(alloc, e, types, depth)?;
+    let t = put_in_type(alloc, t, types, depth)?;
+    Term::make(alloc, TermNode::Inst(e, t))
+}
+
+// A package.
+#[cycle(put_in)]
+#[tactic(auto, using(crate::proofs::InstanceSteps::closed))]
+#[inline(never)]
+fn put_in_package(
+    alloc: Global,
+    t: &Ty,
+    e: &Term,
+    u: &Ty,
+    types: &[NormalTy],
+    depth: u64,
+) -> Result<Term, Mem>
+    ensures { IfOk result (λ made. made ≡ term_in (sunk depth (putting types.now)) (TermTree.Pack t.now e.now u.now)) }
+{
+    let t = put_in_type(alloc, t, types, depth)?;
+    let e = put_in(alloc, e, types, depth)?;
+    let u = put_in_type(alloc, u, types, depth)?;
+    Term::make(alloc, TermNode::Pack(t, e, u))
+}
+
+// An opened package.
+#[cycle(put_in)]
+#[tactic(auto, using(crate::proofs::InstanceSteps::closed))]
+#[inline(never)]
+fn put_in_opened(
+    alloc: Global,
+    p: &Term,
+    e: &Term,
+    types: &[NormalTy],
+    depth: u64,
+) -> Result<Term, Mem>
+    ensures { IfOk result (λ made. made ≡ term_in (sunk depth (putting types.now)) (TermTree.Unpack p.now e.now)) }
+{
+    let p = put_in(alloc, p, types, depth)?;
+    let e = put_under(alloc, e, types, depth)?;
+    Term::make(alloc, TermNode::Unpack(p, e))
+}
+
+// A choice.
+#[cycle(put_in)]
+#[tactic(auto, using(crate::proofs::InstanceSteps::closed))]
+#[inline(never)]
+fn put_in_choice(
+    alloc: Global,
+    a: &Term,
+    b: &Term,
+    c: &Term,
+    types: &[NormalTy],
+    depth: u64,
+) -> Result<Term, Mem>
+    ensures { IfOk result (λ made. made ≡ term_in (sunk depth (putting types.now)) (TermTree.If a.now b.now c.now)) }
+{
+    let a = put_in(alloc, a, types, depth)?;
+    let b = put_in(alloc, b, types, depth)?;
+    let c = put_in(alloc, c, types, depth)?;
+    Term::make(alloc, TermNode::If(a, b, c))
+}
+
+// A computation.
+#[cycle(put_in)]
+#[tactic(auto, using(crate::proofs::InstanceSteps::closed))]
+#[inline(never)]
+fn put_in_arith(
+    alloc: Global,
+    op: Op,
+    a: &Term,
+    b: &Term,
+    types: &[NormalTy],
+    depth: u64,
+) -> Result<Term, Mem>
+    ensures { IfOk result (λ made. made ≡ term_in (sunk depth (putting types.now)) (TermTree.Arith op a.now b.now)) }
+{
+    let a = put_in(alloc, a, types, depth)?;
+    let b = put_in(alloc, b, types, depth)?;
+    Term::make(alloc, TermNode::Arith(op, a, b))
+}
+
+// A function that calls itself.
+#[cycle(put_in)]
+#[tactic(auto, using(crate::proofs::InstanceSteps::closed))]
+#[inline(never)]
+fn put_in_fix(
+    alloc: Global,
+    t: &Ty,
+    u: &Ty,
+    e: &Term,
+    types: &[NormalTy],
+    depth: u64,
+) -> Result<Term, Mem>
+    ensures { IfOk result (λ made. made ≡ term_in (sunk depth (putting types.now)) (TermTree.Fix t.now u.now e.now)) }
+{
+    let t = put_in_type(alloc, t, types, depth)?;
+    let u = put_in_type(alloc, u, types, depth)?;
+    let e = put_in(alloc, e, types, depth)?;
+    Term::make(alloc, TermNode::Fix(t, u, e))
 }
 
 // The body of a binder of a type.

@@ -4,7 +4,5 @@
 #![tactic(auto)]
 
 pub mod instances;
-#[cfg(test)]
-mod tests;
 
 pub use instances::instance;

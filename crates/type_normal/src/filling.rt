@@ -181,7 +181,7 @@ fn apply(alloc: Global, operator: Filled, arg: Ty) -> Result<Filled, Mem>
     match operator {
         Filled::Stands(ty) => Ok(Filled::Stands(Ty::make(alloc, TyNode::Apply(ty, arg))?)),
         Filled::Came(ty, kind) => match (ty.node(), &kind) {
-            (TyNode::Lam(_, body), Kind::Arrow(from, to)) => {
+            (TyNode::Lam(_, body), Kind::Arrow(from, to, _)) => {
                 let applied = fill(alloc, body, 0, 0, &arg, from)?;
                 Ok(Filled::Came(applied, to.share()?))
             }

@@ -10,8 +10,6 @@ pub mod lowering;
 pub mod mentioning;
 pub mod normal_ty;
 pub mod normalising;
-#[cfg(test)]
-mod tests;
 
 pub use comparing::same;
 pub use filling::hsubst;

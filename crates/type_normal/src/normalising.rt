@@ -44,7 +44,7 @@ fn eta(alloc: Global, kind: &Kind, ty: Ty) -> Result<Ty, Mem>
 {
     match kind {
         Kind::Star => Ok(ty),
-        Kind::Arrow(from, to) => {
+        Kind::Arrow(from, to, _) => {
             let operator = shift(alloc, &ty, 1, 0)?;
             let arg = eta(alloc, from, Ty::make(alloc, TyNode::Var(0))?)?;
             let body = eta(alloc, to, Ty::make(alloc, TyNode::Apply(operator, arg))?)?;

@@ -10,6 +10,18 @@ use Rattle.omega_checker.proofs.synthesis.+synth.Given as goal
 abbrev pub decreases-synth : goal.decreases-synth
 decreases-synth l = 2 * term_size l.term.now
 
+abbrev pub decreases-synth_call : goal.decreases-synth_call
+decreases-synth_call l = 2 * (term_size l.function.now + term_size l.arg.now) + 1
+
+abbrev pub decreases-synth_package : goal.decreases-synth_package
+decreases-synth_package l = 2 * term_size l.body.now + 1
+
+abbrev pub decreases-synth_choice : goal.decreases-synth_choice
+decreases-synth_choice l = 2 * (term_size l.test.now + term_size l.yes.now + term_size l.no.now) + 1
+
+abbrev pub decreases-synth_arith : goal.decreases-synth_arith
+decreases-synth_arith l = 2 * (term_size l.left.now + term_size l.right.now) + 1
+
 abbrev pub decreases-synth_function : goal.decreases-synth_function
 decreases-synth_function l = 2 * term_size l.body.now + 1
 

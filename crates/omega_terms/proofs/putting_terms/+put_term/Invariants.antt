@@ -1,8 +1,50 @@
-use Rattle.std.proofs.Common.{◌≡◌, ◌≤◌, take, drop}
-use Rattle.omega_terms.specs.Size.{pairs_size}
+use Rattle.std.proofs.Common.{◌≡◌, ◌≤◌, ◌+◌, ◌*◌, take, drop}
+use Rattle.omega_terms.specs.Size.{term_size, pairs_size}
 use Rattle.omega_terms.specs.TermSubst.{put_term}
 use Rattle.omega_terms.proofs.OneIndex.{map_terms}
 use Rattle.omega_terms.proofs.putting_terms.+put_term.Given as goal
+
+abbrev pub decreases-put_term : goal.decreases-put_term
+decreases-put_term l = 4 * term_size l.body.now
+
+abbrev pub decreases-put_in_function : goal.decreases-put_in_function
+decreases-put_in_function l = 4 * term_size l.e.now + 3
+
+abbrev pub decreases-put_in_call : goal.decreases-put_in_call
+decreases-put_in_call l = 4 * (term_size l.f.now + term_size l.a.now) + 3
+
+abbrev pub decreases-put_in_inst : goal.decreases-put_in_inst
+decreases-put_in_inst l = 4 * term_size l.e.now + 3
+
+abbrev pub decreases-put_in_package : goal.decreases-put_in_package
+decreases-put_in_package l = 4 * term_size l.e.now + 3
+
+abbrev pub decreases-put_in_opened : goal.decreases-put_in_opened
+decreases-put_in_opened l = 4 * (term_size l.p.now + term_size l.e.now) + 3
+
+abbrev pub decreases-put_in_choice : goal.decreases-put_in_choice
+decreases-put_in_choice l = 4 * (term_size l.a.now + term_size l.b.now + term_size l.c.now) + 3
+
+abbrev pub decreases-put_in_arith : goal.decreases-put_in_arith
+decreases-put_in_arith l = 4 * (term_size l.a.now + term_size l.b.now) + 3
+
+abbrev pub decreases-put_in_fix : goal.decreases-put_in_fix
+decreases-put_in_fix l = 4 * term_size l.e.now + 3
+
+abbrev pub decreases-put_under_term : goal.decreases-put_under_term
+decreases-put_under_term l = 4 * term_size l.body.now + 1
+
+abbrev pub decreases-put_under_type : goal.decreases-put_under_type
+decreases-put_under_type l = 4 * term_size l.body.now + 1
+
+abbrev pub decreases-put_under_both : goal.decreases-put_under_both
+decreases-put_under_both l = 4 * term_size l.body.now + 2
+
+abbrev pub decreases-put_under_two : goal.decreases-put_under_two
+decreases-put_under_two l = 4 * term_size l.body.now + 2
+
+abbrev pub decreases-put_in_fields : goal.decreases-put_in_fields
+decreases-put_in_fields l = 4 * pairs_size l.fields.now + 3
 
 abbrev pub invariant-put_in_fields-loop-field : goal.invariant-put_in_fields-loop-field
 invariant-put_in_fields-loop-field l =

@@ -7,18 +7,6 @@ use Rattle.omega_terms.proofs.OneIndex.{row-put_type, row-more, left-smaller, ro
 use Rattle.omega_terms.proofs.Unchanged.{ap₃}
 use Rattle.omega_terms.proofs.putting_types.+put_type.Goals as goal
 
-pub put_type-returns-in_ok-e-in-Unpack : goal.put_type-returns-in_ok-e-in-Unpack
-put_type-returns-in_ok-e-in-Unpack t c =
-    let whole = sym c.node.ensures ∙ ap term_of c.in-Unpack.is
-    in let parts = ap₂ Term.Unpack c.in_ok-p-in-Unpack.ensures c.in_ok-e-in-Unpack.ensures
-    in subst (λ (u : Term). IfOk c.make-in-Unpack.result (λ e. e ≡ u)) (parts ∙ sym (ap (λ e. put_type e c.args.index c.args.arg.now) whole)) c.make-in-Unpack.ensures
-
-pub put_type-returns-in_ok-e-in-Fix : goal.put_type-returns-in_ok-e-in-Fix
-put_type-returns-in_ok-e-in-Fix t c =
-    let whole = sym c.node.ensures ∙ ap term_of c.in-Fix.is
-    in let parts = ap₃ Term.Fix c.in_ok-t-in-Fix.ensures c.in_ok-u-in-Fix.ensures c.in_ok-e-in-Fix.ensures
-    in subst (λ (u : Term). IfOk c.make-in-Fix.result (λ e. e ≡ u)) (parts ∙ sym (ap (λ e. put_type e c.args.index c.args.arg.now) whole)) c.make-in-Fix.ensures
-
 pub put_in_fields-loop-field-preserved : goal.put_in_fields-loop-field-preserved
 put_in_fields-loop-field-preserved t c =
     (row-more _ _ _ _ _ _ _ _ c.loop-field.invariant.0 c.loop-field-test.true c.field-item.is c.in_ok-share.ensures c.in_ok-part.ensures c.in_ok-push.ensures.ok, left-smaller _ _)

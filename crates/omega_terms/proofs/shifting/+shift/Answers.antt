@@ -6,18 +6,6 @@ use Rattle.omega_terms.proofs.OneIndex.{row-more, left-smaller, row-done, row-ra
 use Rattle.omega_terms.proofs.Unchanged.{ap₃}
 use Rattle.omega_terms.proofs.shifting.+shift.Goals as goal
 
-pub shift_in-returns-in_ok-e-in-Unpack : goal.shift_in-returns-in_ok-e-in-Unpack
-shift_in-returns-in_ok-e-in-Unpack t c =
-    let whole = sym c.node.ensures ∙ ap term_of c.in-Unpack.is
-    in let parts = ap₂ Term.Unpack c.in_ok-p-in-Unpack.ensures c.in_ok-e-in-Unpack.ensures
-    in subst (λ (u : Term). IfOk c.make-in-Unpack.result (λ e. e ≡ u)) (parts ∙ sym (ap (ren_term _ _) whole)) c.make-in-Unpack.ensures
-
-pub shift_in-returns-in_ok-e-in-Fix : goal.shift_in-returns-in_ok-e-in-Fix
-shift_in-returns-in_ok-e-in-Fix t c =
-    let whole = sym c.node.ensures ∙ ap term_of c.in-Fix.is
-    in let parts = ap₃ Term.Fix c.in_ok-t-in-Fix.ensures c.in_ok-u-in-Fix.ensures c.in_ok-e-in-Fix.ensures
-    in subst (λ (u : Term). IfOk c.make-in-Fix.result (λ e. e ≡ u)) (parts ∙ sym (ap (ren_term _ _) whole)) c.make-in-Fix.ensures
-
 pub shift_in_fields-loop-field-preserved : goal.shift_in_fields-loop-field-preserved
 shift_in_fields-loop-field-preserved t c =
     (row-more _ _ _ _ _ _ _ _ c.loop-field.invariant.0 c.loop-field-test.true c.field-item.is c.in_ok-share.ensures c.in_ok-part.ensures c.in_ok-push.ensures.ok, left-smaller _ _)

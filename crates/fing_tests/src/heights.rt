@@ -1,0 +1,99 @@
+// Sources of which a type, a signature or a value is higher than the stack is sure to hold. Each is refused for want of
+// memory, with nothing written, and a lower one of the same form is accepted.
+use crate::runs::{Answer, ran};
+use fing_top::Status;
+use std::alloc::Global;
+use std::test::Fail;
+
+// A first line, and then lines in which `#` is the number of the line and `@` the one before.
+#[derive(Clone, Copy)]
+struct Rows {
+    first: &'static str,
+    more: &'static str,
+    last: &'static str,
+}
+
+// Twice as high with each line.
+const OPERATORS: Rows = Rows {
+    first: "type t0 = fun (a : Type) => a -> Int",
+    more: "type t# = fun (a : Type) => t@ (t@ a)",
+    last: "val f = fun (x : t# Int) => x",
+};
+
+// Twice as many hidden types with each line.
+const HIDDEN: Rows = Rows {
+    first: "signature S0 = sig type t end",
+    more: "signature S# = sig module A : S@ module B : S@ end",
+    last: "module F = fun (X : S#) => X",
+};
+
+fn add_number(alloc: Global, text: &mut String, number: u32) -> Result<(), Fail> {
+    text.push_str(&number.to_string(alloc)?)?;
+    Ok(())
+}
+
+// A line of this number.
+fn add_line(alloc: Global, text: &mut String, line: &str, number: u32) -> Result<(), Fail> {
+    for c in line.chars() {
+        match c {
+            '#' => add_number(alloc, text, number)?,
+            '@' => add_number(alloc, text, number.saturating_sub(1))?,
+            _ => text.push(c)?,
+        }
+    }
+    text.push('\n')?;
+    Ok(())
+}
+
+fn source_of(alloc: Global, rows: Rows, lines: u32) -> Result<String, Fail> {
+    let mut text = String::new(alloc);
+    add_line(alloc, &mut text, rows.first, 0)?;
+    for number in 1..lines {
+        add_line(alloc, &mut text, rows.more, number)?;
+    }
+    add_line(alloc, &mut text, rows.last, lines.saturating_sub(1))?;
+    Ok(text)
+}
+
+fn answer(alloc: Global, command: &str, rows: Rows, lines: u32) -> Result<Answer, Fail> {
+    let source = source_of(alloc, rows, lines)?;
+    ran(alloc, &[command], source.as_bytes())
+}
+
+#[test]
+fn what_is_too_high_is_want_of_memory(rt: HostRuntime) -> Result<(), Fail> {
+    for command in ["check", "emit", "run"] {
+        for (rows, lines) in [(OPERATORS, 13), (OPERATORS, 31), (HIDDEN, 14), (HIDDEN, 21)] {
+            let found = answer(rt.alloc(), command, rows, lines)?;
+            assert_eq!(rt; found.status, Status::NoMemory, "{command} at {lines}");
+            assert!(rt; found.written.is_empty(), "{command} at {lines}");
+        }
+    }
+    Ok(())
+}
+
+#[test]
+fn what_is_lower_is_accepted(rt: HostRuntime) -> Result<(), Fail> {
+    for (rows, lines) in [(OPERATORS, 12), (HIDDEN, 11)] {
+        let found = answer(rt.alloc(), "check", rows, lines)?;
+        assert_eq!(rt; found.status, Status::Ok, "at {lines}");
+    }
+    Ok(())
+}
+
+const COMPOSED: &str =
+    "val c = fix c (n : Int) : (Int -> Int) => if n == 0 then fun (x : Int) => x else let val g = c (n - 1) in fun (x : Int) => g (x + 1) end";
+
+// Closures inside one another: each is a form or two higher than the one in it.
+#[test]
+fn a_value_that_is_too_high(rt: HostRuntime) -> Result<(), Fail> {
+    for (count, status) in [("1000", Status::Ok), ("5000", Status::NoMemory)] {
+        let mut source = COMPOSED.to_string(rt.alloc())?;
+        source.push_str(" val y = c ")?;
+        source.push_str(count)?;
+        source.push_str(" 1")?;
+        let found = ran(rt.alloc(), &["run"], source.as_bytes())?;
+        assert_eq!(rt; found.status, status, "at {count}");
+    }
+    Ok(())
+}

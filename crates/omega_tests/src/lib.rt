@@ -1,0 +1,19 @@
+// Tests of the crates of System Fω through their public calls, with ample memory: normal types, terms, texts, scopes,
+// the checker and the machine. Stands on these crates and on fing_text.
+// Proved: that no test reads out of bounds, overflows or breaks what a call asks for. What they assert is tested alone.
+#![tactic(auto)]
+
+#[cfg(test)]
+mod checking;
+#[cfg(test)]
+mod machine;
+#[cfg(test)]
+mod normal_types;
+#[cfg(test)]
+mod reading;
+#[cfg(test)]
+mod scopes;
+#[cfg(test)]
+mod terms;
+#[cfg(test)]
+mod writing;
