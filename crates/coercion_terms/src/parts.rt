@@ -48,7 +48,7 @@ pub fn fields_part(alloc: Global, from: &Ty, fields: TermFields) -> Result<Term,
 fn coerced(alloc: Global, fields: &TermFields) -> Result<TermFields, Mem>
     ensures { IfOk result (λ f. term_row f ≡ coerced_of (term_row fields.now)) }
 {
-    let mut coerced = TermFields::new(alloc);
+    let mut coerced = TermFields::with_capacity(alloc, fields.items().len())?;
     for field in fields.items() {
         let part = coerced_part(alloc, &field.0, &field.1)?;
         coerced.push((field.0.share()?, part))?;

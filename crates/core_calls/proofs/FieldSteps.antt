@@ -6,7 +6,7 @@ use Rattle.omega_kinds.specs.declared.label.Label.{Label}
 use Rattle.omega_types.specs.Ty.{Ty, Row}
 use Rattle.omega_types.specs.Fields.{Pairs, row}
 use Rattle.omega_terms.specs.Typing.{HasPart}
-use Rattle.core_calls.proofs.RecordSteps.{left-more}
+use Rattle.semantic_sigs.proofs.PartSteps.{left-more}
 
 -- what the rest has at the label, and only that, the whole record has
 abbrev pub SameAt : (whole rest : Pairs) → Label → Type 0

@@ -1,5 +1,5 @@
 -- The fields of a record one after the other.
-use Rattle.std.proofs.Common.{◌≡◌, ◌≢◌, ℕ, suc, ◌+◌, ◌<◌, ◌≤◌, List, [], ◌∷◌, ◌++◌, true, false, Option, Some, None, is_some, length, get_or, drop, refl, sym, ap, ap₂, ◌∙◌, subst, arith, append_assoc, drop-cons}
+use Rattle.std.proofs.Common.{◌≡◌, ◌≢◌, ℕ, ◌+◌, ◌≤◌, List, [], ◌∷◌, ◌++◌, true, false, Option, Some, None, is_some, length, drop, refl, sym, ap, ap₂, ◌∙◌, subst, append_assoc}
 use Rattle.std.proofs.lemmas.Bool.{false≢true}
 use Rattle.std.proofs.lemmas.List.{drop_all}
 use Rattle.std.specs.BTreeMap.{insert_entry}
@@ -37,12 +37,6 @@ some-is None e f = false≢true e
 some-is (Some x) e f = absurd (let g : Some x ≡ None → ⊥ = λ p. cc in g f)
 
 -- what is left of a list at one place
-
-next : (n : ℕ) → suc n ≡ n + 1
-next n = omega arith
-
-pub left-more : {A : Type 0} (xs : List A) (i : ℕ) (x : A) → i < length xs → x ≡ get_or xs i x → drop i xs ≡ x ∷ drop (i + 1) xs
-left-more xs i x h e = drop-cons xs i x h ∙ ap₂ (λ y m. y ∷ drop m xs) (sym e) (next i)
 
 pub left-none : {A : Type 0} (xs : List A) (i : ℕ) → length xs ≤ i → drop i xs ≡ []
 left-none xs i h = drop_all i xs h

@@ -18,7 +18,7 @@ use Rattle.omega_terms.specs.Typing.{HasPart, result_type}
 use Rattle.signatures.specs.Verdict.{Verdict, holds, refuses, Perhaps, one, none}
 use Rattle.signatures.specs.Signatures.RecordOrder.{insert_part, insert_term, IsNew}
 use Rattle.sig_laws.specs.Decide.{dec_ty}
-use Rattle.sig_laws.proofs.Formed.Forms.{new_dec, part-at}
+use Rattle.sig_laws.proofs.Formed.Forms.{new_dec, part-at, pair-same}
 use Rattle.core_rules.specs.CoreWhy.{CoreWhy, NotArrow, NotAll, NotRecord, NoField, Differ, KindDiffer, DuplicateField, IsNoArrow, IsNoAll, IsNoRecord}
 use Rattle.core_rules.specs.ExpRules.{Literal, LiteralGives, FunctionGives, FunctionRefuses, TypeFunctionGives, CallGives, CallRefuses, InstanceGives, InstanceRefuses, GetGives, GetRefuses, IfGives, IfRefuses, OperationGives, OperationRefuses, FixGives, FixRefuses, FieldExp, field, RecordGives, RecordRefuses}
 use Rattle.core_rules.specs.OneOutcome.{OneLiteral, OneFunction, OneTypeFunction, OneCall, OneInstance, OneGet, OneIf, OneOperation, OneFix, OneRecord}
@@ -36,9 +36,6 @@ pub one_literal : OneLiteral
 one_literal (Literal.Int z) = holds (Ty.Int, Term.Int z) LiteralGives.int literal-int (λ r q. q)
 one_literal (Literal.Bool b) = holds (Ty.Bool, Term.Bool b) LiteralGives.bool literal-bool (λ r q. q)
 one_literal (Literal.Text w) = holds (Ty.Text, Term.Text w) LiteralGives.text literal-text (λ r q. q)
-
-pair-same : {A B : Type 0} {a : A} {b : B} (p : A × B) → p.0 ≡ a → p.1 ≡ b → p ≡ (a, b)
-pair-same p x y = λ i. (x i, y i)
 
 arrow-or-not : (f : Ty) → ((p : Ty × Ty) × (f ≡ Ty.Arrow p.0 p.1)) ⊎ IsNoArrow f
 arrow-or-not (Ty.Var n) = inr tt

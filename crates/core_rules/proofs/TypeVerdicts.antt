@@ -11,7 +11,7 @@ use Rattle.omega_types.specs.Normalises.{NormalForm}
 use Rattle.omega_types.proofs.Hereditary.{each_has_one}
 use Rattle.signatures.specs.Verdict.{Verdict, holds, refuses}
 use Rattle.signatures.specs.Signatures.RecordOrder.{insert_part, IsNew}
-use Rattle.sig_laws.proofs.Formed.Forms.{new_dec}
+use Rattle.sig_laws.proofs.Formed.Forms.{new_dec, pair-same}
 use Rattle.core_rules.specs.CoreWhy.{CoreWhy, KindDiffer, NotOperator, DuplicateField}
 use Rattle.core_rules.specs.TypeRules.{Base, BaseGives, ArrowGives, ArrowRefuses, AllGives, AllRefuses, OperatorGives, AppliedGives, AppliedRefuses, FieldTy, field, RecordTypeGives, RecordTypeRefuses}
 use Rattle.core_rules.specs.OneOutcome.{OneBase, OneArrow, OneAll, OneOperator, OneApplied, OneRecordType}
@@ -104,9 +104,6 @@ no_operator-same AppliedRefuses.no_operator = refl
 
 no_operator-never : {ctx : List Kind} {t u v : Ty} {l i : Kind} → AppliedGives ctx t Kind.Star u l v i → ⊥
 no_operator-never g = elim g [ ]
-
-pair-same : {A B : Type 0} {a : A} {b : B} (p : A × B) → p.0 ≡ a → p.1 ≡ b → p ≡ (a, b)
-pair-same p x y = λ i. (x i, y i)
 
 pub one_applied : OneApplied
 one_applied ctx t Kind.Star u l h g = refuses NotOperator AppliedRefuses.no_operator (λ q r. no_operator-same r) (λ o r. no_operator-never r)

@@ -18,7 +18,7 @@ use Rattle.signatures.specs.Matching.Subtyping.{Match}
 use Rattle.signatures.specs.Env.{Env, Value, kinds, find, type_vars, with_module, named_fields}
 use Rattle.signatures.specs.Signatures.FieldOrder.{with_name, with_names}
 use Rattle.signatures.specs.Matching.MatchRefusal.{MatchRefusal, RefusesMatch}
-use Rattle.sig_laws.proofs.Formed.Conditions.{explicit-right, explicit-abs, abs-body, str-fields, left-functor, match-kinds}
+use Rattle.sig_laws.proofs.Formed.Conditions.{explicit-right, explicit-abs, abs-body, match-kinds, structure-row}
 use Rattle.fing_syntax.specs.Phrase.{Span, SpanName, Mod, ModAt, ModName, ModStruct, ModProject, ModFunctor, ModApply, ModSeal, ModUnpack, Bind, BindAt, BindVal, BindTy, BindModule, BindSignature, BindInclude, Binds, NoBinds, MoreBinds, SigEx, SigAt, PathSig, SigDecls, SigFun, SigRefine, Decl, DeclAt, DeclVal, DeclTyIs, DeclTyOf, DeclModule, DeclSignature, DeclInclude, Decls, NoDecls, MoreDecls, TyEx, TyAt, PathTy, TyInt, TyBool, TyText, TyArrow, TyApply, TyFields, TyAll, TyLam, TyPack, TyExs, NoTys, MoreTys, FieldTyExs, NoFieldTys, MoreFieldTys, Exp, ExpAt, PathExp, ExpInt, ExpBool, ExpText, ExpLam, ExpTyLam, ExpFix, ExpIf, ExpOps, ExpApply, ExpFields, ExpGet, ExpPack, OpExps, NoOps, MoreOps, ArgExp, ArgTy, Args, NoArgs, MoreArgs, FieldExps, NoFieldExps, MoreFieldExps}
 use Rattle.fing_syntax.specs.Place.{name_of, name_span, ty_span, exp_span, sig_span, up_to}
 use Rattle.core_rules.specs.CoreWhy.{CoreWhy}
@@ -29,7 +29,7 @@ use Rattle.core_rules.proofs.TypeVerdicts.{one_base, one_record_type, one_arrow,
 use Rattle.core_rules.proofs.ExpVerdicts.{one_literal, one_record, one_function, one_type_function, one_call, one_instance, one_get, one_if, one_operation, one_fix}
 use Rattle.sig_rules.specs.SigRules.{ValueGives, TypeGives, AbstractGives, ModuleGives, SignatureGives, IncludeGives, DeclarationsGive}
 use Rattle.sig_rules.proofs.Verdicts.{one_value, one_type, one_abstract, one_module, one_signature, one_include, one_generative, one_distinct, one_declarations}
-use Rattle.module_rules.proofs.Verdicts.{one_named, one_projected, one_type_path, one_value_path, one_sig_path, one_parts, one_generative as one_generative_module, found-one as bound-one, apply-one, include-one, included-structure, one_seal, one_value_module, one_type_module, one_signature_module}
+use Rattle.module_rules.proofs.Verdicts.{one_named, one_projected, one_type_path, one_value_path, one_sig_path, one_parts, one_generative as one_generative_module, found-one as bound-one, apply-one, include-one, included-structure, one_seal, one_value_module, one_type_module, one_signature_module, param-ok}
 use Rattle.module_rules.specs.ModWhy.{ModWhy}
 use Rattle.module_rules.specs.ModRules.{NamedRefuses, PartsGive, ApplyGives}
 use Rattle.applicative_functors.proofs.Verdicts.{one_pure_functor}
@@ -56,7 +56,7 @@ use Rattle.premise_laws.proofs.Environments.{good-module, good-fields, good-type
 use Rattle.premise_laws.proofs.Determined.{lift-one, match-verdict, norm-one}
 use Rattle.module_rules.proofs.Determined.{collected-one, seq-one}
 use Rattle.sig_laws.proofs.Encoded.EnvTyping.{kinds-named_fields}
-use Rattle.sig_laws.proofs.Algebra.FormLaws.{kinds-type_vars}
+use Rattle.sig_laws.proofs.Algebra.FormLaws.{kinds-type_vars, module-under}
 
 done : (g : Env) (a : Task) → Ready (steps g a) → Exactly g a
 done g a t = answer g a (means-runs g a) (steps-sound g a) t
@@ -90,9 +90,6 @@ never-refused (refuses r q only never) = absurd q
 body-ok : {ctx ks : List Kind} {s : Sig} → OkRight ctx (Abs.Ex ks s) → OkSig (extend ctx ks) s
 body-ok h = ((explicit-right h.0).0, h.1)
 
-structure-row : {ctx : List Kind} {fs : SigRow} → OkSig ctx (Sig.Str fs) → OkRow ctx fs
-structure-row h = (str-fields h.0, h.1)
-
 right-abs : {ctx : List Kind} {x : Abs} → OkRight ctx x → OkAbs ctx x
 right-abs h = (explicit-abs h.0, h.1)
 
@@ -102,9 +99,6 @@ found-one g x = mapped _ (bound-one g (name_of x))
 -- an environment under the binders of a signature
 right-under : (g : Env) (ks : List Kind) {x : Abs} → OkRight (kinds (type_vars g ks)) x → OkRight (extend (kinds g) ks) x
 right-under g ks {x} h = subst (λ ctx. OkRight ctx x) (kinds-type_vars g ks) h
-
-module-under : (g : Env) (ks : List Kind) (M : Module) → OkModule (kinds (type_vars g ks)) M → OkModule (extend (kinds g) ks) M
-module-under g ks M h = subst (λ ctx. OkModule ctx M) (kinds-type_vars g ks) h
 
 -- declarations are structures
 abbrev body : Abs → Sig
@@ -187,9 +181,6 @@ after_include-ready g h before bd m bs (made f (Abs.Ex ks s) ts e) w go = (
             (one-the (include-one (kinds g) ks f fs ts e N v (module-under g ks N n)), λ K j. tt),
       ),
 )
-
-param-ok : {ctx : List Kind} {s : Sig} {f : Effect} {param result : Abs} → PartsGive s f param result → OkSig ctx s → OkRight ctx param
-param-ok PartsGive.parts w = ((left-functor w.0).0, w.1.0)
 
 applies-one : {ctx : List Kind} {s t : Sig} {f : Effect} {param result : Abs} {ts : List Ty} {c d e : Term} → PartsGive s f param result → Match ctx t param ts c → OkSig ctx s → One (ApplyGives ctx s d ts c e)
 applies-one {ctx} {ts = ts} {c = c} {d = d} {e = e} (PartsGive.parts {f = f} {ks = ks} {s = s} {y = y}) m w = apply-one ctx ks f s y d ts c e w.0 (match-kinds m)

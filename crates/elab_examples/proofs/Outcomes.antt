@@ -14,11 +14,11 @@ use Rattle.signatures.specs.Signatures.Alike.{NormalAbsForm}
 use Rattle.omega_terms.specs.Shorthands.{opens}
 use Rattle.signatures.specs.Signatures.Encoding.{enc_abs}
 use Rattle.signatures.specs.Signatures.SigSubst.{abs_at}
-use Rattle.signatures.specs.Env.{Env, kinds, find, type_vars, with_module}
+use Rattle.signatures.specs.Env.{Env, kinds, find, with_module}
 use Rattle.signatures.specs.Lifting.{Lift}
 use Rattle.signatures.specs.Matching.Subtyping.{Match}
 use Rattle.signatures.specs.Signatures.FieldOrder.{with_name}
-use Rattle.sig_laws.proofs.Algebra.FormLaws.{kinds-type_vars}
+use Rattle.sig_laws.proofs.Algebra.FormLaws.{module-under}
 use Rattle.sig_laws.proofs.Formed.Conditions.{abs-body}
 use Rattle.match_laws.proofs.OneMatch.Views.{field-unique}
 use Rattle.fing_syntax.specs.Phrase.{Span, SpanName, Mod, ModAt, ModStruct, ModProject, ModFunctor, ModApply, Bind, BindAt, BindModule, Binds, NoBinds, MoreBinds, SigEx}
@@ -28,7 +28,7 @@ use Rattle.module_rules.specs.Sequence.{Seq, joined, Collected}
 use Rattle.module_rules.specs.ModRules.{GenerativeGives, PartsGive, ApplyGives}
 use Rattle.applicative_functors.specs.PureFunctor.{PureFunctorGives}
 use Rattle.elab_rules.specs.Judgments.Meaning.{SigMeans, ModMeans, BindMeans, BindsMean}
-use Rattle.sig_laws.specs.Good.{OkEnv, OkModule, Names}
+use Rattle.sig_laws.specs.Good.{OkEnv, Names}
 use Rattle.elab_laws.proofs.Kept.{mod_ok, bind_ok, binds_ok}
 use Rattle.elab_laws.proofs.FieldLaws.{rise-with_name}
 use Rattle.premise_laws.proofs.Environments.{good-module, bound-bind}
@@ -52,9 +52,6 @@ show-module p = (p.0, p.1, BindMeans.bind_module p.2)
 
 -- fields
 
-under : (g : Env) (ks : List Kind) (M : Module) → OkModule (kinds (type_vars g ks)) M → OkModule (extend (kinds g) ks) M
-under g ks M h = subst (λ ctx. OkModule ctx M) (kinds-type_vars g ks) h
-
 ProjectedSig : Effect → List Kind → Sig → Module → Type 0
 ProjectedSig f ks s N = (ts : List Ty) × (e : Term) × (N ≡ made f (Abs.Ex ks s) ts e)
 
@@ -75,7 +72,7 @@ show-project {g} {at} {m} {x} {f} {ks} {fs} {s} ok p h =
 pub show-generative : {g : Env} {at : Span} {x : SpanName} {a : SigEx} {b : Mod} {f : Effect} {ks : List Kind} {s : Sig} {y : Abs} → OkEnv (with_module g ks (name_of x) s) → SigMeans g a (Abs.Ex ks s) → ModShows (with_module g ks (name_of x) s) b f y → ModShows g (ModAt at (ModFunctor true x a b)) Pure (Abs.Ex [] (Sig.Fun Impure ks s y))
 show-generative {g} {x = x} {b = b} {f = f} {ks = ks} {s = s} {y = y} ok p q =
     let M = made f y q.0 q.1 in
-    let d = packed-one (extend (kinds g) ks) M (under g ks M (mod_ok (with_module g ks (name_of x) s) b M ok q.2)) in
+    let d = packed-one (extend (kinds g) ks) M (module-under g ks M (mod_ok (with_module g ks (name_of x) s) b M ok q.2)) in
     (_, _, ModMeans.mod_generative p q.2 refl (GenerativeGives.generative d.1))
 
 pub show-applicative : {g : Env} {at : Span} {x : SpanName} {a : SigEx} {b : Mod} {ks : List Kind} {s : Sig} {y z : Abs} → SigMeans g a (Abs.Ex ks s) → ModShows (with_module g ks (name_of x) s) b Pure y → Lift (kinds g) ks s y z → ModShows g (ModAt at (ModFunctor false x a b)) Pure z
@@ -113,7 +110,7 @@ show-next {g} {before} {b} {bs} {n} {f} {h} {ks} {js} {s} {t} ok names p rest =
     let rise = rise-with_name n before names.1 in
     let q = rest good (bound-bind g ks n s before names.0, rise) in
     let second = made h (Abs.Ex js t) q.0 q.1 in
-    let u = under g ks second (binds_ok (with_module g ks n s) (with_name n before) bs second good rise q.2) in
+    let u = module-under g ks second (binds_ok (with_module g ks n s) (with_name n before) bs second good rise q.2) in
     let k = seq-one (kinds g) ks f s p.0 p.1 second w u in
     let v = seq-sig k.1 in
     (v.0, v.1, subst (λ N. BindsMean g before (MoreBinds b bs) N) v.2 (BindsMean.next_bind p.2 q.2 k.1))

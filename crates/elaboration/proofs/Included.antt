@@ -14,8 +14,8 @@ use Rattle.signatures.specs.Env.{Env, kinds, with_module, named_fields}
 use Rattle.signatures.specs.Signatures.Sig.{Module, made, Sig, Abs, SigRow}
 use Rattle.signatures.specs.Signatures.FieldOrder.{with_names}
 use Rattle.sig_laws.specs.Good.{OkSig, OkRow, OkEnv, OkModule, Names}
-use Rattle.sig_laws.proofs.Formed.Conditions.{abs-body, str-fields}
-use Rattle.sig_laws.proofs.Algebra.FormLaws.{kinds-type_vars}
+use Rattle.sig_laws.proofs.Formed.Conditions.{abs-body, structure-row}
+use Rattle.sig_laws.proofs.Algebra.FormLaws.{kinds-type_vars, module-under}
 use Rattle.sig_laws.proofs.Encoded.EnvTyping.{kinds-named_fields}
 use Rattle.premise_laws.proofs.Environments.{good-module, good-fields, bound-module, bound-fields}
 use Rattle.semantic_sigs.specs.Fields.{sig_row}
@@ -43,7 +43,7 @@ use Rattle.refusal_lines.specs.declared.refusal.Refusal.{Refusal as CodeRefusal}
 use Rattle.elaboration.specs.Answered.{RefusedAs, Placed}
 use Rattle.elaboration.proofs.ArgSteps.{none-below}
 use Rattle.elaboration.proofs.Entering.{left-module, left-fields}
-use Rattle.elaboration.proofs.Means.{param-env, under}
+use Rattle.elaboration.proofs.Means.{param-env}
 use Rattle.elaboration.proofs.Placing.{if_some-map, by-rule}
 use Rattle.elaboration.proofs.Refuse.Modules.{include-no_structure, include-later}
 
@@ -51,7 +51,7 @@ use Rattle.elaboration.proofs.Refuse.Modules.{include-no_structure, include-late
 pub body-module : (g : Env) (a : SigEx) (b : Mod) (x : Name) (y : Abs) (M : Module) → OkEnv g → SigMeans g a y
     → ModMeans (with_module g (kinds_of y) x (body_of y)) b M
     → OkModule (extend (kinds g) (kinds_of y)) M
-body-module g a b x (Abs.Ex ks s) M h p q = under g ks M (mod_ok (with_module g ks x s) b M (param-env g a (Abs.Ex ks s) x h p) q)
+body-module g a b x (Abs.Ex ks s) M h p q = module-under g ks M (mod_ok (with_module g ks x s) b M (param-env g a (Abs.Ex ks s) x h p) q)
 
 -- a structure starts with no names
 pub no-names : (g : Env) → Names g []
@@ -108,9 +108,6 @@ placed-at {g} {at = at} {o = o} {e = e} s q r = subst (λ p. Placed g p o e) q (
 abbrev pub included : Env → Abs → SigRow → Env
 included g y fs = named_fields (with_module g (kinds_of y) include_name (body_of y)) fs
 
-structure-row : {ctx : List Kind} {fs : SigRow} → OkSig ctx (Sig.Str fs) → OkRow ctx fs
-structure-row h = (str-fields h.0, h.1)
-
 env-of : (g : Env) (ks : List Kind) (fs : SigRow) → OkEnv g → OkSig (extend (kinds g) ks) (Sig.Str fs) → OkEnv (included g (Abs.Ex ks (Sig.Str fs)) fs)
 env-of g ks fs h sig =
     let inner = with_module g ks include_name (Sig.Str fs) in
@@ -155,7 +152,7 @@ include-rest g m bs f (Abs.Ex ks s) ts d fs before M h n p e q =
     let good = included-env g m f (Abs.Ex ks s) ts d fs h p e in
     let inner = with_module g ks include_name s in
     let w = binds_ok (included g (Abs.Ex ks s) fs) (with_names fs before) bs M good (rise-with_names fs before n.1) q in
-    under g ks M (subst (λ ctx. OkModule ctx M) (kinds-named_fields inner fs) w)
+    module-under g ks M (subst (λ ctx. OkModule ctx M) (kinds-named_fields inner fs) w)
 
 -- what was entered is left again
 

@@ -21,6 +21,7 @@ use Rattle.elab_rules.specs.Refusals.Refusal.{of_sig, refuse}
 use Rattle.elab_rules.specs.Refusals.Steps.{WhereAt}
 use Rattle.refusal_lines.specs.Plain.{plain_refusal}
 use Rattle.refusal_lines.specs.declared.refusal.Refusal.{Refusal as CodeRefusal}
+use Rattle.sig_laws.proofs.Algebra.PathLaws.{one-field}
 use Rattle.elaboration.specs.Answered.{Placed, ByWhere}
 use Rattle.elaboration.specs.Leaving.{LeftAt, StandsAt}
 use Rattle.elaboration.proofs.Placing.{if_some-map}
@@ -30,12 +31,6 @@ no-field : {fs : SigRow} {l : Name} {t : Sig} → HasField fs l t → NoField l 
 no-field here n = n.0 refl
 no-field (there d h) n = no-field h n.1
 
-field-one : {fs : SigRow} {l m : Name} {s t : Sig} → HasField fs l s → HasField fs m t → l ≡ m → s ≡ t
-field-one here here e = refl
-field-one here (there n g) e = absurd (n (sym e))
-field-one (there n h) here e = absurd (n e)
-field-one (there n h) (there m g) e = field-one h g e
-
 lacks-none : {s t : Sig} {l : Name} → IsAt s l t → Lacks s l → ⊥
 lacks-none {l = l} p n = no-field p.2 (subst (λ u. Lacks u l) p.1 n)
 
@@ -43,7 +38,7 @@ same-part : {fs : SigRow} {s t : Sig} {l : Name} → HasField fs l s → IsAt (S
 same-part {fs} {t = t} {l = l} h p =
     let e : p.0 ≡ fs = str-same (sym p.1) in
     let g : HasField fs l t = subst (λ gs. HasField gs l t) e p.2 in
-    (g, field-one h g refl)
+    (g, one-field h g refl)
   where
     str-same : {fs gs : SigRow} → Sig.Str fs ≡ Sig.Str gs → fs ≡ gs
     str-same e = cc

@@ -14,7 +14,7 @@ use Rattle.signatures.specs.Signatures.RecordOrder.{AreNew}
 use Rattle.signatures.specs.Signatures.FieldOrder.{with_name, with_names}
 use Rattle.sig_laws.specs.Good.{OkEnv, OkModule, Names}
 use Rattle.sig_laws.proofs.Formed.Conditions.{explicit-right, abs-body}
-use Rattle.sig_laws.proofs.Algebra.FormLaws.{kinds-type_vars}
+use Rattle.sig_laws.proofs.Algebra.FormLaws.{module-under}
 use Rattle.premise_laws.proofs.Environments.{good-module, bound-bind}
 use Rattle.semantic_sigs.specs.View.{body_of, kinds_of}
 use Rattle.fing_syntax.specs.Phrase.{Span, SpanName, TyEx, SigEx, SigAt, SigFun, SigRefine, Decl, Decls, MoreDecls, Mod, ModAt, ModFunctor, Bind, Binds, MoreBinds}
@@ -112,10 +112,6 @@ functor-means false (Abs.Ex ks s) (made Pure y ts e) p q r = ModMeans.mod_applic
 functor-means false (Abs.Ex ks s) (made Impure y ts e) p q r = ModMeans.mod_generative p q refl r
 functor-means true (Abs.Ex ks s) (made f y ts e) p q r = ModMeans.mod_generative p q refl r
 
--- a module under the types of a signature
-pub under : (g : Env) (ks : List Kind) (M : Module) → OkModule (kinds (type_vars g ks)) M → OkModule (extend (kinds g) ks) M
-under g ks M h = subst (λ ctx. OkModule ctx M) (kinds-type_vars g ks) h
-
 -- bindings in a row
 
 pub bind-env : (g : Env) (b : Bind) (x : Name) (f : Effect) (y : Abs) (ts : List Ty) (d : Term) → OkEnv g → BindMeans g b x (made f y ts d) → OkEnv (with_module g (kinds_of y) x (body_of y))
@@ -144,4 +140,4 @@ pub rest-module : (g : Env) (b : Bind) (bs : Binds) (x : Name) (f : Effect) (y :
     → BindsMean (with_module g (kinds_of y) x (body_of y)) (with_name x before) bs M
     → OkModule (extend (kinds g) (kinds_of y)) M
 rest-module g b bs x f (Abs.Ex ks s) ts d before M h n p q =
-    under g ks M (binds_ok (with_module g ks x s) (with_name x before) bs M (bind-env g b x f (Abs.Ex ks s) ts d h p) (rise-with_name x before n.1) q)
+    module-under g ks M (binds_ok (with_module g ks x s) (with_name x before) bs M (bind-env g b x f (Abs.Ex ks s) ts d h p) (rise-with_name x before n.1) q)

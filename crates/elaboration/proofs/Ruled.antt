@@ -12,8 +12,6 @@ use Rattle.signatures.specs.Explicit.SigPath.{SigPath}
 use Rattle.signatures.specs.Matching.MatchRefusal.{MatchRefusal}
 use Rattle.signatures.specs.Matching.Subtyping.{Match}
 use Rattle.signatures.specs.Signatures.Sig.{made, Sig, Abs}
-use Rattle.sig_laws.specs.Good.{OkSig, OkRight}
-use Rattle.sig_laws.proofs.Formed.Conditions.{left-functor}
 use Rattle.semantic_sigs.specs.View.{body_of, kinds_of}
 use Rattle.semantic_sigs.specs.declared.made.Why.{Why as CodeWhy}
 use Rattle.semantic_sigs.specs.declared.made.Why.TheVariants as clash
@@ -41,9 +39,6 @@ param-kinds PartsGive.parts e = cc
 pub apply-forms : {ctx : List Kind} {s left : Sig} {f : Effect} {param result : Abs} {ts : List Ty} {c : Term} → PartsGive s f param result → Match ctx left param ts c
     → (h : Effect) (ks : List Kind) (t : Sig) (y : Abs) → s ≡ Sig.Fun h ks t y → NormalForms ctx ts ks ts
 apply-forms {ctx} {ts = ts} p m h ks t y e = subst (λ ks. NormalForms ctx ts ks ts) (param-kinds p e) (match-forms m)
-
-pub param-ok : {ctx : List Kind} {s : Sig} {f : Effect} {param result : Abs} → PartsGive s f param result → OkSig ctx s → OkRight ctx param
-param-ok PartsGive.parts w = ((left-functor w.0).0, w.1.0)
 
 -- a clash
 

@@ -1,6 +1,7 @@
 -- A slice as its first item and the rest.
 use Rattle.std.proofs.Common.{◌≡◌, ◌-◌, ◌<◌, ◌≤◌, List, [], ◌∷◌, length, get_or, take, drop, refl, sym, ap, ◌∙◌, arith}
-use Rattle.sig_calls.proofs.Lists.{from-index, tail-slice}
+use Rattle.sig_calls.proofs.Lists.{tail-slice}
+use Rattle.semantic_sigs.proofs.PartSteps.{left-more}
 
 pub empty : {A : Type 0} (xs : List A) → length xs < 1 → xs ≡ []
 empty [] h = refl
@@ -11,4 +12,4 @@ abbrev pub rest-of : {A : Type 0} → List A → List A
 rest-of xs = take (length xs - 1) (drop 1 xs)
 
 pub first-rest : {A : Type 0} (xs : List A) (x : A) → 1 ≤ length xs → x ≡ get_or xs 0 x → xs ≡ x ∷ rest-of xs
-first-rest xs x h e = from-index xs 0 x (omega arith) e ∙ ap (λ ys. x ∷ ys) (sym (tail-slice xs 1 (length xs - 1) (omega arith)))
+first-rest xs x h e = left-more xs 0 x (omega arith) e ∙ ap (λ ys. x ∷ ys) (sym (tail-slice xs 1 (length xs - 1) (omega arith)))

@@ -149,7 +149,7 @@ fn included(
 {
     let head = module(alloc, env, whole)?;
     let Some(fields) = fields_of(head.sig.body()) else {
-        return Err(refuse(alloc, env, whole.span, ElabWhy::NotStructure));
+        return Err(refuse(env, whole.span, ElabWhy::NotStructure));
     };
     let tail = included_under(alloc, env, before, &head.sig, fields, rest)?;
     let made = include_rule(alloc, head, tail)?;
@@ -223,6 +223,6 @@ fn bind(alloc: Global, env: &mut Env, phrase: &Bind) -> Result<(Name, Module), R
             let own = name.name.share()?;
             Ok((own, made))
         }
-        BindWhat::Include(_) => Err(refuse(alloc, env, phrase.span, ElabWhy::NotStructure)),
+        BindWhat::Include(_) => Err(refuse(env, phrase.span, ElabWhy::NotStructure)),
     }
 }

@@ -29,7 +29,7 @@ use std::alloc::Global;
 use type_normal::{NormalTy, as_normal, plain, same};
 
 /// The type is one of functions. `NotArrow` comes exactly where it is not: the type.
-pub(crate) fn expect_arrow(alloc: Global, env: &Env, at: Span, ty: &NormalTy) -> Result<(), Refusal>
+pub(crate) fn expect_arrow(env: &Env, at: Span, ty: &NormalTy) -> Result<(), Refusal>
     ensures given { OnOk result ((p : TyTree × TyTree) × (ty.now ≡ TyTree.Arrow p.0 p.1)) }
     ensures refused { IfErr result (λ e. ByTest env.now (place at) ((p : TyTree × TyTree) → ty.now ≡ TyTree.Arrow p.0 p.1 → ⊥) (NotArrow ty.now) e) }
 {
@@ -37,13 +37,13 @@ pub(crate) fn expect_arrow(alloc: Global, env: &Env, at: Span, ty: &NormalTy) ->
         TyNode::Arrow(_, _) => Ok(()),
         _ => {
             let why = ElabWhy::NotArrow(ty.share()?);
-            Err(refuse(alloc, env, at, why))
+            Err(refuse(env, at, why))
         }
     }
 }
 
 /// The type quantifies one. `NotAll` comes exactly where it does not: the type.
-pub(crate) fn expect_all(alloc: Global, env: &Env, at: Span, ty: &NormalTy) -> Result<(), Refusal>
+pub(crate) fn expect_all(env: &Env, at: Span, ty: &NormalTy) -> Result<(), Refusal>
     ensures given { OnOk result ((p : KindTree × TyTree) × (ty.now ≡ TyTree.All p.0 p.1)) }
     ensures refused { IfErr result (λ e. ByTest env.now (place at) ((p : KindTree × TyTree) → ty.now ≡ TyTree.All p.0 p.1 → ⊥) (NotAll ty.now) e) }
 {
@@ -51,18 +51,13 @@ pub(crate) fn expect_all(alloc: Global, env: &Env, at: Span, ty: &NormalTy) -> R
         TyNode::All(_, _) => Ok(()),
         _ => {
             let why = ElabWhy::NotAll(ty.share()?);
-            Err(refuse(alloc, env, at, why))
+            Err(refuse(env, at, why))
         }
     }
 }
 
 /// The type is one of records. `NotRecord` comes exactly where it is not: the type.
-pub(crate) fn expect_record(
-    alloc: Global,
-    env: &Env,
-    at: Span,
-    ty: &NormalTy,
-) -> Result<(), Refusal>
+pub(crate) fn expect_record(env: &Env, at: Span, ty: &NormalTy) -> Result<(), Refusal>
     ensures given { OnOk result ((row : Row) × (ty.now ≡ TyTree.Fields row)) }
     ensures refused { IfErr result (λ e. ByTest env.now (place at) ((row : Row) → ty.now ≡ TyTree.Fields row → ⊥) (NotRecord ty.now) e) }
 {
@@ -70,20 +65,14 @@ pub(crate) fn expect_record(
         TyNode::Fields(_) => Ok(()),
         _ => {
             let why = ElabWhy::NotRecord(ty.share()?);
-            Err(refuse(alloc, env, at, why))
+            Err(refuse(env, at, why))
         }
     }
 }
 
 /// The type that was found is the one of this form. `Differ` comes exactly where it is another: the type, and the one
 /// that is needed.
-fn expect_type(
-    alloc: Global,
-    env: &Env,
-    at: Span,
-    found: &NormalTy,
-    needed: NormalTy,
-) -> Result<(), Refusal>
+fn expect_type(env: &Env, at: Span, found: &NormalTy, needed: NormalTy) -> Result<(), Refusal>
     ensures given { OnOk result (found.now ≡ needed) }
     ensures refused { IfErr result (λ e. ByTest env.now (place at) (found.now ≡ needed → ⊥) (Differ found.now needed) e) }
 {
@@ -91,7 +80,7 @@ fn expect_type(
         return Ok(());
     }
     let why = ElabWhy::Differ(found.share()?, needed);
-    Err(refuse(alloc, env, at, why))
+    Err(refuse(env, at, why))
 }
 
 /// The type is that of numbers. `Differ` comes exactly where it is another: the type, and that of numbers.
@@ -100,7 +89,7 @@ pub(crate) fn expect_int(alloc: Global, env: &Env, at: Span, ty: &NormalTy) -> R
     ensures refused { IfErr result (λ e. ByTest env.now (place at) (ty.now ≡ TyTree.Int → ⊥) (Differ ty.now TyTree.Int) e) }
 {
     let needed = as_normal(Ty::make(alloc, TyNode::Int)?);
-    expect_type(alloc, env, at, ty, needed)?;
+    expect_type(env, at, ty, needed)?;
     Ok(())
 }
 
@@ -110,7 +99,7 @@ pub(crate) fn expect_bool(alloc: Global, env: &Env, at: Span, ty: &NormalTy) -> 
     ensures refused { IfErr result (λ e. ByTest env.now (place at) (ty.now ≡ TyTree.Bool → ⊥) (Differ ty.now TyTree.Bool) e) }
 {
     let needed = as_normal(Ty::make(alloc, TyNode::Bool)?);
-    expect_type(alloc, env, at, ty, needed)?;
+    expect_type(env, at, ty, needed)?;
     Ok(())
 }
 
@@ -138,7 +127,7 @@ pub(crate) fn function_rule(
 {
     match lam_exp(alloc, param, body) {
         Ok(made) => Ok(made),
-        Err(why) => Err(core_refusal(alloc, env, at, why)),
+        Err(why) => Err(core_refusal(env, at, why)),
     }
 }
 
@@ -166,7 +155,7 @@ pub(crate) fn call_rule(
 {
     match apply_exp(alloc, function, arg) {
         Ok(made) => Ok(made),
-        Err(why) => Err(core_refusal(alloc, env, at, why)),
+        Err(why) => Err(core_refusal(env, at, why)),
     }
 }
 
@@ -185,7 +174,7 @@ pub(crate) fn instance_rule(
 {
     match inst_exp(alloc, function, arg) {
         Ok(made) => Ok(made),
-        Err(why) => Err(core_refusal(alloc, env, at, why)),
+        Err(why) => Err(core_refusal(env, at, why)),
     }
 }
 
@@ -202,7 +191,7 @@ pub(crate) fn get_rule(
 {
     match get_exp(alloc, whole, name) {
         Ok(made) => Ok(made),
-        Err(why) => Err(core_refusal(alloc, env, at, why)),
+        Err(why) => Err(core_refusal(env, at, why)),
     }
 }
 
@@ -220,7 +209,7 @@ pub(crate) fn if_rule(
 {
     match if_exp(alloc, test, yes, no) {
         Ok(made) => Ok(made),
-        Err(why) => Err(core_refusal(alloc, env, at, why)),
+        Err(why) => Err(core_refusal(env, at, why)),
     }
 }
 
@@ -238,7 +227,7 @@ pub(crate) fn operation_rule(
 {
     match op_exp(alloc, op, left, right) {
         Ok(made) => Ok(made),
-        Err(why) => Err(core_refusal(alloc, env, at, why)),
+        Err(why) => Err(core_refusal(env, at, why)),
     }
 }
 
@@ -256,7 +245,7 @@ pub(crate) fn fix_rule(
 {
     match fix_exp(alloc, param, target, body) {
         Ok(made) => Ok(made),
-        Err(why) => Err(core_refusal(alloc, env, at, why)),
+        Err(why) => Err(core_refusal(env, at, why)),
     }
 }
 
@@ -272,6 +261,6 @@ pub(crate) fn record_rule(
 {
     match fields_exp(alloc, fields) {
         Ok(made) => Ok(made),
-        Err(why) => Err(core_refusal(alloc, env, at, why)),
+        Err(why) => Err(core_refusal(env, at, why)),
     }
 }

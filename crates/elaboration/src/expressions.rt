@@ -336,7 +336,7 @@ fn value_argument(
     ensures refused { IfErr result (λ e. RefusedAs env.old (args_task (place at) function.ty function.term (MoreArgs (ArgExp first.now) (args_of rest.now))) e) }
     ensures same { OnOk result (env.new ≡ env.old) }
 {
-    expect_arrow(alloc, env, at, &function.ty)?;
+    expect_arrow(env, at, &function.ty)?;
     let arg = exp(alloc, env, first)?;
     let whole = call_rule(alloc, env, first.span, function, arg)?;
     let both = up_to(at, first.span);
@@ -362,7 +362,7 @@ fn type_argument(
     ensures refused { IfErr result (λ e. RefusedAs env.old (args_task (place at) function.ty function.term (MoreArgs (ArgTy first.now (place to)) (args_of rest.now))) e) }
     ensures same { OnOk result (env.new ≡ env.old) }
 {
-    expect_all(alloc, env, at, &function.ty)?;
+    expect_all(env, at, &function.ty)?;
     let arg = ty(alloc, env, first)?;
     let whole = instance_rule(alloc, env, first.span, function, &arg)?;
     let both = up_to(at, to);
@@ -446,7 +446,7 @@ fn exp_get(
     ensures same { OnOk result (env.new ≡ env.old) }
 {
     let found = exp(alloc, env, whole)?;
-    expect_record(alloc, env, whole.span, &found.ty)?;
+    expect_record(env, whole.span, &found.ty)?;
     let part = get_rule(alloc, env, name.span, found, &name.name)?;
     Ok(part)
 }

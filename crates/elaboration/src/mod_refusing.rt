@@ -18,7 +18,6 @@ use package_calls::UnpackRefusal;
 use refusal_lines::{ElabWhy, Refusal};
 use semantic_sigs::Env;
 use sig_match::MatchRefusal;
-use std::alloc::Global;
 
 // The reason of a rule of modules.
 fn mod_reason(why: ModRefusal) -> ElabWhy
@@ -36,10 +35,10 @@ fn mod_reason(why: ModRefusal) -> ElabWhy
 }
 
 // How a rule of modules is refused at a place.
-pub(crate) fn mod_refusal(alloc: Global, env: &Env, at: Span, why: ModRefusal) -> Refusal
+pub(crate) fn mod_refusal(env: &Env, at: Span, why: ModRefusal) -> Refusal
     ensures { Placed env.now (place at) (option_map of_mod (mod_why why)) result }
 {
-    refuse(alloc, env, at, mod_reason(why))
+    refuse(env, at, mod_reason(why))
 }
 
 // The reason for which unpacking is refused.
@@ -53,20 +52,18 @@ fn unpack_reason(why: UnpackRefusal) -> ElabWhy
 }
 
 // How unpacking is refused at a place.
-pub(crate) fn unpack_refusal(alloc: Global, env: &Env, at: Span, why: UnpackRefusal) -> Refusal
+pub(crate) fn unpack_refusal(env: &Env, at: Span, why: UnpackRefusal) -> Refusal
     ensures { Placed env.now (place at) (option_map of_unpack (unpack_why why)) result }
 {
-    refuse(alloc, env, at, unpack_reason(why))
+    refuse(env, at, unpack_reason(why))
 }
 
 // How matching is refused at a place. A clash has its own number of type variables.
-pub(crate) fn match_refusal(alloc: Global, env: &Env, at: Span, why: MatchRefusal) -> Refusal
+pub(crate) fn match_refusal(env: &Env, at: Span, why: MatchRefusal) -> Refusal
     ensures { MatchPlaced env.now (place at) (match_why why) result }
 {
     match why {
-        MatchRefusal::NoRoot { index, path } => {
-            refuse(alloc, env, at, ElabWhy::NoRoot { index, path })
-        }
+        MatchRefusal::NoRoot { index, path } => refuse(env, at, ElabWhy::NoRoot { index, path }),
         MatchRefusal::Clash { types, path, why } => Refusal {
             at,
             types,

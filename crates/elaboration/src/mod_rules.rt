@@ -42,7 +42,7 @@ pub(crate) fn named_rule(alloc: Global, env: &Env, name: &SpanName) -> Result<Mo
 {
     match named(alloc, env, &name.name) {
         Ok(made) => Ok(made),
-        Err(why) => Err(mod_refusal(alloc, env, name.span, why)),
+        Err(why) => Err(mod_refusal(env, name.span, why)),
     }
 }
 
@@ -59,7 +59,7 @@ pub(crate) fn project_rule(
 {
     match project(alloc, whole, name) {
         Ok(made) => Ok(made),
-        Err(why) => Err(mod_refusal(alloc, env, at, why)),
+        Err(why) => Err(mod_refusal(env, at, why)),
     }
 }
 
@@ -94,7 +94,7 @@ pub(crate) fn parts_rule(
 {
     match functor_parts(alloc, sig) {
         Ok(made) => Ok(made),
-        Err(why) => Err(mod_refusal(alloc, env, at, why)),
+        Err(why) => Err(mod_refusal(env, at, why)),
     }
 }
 
@@ -113,7 +113,7 @@ pub(crate) fn match_rule(
 {
     match match_sig(alloc, env, left, right) {
         Ok(made) => Ok(made),
-        Err(why) => Err(match_refusal(alloc, env, at, why)),
+        Err(why) => Err(match_refusal(env, at, why)),
     }
 }
 

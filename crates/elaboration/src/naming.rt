@@ -40,7 +40,7 @@ pub(crate) fn expect_new<T>(
         return Ok(());
     }
     let why = ElabWhy::DuplicateField(name.name.share()?);
-    Err(refuse(alloc, env, name.span, why))
+    Err(refuse(env, name.span, why))
 }
 
 /// One more part under a name. `Err` is want of memory.

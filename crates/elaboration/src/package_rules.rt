@@ -26,6 +26,6 @@ pub(crate) fn unpack_rule(
 {
     match unpack_module(alloc, value, target) {
         Ok(made) => Ok(made),
-        Err(why) => Err(unpack_refusal(alloc, env, at, why)),
+        Err(why) => Err(unpack_refusal(env, at, why)),
     }
 }

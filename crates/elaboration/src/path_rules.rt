@@ -30,7 +30,7 @@ pub(crate) fn type_path_rule(
 {
     match path_type(alloc, whole) {
         Ok(made) => Ok(made),
-        Err(why) => Err(mod_refusal(alloc, env, at, why)),
+        Err(why) => Err(mod_refusal(env, at, why)),
     }
 }
 
@@ -47,7 +47,7 @@ pub(crate) fn value_path_rule(
 {
     match path_value(alloc, whole) {
         Ok(made) => Ok(made),
-        Err(why) => Err(mod_refusal(alloc, env, at, why)),
+        Err(why) => Err(mod_refusal(env, at, why)),
     }
 }
 
@@ -64,6 +64,6 @@ pub(crate) fn sig_path_rule(
 {
     match path_sig(alloc, whole) {
         Ok(made) => Ok(made),
-        Err(why) => Err(mod_refusal(alloc, env, at, why)),
+        Err(why) => Err(mod_refusal(env, at, why)),
     }
 }

@@ -11,20 +11,16 @@ use core_calls::CoreRefusal;
 use fing_text::Span;
 use refusal_lines::{ElabWhy, Refusal};
 use semantic_sigs::Env;
-use std::alloc::Global;
 
-// A refusal for a reason at a place, with as many type variables as the environment has; or want of memory.
+// A refusal for a reason at a place, with as many type variables as the environment has.
 #[tactic(auto, using(crate::proofs::Counting::refused_here))]
-pub(crate) fn refuse(alloc: Global, env: &Env, at: Span, why: ElabWhy) -> Refusal
+pub(crate) fn refuse(env: &Env, at: Span, why: ElabWhy) -> Refusal
     ensures { Placed env.now (place at) (plain_reason why) result }
 {
-    match env.kinds(alloc) {
-        Ok(kinds) => Refusal {
-            at,
-            types: kinds.len() as u64,
-            why,
-        },
-        Err(refused) => Refusal::from(refused),
+    Refusal {
+        at,
+        types: env.kinds().len() as u64,
+        why,
     }
 }
 
@@ -46,8 +42,8 @@ fn core_reason(why: CoreRefusal) -> ElabWhy
 }
 
 // How a rule of types or expressions is refused at a place.
-pub(crate) fn core_refusal(alloc: Global, env: &Env, at: Span, why: CoreRefusal) -> Refusal
+pub(crate) fn core_refusal(env: &Env, at: Span, why: CoreRefusal) -> Refusal
     ensures { Placed env.now (place at) (option_map of_core (core_why why)) result }
 {
-    refuse(alloc, env, at, core_reason(why))
+    refuse(env, at, core_reason(why))
 }

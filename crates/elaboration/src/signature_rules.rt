@@ -51,10 +51,10 @@ fn sig_reason(why: SigRefusal) -> ElabWhy
 }
 
 // How a rule of signatures or declarations is refused at a place.
-fn sig_refusal(alloc: Global, env: &Env, at: Span, why: SigRefusal) -> Refusal
+fn sig_refusal(env: &Env, at: Span, why: SigRefusal) -> Refusal
     ensures { Placed env.now (place at) (option_map of_sig (plain_why why)) result }
 {
-    refuse(alloc, env, at, sig_reason(why))
+    refuse(env, at, sig_reason(why))
 }
 
 /// `val X : T`.
@@ -70,7 +70,7 @@ pub(crate) fn value_rule(
 {
     match decl_val(alloc, name, ty) {
         Ok(made) => Ok(made),
-        Err(why) => Err(sig_refusal(alloc, env, at, why)),
+        Err(why) => Err(sig_refusal(env, at, why)),
     }
 }
 
@@ -125,7 +125,7 @@ pub(crate) fn include_rule(alloc: Global, env: &Env, at: Span, sig: &Abs) -> Res
 {
     match include(alloc, sig) {
         Ok(made) => Ok(made),
-        Err(why) => Err(sig_refusal(alloc, env, at, why)),
+        Err(why) => Err(sig_refusal(env, at, why)),
     }
 }
 
@@ -143,7 +143,7 @@ pub(crate) fn distinct_rule(
     let names = before.list(alloc)?;
     match distinct(alloc, &names, next) {
         Ok(()) => Ok(()),
-        Err(why) => Err(sig_refusal(alloc, env, at, why)),
+        Err(why) => Err(sig_refusal(env, at, why)),
     }
 }
 
@@ -204,7 +204,7 @@ pub(crate) fn where_rule(
         Ok(made) => Ok(made),
         Err(why) => {
             let at = where_place(sig.body(), first, rest, by.span, &why);
-            Err(sig_refusal(alloc, env, at, why))
+            Err(sig_refusal(env, at, why))
         }
     }
 }
@@ -223,9 +223,8 @@ fn fixed(
     ensures given { IfOk result (λ x. Refined (kinds_in env.now) sig.now (names_of (spelled first.now ∷ map spelled rest.now)) ty.now.ty (kind_tree ty.now.kind) x) }
     ensures refused { IfErr result (λ e. IfSome (plain_why e) (WhereRefuses sig.now (names_of (spelled first.now ∷ map spelled rest.now)) ty.now.ty (kind_tree ty.now.kind))) }
 {
-    let kinds = env.kinds(alloc)?;
     let names = path_names(alloc, first, rest)?;
-    where_type(alloc, kinds.as_slice(), sig, names.items(), ty)
+    where_type(alloc, env.kinds(), sig, names.items(), ty)
 }
 
 // The names of a path.

@@ -22,7 +22,7 @@ use semantic_sigs::{Env, Kinded};
 use std::alloc::Global;
 
 /// The kind is `*`. `KindDiffer` comes exactly where it is another: the kind, and `*`.
-pub(crate) fn expect_star(alloc: Global, env: &Env, at: Span, kind: &Kind) -> Result<(), Refusal>
+pub(crate) fn expect_star(env: &Env, at: Span, kind: &Kind) -> Result<(), Refusal>
     ensures given { OnOk result (kind_tree kind.now ≡ KindTree.Star) }
     ensures refused { IfErr result (λ e. ByTest env.now (place at) (kind_tree kind.now ≢ KindTree.Star) (KindDiffer (kind_tree kind.now) KindTree.Star) e) }
 {
@@ -30,24 +30,19 @@ pub(crate) fn expect_star(alloc: Global, env: &Env, at: Span, kind: &Kind) -> Re
         Kind::Star => Ok(()),
         Kind::Arrow(_, _, _) => {
             let why = ElabWhy::KindDiffer(kind.share()?, Kind::Star);
-            Err(refuse(alloc, env, at, why))
+            Err(refuse(env, at, why))
         }
     }
 }
 
 /// The kind is that of an operator. `NotOperator` comes exactly where it is none.
-pub(crate) fn expect_operator(
-    alloc: Global,
-    env: &Env,
-    at: Span,
-    kind: &Kind,
-) -> Result<(), Refusal>
+pub(crate) fn expect_operator(env: &Env, at: Span, kind: &Kind) -> Result<(), Refusal>
     ensures given { OnOk result ((p : KindTree × KindTree) × (kind_tree kind.now ≡ KindTree.Arrow p.0 p.1)) }
     ensures refused { IfErr result (λ e. ByTest env.now (place at) ((p : KindTree × KindTree) → kind_tree kind.now ≡ KindTree.Arrow p.0 p.1 → ⊥) NotOperator e) }
 {
     match kind {
         Kind::Arrow(_, _, _) => Ok(()),
-        Kind::Star => Err(refuse(alloc, env, at, ElabWhy::NotOperator)),
+        Kind::Star => Err(refuse(env, at, ElabWhy::NotOperator)),
     }
 }
 
@@ -75,7 +70,7 @@ pub(crate) fn arrow_rule(
 {
     match arrow_ty(alloc, from, to) {
         Ok(made) => Ok(made),
-        Err(why) => Err(core_refusal(alloc, env, at, why)),
+        Err(why) => Err(core_refusal(env, at, why)),
     }
 }
 
@@ -92,7 +87,7 @@ pub(crate) fn all_rule(
 {
     match all_ty(alloc, kind, body) {
         Ok(made) => Ok(made),
-        Err(why) => Err(core_refusal(alloc, env, at, why)),
+        Err(why) => Err(core_refusal(env, at, why)),
     }
 }
 
@@ -122,7 +117,7 @@ pub(crate) fn apply_rule(
 {
     match applied(alloc, env, operator, arg) {
         Ok(made) => Ok(made),
-        Err(why) => Err(core_refusal(alloc, env, at, why)),
+        Err(why) => Err(core_refusal(env, at, why)),
     }
 }
 
@@ -133,8 +128,7 @@ fn applied(alloc: Global, env: &Env, operator: &Kinded, arg: &Kinded) -> Result<
     ensures given { IfOk result (λ o. AppliedGives (kinds_in env.now) operator.now.ty (kind_tree operator.now.kind) arg.now.ty (kind_tree arg.now.kind) o.ty (kind_tree o.kind)) }
     ensures refused { IfErr result (λ e. IfSome (plain_why e) (AppliedRefuses operator.now.ty (kind_tree operator.now.kind) arg.now.ty (kind_tree arg.now.kind))) }
 {
-    let kinds = env.kinds(alloc)?;
-    apply_ty(alloc, kinds.as_slice(), operator, arg)
+    apply_ty(alloc, env.kinds(), operator, arg)
 }
 
 /// `{X : T, ..}`.
@@ -149,6 +143,6 @@ pub(crate) fn fields_rule(
 {
     match fields_ty(alloc, fields) {
         Ok(made) => Ok(made),
-        Err(why) => Err(core_refusal(alloc, env, at, why)),
+        Err(why) => Err(core_refusal(env, at, why)),
     }
 }

@@ -66,7 +66,7 @@ pub(crate) fn value_ty(alloc: Global, env: &mut Env, phrase: &TyEx) -> Result<Ki
     ensures same { OnOk result (env.new ≡ env.old) }
 {
     let found = ty(alloc, env, phrase)?;
-    expect_star(alloc, env, phrase.span, &found.kind)?;
+    expect_star(env, phrase.span, &found.kind)?;
     Ok(found)
 }
 
@@ -149,7 +149,7 @@ fn ty_arg(
     ensures refused { IfErr result (λ e. RefusedAs env.old (type_args (place at) operator.ty (kind_tree operator.kind) (MoreTys first.now (tys rest.now))) e) }
     ensures same { OnOk result (env.new ≡ env.old) }
 {
-    expect_operator(alloc, env, at, &operator.kind)?;
+    expect_operator(env, at, &operator.kind)?;
     let arg = ty(alloc, env, first)?;
     let applied = apply_rule(alloc, env, first.span, &operator, &arg)?;
     let both = up_to(at, first.span);

@@ -18,8 +18,7 @@ use Rattle.signatures.specs.Explicit.SigPath.{SigPath, PartAt, ParamOn}
 use Rattle.signatures.specs.Explicit.RootPath.{Rooted, at, ParamsAvoid}
 use Rattle.sig_laws.proofs.Algebra.AlikeLaws.{conv_sig-sym, conv_sig-trans, form-conv_sig, form_sig-normal, form_sig-unique, conv_sig-gives, conv_sig-substitute, substitutes-convertible}
 use Rattle.sig_laws.proofs.Algebra.SigMention.{mentions_sig-substitute, mentions-unders, unmentioned_sig}
-use Rattle.sig_laws.proofs.Algebra.PathLaws.{part-substitute, param-alike, param-back}
-use Rattle.explicit_laws.proofs.Paths.{one-field}
+use Rattle.sig_laws.proofs.Algebra.PathLaws.{part-substitute, param-alike, param-back, one-field}
 use Rattle.omega_types.proofs.BinderLaws.{applied-substitute}
 use Rattle.omega_types.proofs.BinderPuts.{unders-substitutes}
 

@@ -4,15 +4,10 @@ use Rattle.std.proofs.Math.Path.{refl, sym, ap, ap₂, subst}
 use Rattle.omega_kinds.specs.Kind.{Kind}
 use Rattle.omega_kinds.specs.Name.{Name}
 use Rattle.omega_types.specs.Ty.{Ty}
-use Rattle.signatures.specs.Signatures.Sig.{Sig, SigRow, HasField, here, there}
+use Rattle.signatures.specs.Signatures.Sig.{Sig}
 use Rattle.signatures.specs.Explicit.SigPath.{Item, SigPath, by_name, PathBefore, first, later, PartAt}
+use Rattle.sig_laws.proofs.Algebra.PathLaws.{one-field}
 use Rattle.explicit_laws.proofs.Names.{Compared, before, after, same, NameBefore, compare-names}
-
-pub one-field : {fs : SigRow} {l m : Name} {s t : Sig} → HasField fs l s → HasField fs m t → l ≡ m → s ≡ t
-one-field here here e = refl
-one-field here (there n h) e = absurd (n (sym e))
-one-field (there n h) here e = absurd (n e)
-one-field (there n h) (there m g) e = one-field h g e
 
 name_of : SigPath → Name
 name_of (Item.Part l ∷ p) = l

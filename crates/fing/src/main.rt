@@ -5,7 +5,7 @@
 use fing_text::{StdSink, StdSource};
 use fing_top::{Status, fing};
 use std::process::ExitCode;
-use std::{env, io};
+use std::{env, io, mem};
 
 // The words after the program's name.
 fn words(rt: &HostRuntime) -> io::Result<Vec<String>> {
@@ -24,5 +24,7 @@ fn main(rt: HostRuntime) -> ExitCode {
     let mut sink = StdSink::new(rt.stdout());
     let mut confirmed = None;
     let status = fing(rt.alloc(), &words, &mut source, &mut sink, &mut confirmed);
+    // The program ends here, and its memory goes back as a whole.
+    mem::forget(confirmed);
     ExitCode::from(status as u8)
 }

@@ -110,7 +110,7 @@ stands_some (b ∷ bs) = by_skip (skipped (b ∷ bs)) refl
 done_is : {o p : Outcome} → Done o ≡ Done p → o ≡ p
 done_is e = cc
 
-not_both : {o : Outcome} {n : ℕ} {add : List Token} {nest : Nest} → Done o ≡ Go n add nest → ⊥
+pub not_both : {o : Outcome} {n : ℕ} {add : List Token} {nest : Nest} → Done o ≡ Go n add nest → ⊥
 not_both e = cc
 
 -- a text has at most one outcome

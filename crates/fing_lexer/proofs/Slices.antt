@@ -9,6 +9,7 @@ use Rattle.fing_lexer.specs.Nest.{Nest, counted, opened, total}
 use Rattle.fing_lexer.specs.Tokens.{Sliced, TokensOf, Lexes, done, go, Outcome, Good, Bad, Done, Go, step, prepend, Front, End, Skip, Found, NoText, NoByte, Stands, token_at, is_in_range}
 use Rattle.fing_lexer.proofs.Going.{positive, skip_within, found_within}
 use Rattle.fing_lexer.proofs.Found.{further}
+use Rattle.fing_lexer.proofs.Laws.{not_both}
 
 -- a later place asks for less
 later : (bytes : List ℕ) (at n : ℕ) (ts : List Token) → Sliced bytes (at + n) ts → Sliced bytes at ts
@@ -24,9 +25,6 @@ front_sliced bytes at n w ts h s r = (
   ap (λ k. lexeme (take k (drop at bytes))) (omega arith) ∙ s.1.is,
   r,
 )
-
-not_both : {o : Outcome} {n : ℕ} {add : List Token} {nest : Nest} → Done o ≡ Go n add nest → ⊥
-not_both e = cc
 
 not_bad : {r : Outcome} {ts : List Token} → Done r ≡ Done (Good ts) → r ≡ Good ts
 not_bad e = cc

@@ -1,4 +1,4 @@
-// Sources of which a type, a signature or a value is higher than the stack is sure to hold. Each is refused for want of
+// Sources of which a type, a signature or a value is higher than the stack is sure to hold, or too large. Each is refused for want of
 // memory, with nothing written, and a lower one of the same form is accepted.
 use crate::runs::{Answer, ran};
 use fing_top::Status;
@@ -25,6 +25,13 @@ const HIDDEN: Rows = Rows {
     first: "signature S0 = sig type t end",
     more: "signature S# = sig module A : S@ module B : S@ end",
     last: "module F = fun (X : S#) => X",
+};
+
+// Twice as large with each line.
+const RECORDS: Rows = Rows {
+    first: "val x0 = 1",
+    more: "val x# = {a = x@, b = x@}",
+    last: "",
 };
 
 fn add_number(alloc: Global, text: &mut String, number: u32) -> Result<(), Fail> {
@@ -63,7 +70,13 @@ fn answer(alloc: Global, command: &str, rows: Rows, lines: u32) -> Result<Answer
 #[test]
 fn what_is_too_high_is_want_of_memory(rt: HostRuntime) -> Result<(), Fail> {
     for command in ["check", "emit", "run"] {
-        for (rows, lines) in [(OPERATORS, 13), (OPERATORS, 31), (HIDDEN, 14), (HIDDEN, 21)] {
+        for (rows, lines) in [
+            (OPERATORS, 13),
+            (OPERATORS, 31),
+            (HIDDEN, 14),
+            (HIDDEN, 21),
+            (RECORDS, 40),
+        ] {
             let found = answer(rt.alloc(), command, rows, lines)?;
             assert_eq!(rt; found.status, Status::NoMemory, "{command} at {lines}");
             assert!(rt; found.written.is_empty(), "{command} at {lines}");
@@ -84,7 +97,7 @@ fn what_is_lower_is_accepted(rt: HostRuntime) -> Result<(), Fail> {
 const COMPOSED: &str =
     "val c = fix c (n : Int) : (Int -> Int) => if n == 0 then fun (x : Int) => x else let val g = c (n - 1) in fun (x : Int) => g (x + 1) end";
 
-// Closures inside one another: each is a form or two higher than the one in it.
+// Closures inside one another: each is some four forms higher than the one in it.
 #[test]
 fn a_value_that_is_too_high(rt: HostRuntime) -> Result<(), Fail> {
     for (count, status) in [("1000", Status::Ok), ("5000", Status::NoMemory)] {

@@ -1,9 +1,8 @@
 -- What is compiled and what is verified is replied, and a source whose bytes are known is answered by its one reply.
-use Rattle.std.proofs.Common.{◌≡◌, ◌⊎◌, inl, inr, ℕ, ◌+◌, ◌≤◌, List, [], ◌∷◌, ◌++◌, length, Option, Some, None, Ok, Err, Result, IfErr, IsErrAnd, arith, refl, sym, ap, subst, ◌∙◌}
+use Rattle.std.proofs.Common.{◌≡◌, ◌⊎◌, inl, inr, ℕ, ◌+◌, ◌≤◌, List, [], ◌∷◌, ◌++◌, length, Option, Some, None, Ok, Err, Result, arith, refl, sym, ap, subst, ◌∙◌}
 use Rattle.std.specs.Prelude.{MatchResult, IfSome, codes}
 use Rattle.std.specs.Io.KnownBytes.{Consumes, IsAtEnd}
 use Rattle.std.proofs.lemmas.List.{append-nil}
-use Rattle.std.proofs.lemmas.Result.{err_from_is_err_and}
 use Rattle.fing_text.specs.Told.{Told}
 use Rattle.fing_text.specs.Writes.{Wrote}
 use Rattle.omega_types.specs.Ty.{Ty}
@@ -51,10 +50,6 @@ use Rattle.fing_top.specs.Reply.{answered, accepted, refused, Spells, Telling, T
 use Rattle.fing_top.specs.Verdict.{unread, verdict_line, HasLine as HasVerdict}
 use Rattle.fing_top.specs.Answer.{limit, Change, Output, Confirms, IsWritten, AnswersBytes, IsAnswered, Untouched, Takes, IsHanded, Completes}
 use Rattle.fing_top.proofs.Replies.{one_reply}
-
--- the exit with a refusal
-pub exit : {T E : Type 0} (Q : E → Type 0) (r : Result T E) (e : E) → IsErrAnd r (λ y. y ≡ e) → Q e → IfErr r Q
-exit Q r e out h = let p = err_from_is_err_and r out in subst (λ s. IfErr s Q) (sym p.1) (subst Q (sym p.2) h)
 
 -- ---- what is compiled is replied
 

@@ -2,8 +2,8 @@
 // Stands on fing_words (words), fing_gen (the generated program), fing_lexer, fing_parser and fing_elab (from bytes to a
 // signature and a term), omega_checker, omega_machine, and the texts of sig_text, refusal_lines, omega_write and omega_read.
 // Proved: each answer comes with its cause, and what is written is the one reply that the definitions give for all the
-// bytes of the source, or for the generated program, and then the source stands; what is emitted was confirmed by the checker; where the bytes are known and nothing fails, that
-// reply is written whole, or want of memory is answered and nothing is written.
+// bytes of the source, or for the generated program; what is emitted was confirmed by the checker; where the bytes are
+// known and nothing fails, that reply is written whole, or want of memory is answered and nothing is written.
 #![tactic(auto)]
 
 mod counting;

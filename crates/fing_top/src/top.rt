@@ -86,8 +86,8 @@ fn answered<S: Source, K: Sink>(
 /// for `run` the value that the term comes to within the budget with status `Ok`, its fault with `Faulted`, or the budget
 /// with `Spent`. `gen` compiles and runs the generated program of its size, within 10,000,000 steps, and writes how many
 /// bindings the program has, how many nodes its whole term, and in how many steps the term comes to a value, with status
-/// `Ok`; where it comes to none, it writes what `run` does. Each of the four writes the line of the refusal with status
-/// `Refused` where the source has none of these; the checker confirms the term before anything is written. For `verify`,
+/// `Ok`; where it comes to none, it writes what `run` does. `check`, `emit` and `run` write the line of the refusal with
+/// status `Refused` where the source has none of these; the checker confirms the term before anything is written. For `verify`,
 /// whose source is Omega text, it writes `well typed` with status `Ok`, or the line of the first refusal with status
 /// `Refused`. Where the reply's own status is `Ok`, `Faulted` or `Spent`, `confirmed` becomes what the checker made of the
 /// term and the type that were derived or read; else it stands as it was.

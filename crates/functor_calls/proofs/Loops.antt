@@ -8,11 +8,11 @@ use Rattle.omega_kinds.specs.Kind.{Kind}
 use Rattle.omega_kinds.specs.View.{kind_tree}
 use Rattle.omega_kinds.specs.declared.kind.Kind.{Kind as SharedKind}
 use Rattle.omega_types.specs.Ty.{Ty}
-use Rattle.omega_types.specs.Substitution.{rename}
 use Rattle.omega_types.specs.Index.{shift}
 use Rattle.omega_types.specs.Scope.{scope_of}
 use Rattle.functor_calls.specs.LiftedVars.{lifted_var, lifted_vars}
 use Rattle.omega_types.specs.Binders.{extend, applied, arrow_over, lam_over}
+use Rattle.omega_types.proofs.BinderLaws.{lam-take, spread, spread-applied}
 
 less : (n : ℕ) → suc n - 1 ≡ n
 less n = omega arith
@@ -27,11 +27,6 @@ arrow-next kinds zero kind shared target grown whole lt le e ek es en = absurd (
 arrow-next kinds (suc n) kind shared target grown whole lt le e ek es en =
     ap₂ (λ m u. arrow_over (map kind_tree (take m kinds)) u) (less n) (en ∙ ap (λ k. Kind.Arrow k target) (es ∙ (ap kind_tree ek ∙ ap (λ m. kind_tree (get_or kinds m kind)) (less n)))) ∙ (sym (arrow-take kinds n kind target (omega arith)) ∙ e)
 
-lam-take : (kinds : List SharedKind) (n : ℕ) (d : SharedKind) (t : Ty) → n < length kinds → lam_over (map kind_tree (take (suc n) kinds)) t ≡ lam_over (map kind_tree (take n kinds)) (Ty.Lam (kind_tree (get_or kinds n d)) t)
-lam-take [] n d t lt = absurd (omega (arith, lt))
-lam-take (j ∷ kinds) zero d t lt = refl
-lam-take (j ∷ kinds) (suc n) d t lt = ap (Ty.Lam (kind_tree j)) (lam-take kinds n d t (omega arith))
-
 pub lam-next : (kinds : List SharedKind) (left : ℕ) (kind shared : SharedKind) (t grown whole : Ty) → 0 < left → left ≤ length kinds → lam_over (map kind_tree (take left kinds)) t ≡ whole → kind ≡ get_or kinds (left - 1) kind → kind_tree shared ≡ kind_tree kind → grown ≡ Ty.Lam (kind_tree shared) t → lam_over (map kind_tree (take (left - 1) kinds)) grown ≡ whole
 lam-next kinds zero kind shared t grown whole lt le e ek es en = absurd (omega (arith, lt))
 lam-next kinds (suc n) kind shared t grown whole lt le e ek es en =
@@ -43,24 +38,9 @@ pub extend-last : (ctx ks : List Kind) (k : Kind) → extend ctx (ks ++ (k ∷ [
 extend-last ctx [] k = refl
 extend-last ctx (j ∷ ks) k = extend-last (j ∷ ctx) ks k
 
--- a variable applied to so many, the last one being this
-abbrev pub spread : (index next count : ℕ) → Ty
-spread index next zero = Ty.Var index
-spread index next (suc count) = Ty.Apply (spread index (suc next) count) (Ty.Var next)
-
-spread-raised : (index next count : ℕ) → rename suc (spread index next count) ≡ spread (suc index) (suc next) count
-spread-raised index next zero = refl
-spread-raised index next (suc count) = ap (λ f. Ty.Apply f (Ty.Var (suc next))) (spread-raised index (suc next) count)
-
-applied-spread : (ks : List Kind) (index count : ℕ) → applied ks (spread index zero count) ≡ spread (length ks + index) zero (length ks + count)
-applied-spread [] index count = ap₂ (λ i n. spread i zero n) (omega arith) (omega arith)
-applied-spread (k ∷ ks) index count =
-    ap (λ f. applied ks (Ty.Apply f (Ty.Var zero))) (spread-raised index zero count)
-    ∙ (applied-spread ks (suc index) (suc count) ∙ ap₂ (λ i n. spread i zero n) (omega arith) (omega arith))
-
 pub spread-all : (ks : List Kind) (count left : ℕ) (t : Ty) → count ≡ length ks → left ≡ 0 → t ≡ spread count left (count - left) → t ≡ applied ks (Ty.Var zero)
 spread-all ks count left t ec el et =
-    et ∙ (ap (λ n. spread count n (count - n)) el ∙ (ap (λ n. spread count zero n) (omega arith) ∙ (ap (λ n. spread n zero n) (ec ∙ omega arith) ∙ sym (applied-spread ks zero zero))))
+    et ∙ (ap (λ n. spread count n (count - n)) el ∙ (ap (λ n. spread count zero n) (omega arith) ∙ (ap (λ n. spread n zero n) (ec ∙ omega arith) ∙ sym (spread-applied ks zero zero))))
 
 pub spread-next : (count left : ℕ) (t arg grown : Ty) → 0 < left → left ≤ count → t ≡ spread count left (count - left) → arg ≡ Ty.Var (left - 1) → grown ≡ Ty.Apply t arg → grown ≡ spread count (left - 1) (count - (left - 1))
 spread-next count zero t arg grown lt le et ea eg = absurd (omega (arith, lt))

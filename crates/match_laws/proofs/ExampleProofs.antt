@@ -29,7 +29,7 @@ use Rattle.match_laws.specs.Examples.{name_t, with_int, with_nothing, hides_t, I
 abbrev path_t : SigPath
 path_t = Item.Part name_t ∷ []
 
-abbrev body_t : Sig
+abbrev pub body_t : Sig
 body_t = Sig.Str (SigRow.More name_t (Sig.Typ (Ty.Var zero) Kind.Star) SigRow.End)
 
 root_t : (number : ℕ) → number ≡ zero → RootPath [] (Kind.Star ∷ []) body_t number path_t
@@ -42,7 +42,7 @@ root_t number e = subst (λ n. RootPath [] (Kind.Star ∷ []) body_t n path_t) (
     no_param (ParamOn.field HasField.here on) = no_inner on
     no_param (ParamOn.field (HasField.there n h) on) = elim h [ ]
 
-roots_t : EachRooted [] (Kind.Star ∷ []) body_t
+pub roots_t : EachRooted [] (Kind.Star ∷ []) body_t
 roots_t number lt = (path_t, root_t number (omega (arith, lt)))
 
 good_t : GoodAbs [] hides_t

@@ -1,7 +1,8 @@
 -- The fields of a finished structure, one after the other.
-use Rattle.std.specs.Prelude.{ℕ, zero, suc, ◌+◌, ◌<◌, ◌≤◌, List, [], ◌∷◌, ◌++◌, ◌≡◌, length, map, take, Option, Some, None, IsTrue}
+use Rattle.std.specs.Prelude.{ℕ, zero, suc, ◌+◌, ◌<◌, ◌≤◌, List, [], ◌∷◌, ◌++◌, ◌≡◌, length, map, take, Some, None, IsTrue}
 use Rattle.std.proofs.Common.{get_or, arith, take-suc, take_all}
 use Rattle.std.proofs.Math.Path.{refl, sym, ap, ap₂, ◌∙◌, subst}
+use Rattle.std.proofs.lemmas.List.{map-append}
 use Rattle.omega_kinds.specs.LabelOrder.{name_before}
 use Rattle.omega_kinds.specs.Name.{Name}
 use Rattle.omega_kinds.specs.declared.label.Label.{Label}
@@ -72,10 +73,6 @@ label-follows xs names n l m e lt el em rise = subst (λ k. LabelMayFollow xs (L
 
 -- one field more
 
-map-push : {A B : Type 0} (f : A → B) (xs : List A) (x : A) → map f (xs ++ x ∷ []) ≡ map f xs ++ f x ∷ []
-map-push f [] x = refl
-map-push f (y ∷ xs) x = ap (λ zs. f y ∷ zs) (map-push f xs x)
-
 take-next : {A : Type 0} (xs : List A) (n : ℕ) (d : A) → n < length xs → take (n + 1) xs ≡ take n xs ++ get_or xs n d ∷ []
 take-next xs n d lt = let one : n + 1 ≡ suc n = omega arith in ap (λ m. take m xs) one ∙ take-suc xs n d lt
 
@@ -85,7 +82,7 @@ names-next xs more names n l m s e lt el em ew =
 
 pub labels-next : {T : Type 0} (xs more : List (Label × T)) (names : List Name) (n : ℕ) (l m : Name) (s : T) → firsts xs ≡ map Label.Name (take n names) → n < length names → l ≡ get_or names n l → m ≡ l → more ≡ xs ++ (Label.Name m, s) ∷ [] → firsts more ≡ map Label.Name (take (n + 1) names)
 labels-next xs more names n l m s e lt el em ew =
-    ap firsts ew ∙ (firsts-push xs (Label.Name m, s) ∙ (ap₂ (λ us u. us ++ Label.Name u ∷ []) e (em ∙ el) ∙ (sym (map-push Label.Name (take n names) (get_or names n l)) ∙ ap (map Label.Name) (sym (take-next names n l lt)))))
+    ap firsts ew ∙ (firsts-push xs (Label.Name m, s) ∙ (ap₂ (λ us u. us ++ Label.Name u ∷ []) e (em ∙ el) ∙ (sym (map-append Label.Name (take n names) (get_or names n l ∷ [])) ∙ ap (map Label.Name) (sym (take-next names n l lt)))))
 
 collected-first : {g : Env} {m k : Name} {names : List Name} {b : Label} {s : Sig} {e : Term} {fs : SigRow} {es : TermRow} → Collected g (m ∷ names) (SigRow.More k s fs) (TermRow.More b e es) → (m ≡ k) × (b ≡ Label.Name m) × (find g m ≡ Some (s, e)) × Collected g names fs es
 collected-first (Collected.next h c) = (refl, refl, h, c)

@@ -1,6 +1,8 @@
 -- What the calls make is what the rules give.
-use Rattle.std.specs.Prelude.{ℕ, zero, ◌<◌, ◌++◌, List, [], ◌∷◌, ◌≡◌, length, map, Option, Some, None}
+use Rattle.std.specs.Prelude.{ℕ, zero, ◌<◌, ◌++◌, List, [], ◌∷◌, ◌≡◌, ◌==◌, true, length, map, Option, Some, None}
 use Rattle.std.proofs.Math.Path.{refl, sym, subst, ap, ap₂, ◌∙◌}
+use Rattle.std.proofs.Common.{arith}
+use Rattle.std.proofs.lemmas.Bool.{eqb-true}
 use Rattle.omega_kinds.specs.Kind.{Kind}
 use Rattle.omega_kinds.specs.declared.label.Label.{Label}
 use Rattle.omega_kinds.specs.declared.effect.Effect.{Effect}
@@ -10,7 +12,7 @@ use Rattle.omega_types.specs.Ty.{Ty}
 use Rattle.omega_types.specs.Normality.{Normal}
 use Rattle.omega_types.specs.Mentions.{Mentions}
 use Rattle.omega_types.specs.Index.{bump, shift}
-use Rattle.omega_types.specs.Substitution.{rename, substitute}
+use Rattle.omega_types.specs.Substitution.{rename}
 use Rattle.omega_types.specs.Binders.{extend, lifts, raise, vars, puts, NormalForms}
 use Rattle.omega_terms.specs.Term.{Term}
 use Rattle.omega_terms.specs.Instance.{Instance}
@@ -18,9 +20,9 @@ use Rattle.omega_terms.specs.Coercions.{result_label}
 use Rattle.omega_terms.specs.PartTerms.{one_field}
 use Rattle.omega_terms.specs.Shorthands.{Packs, insts, let_in, opens, ty_lam_over}
 use Rattle.signatures.specs.Env.{Env, find}
-use Rattle.signatures.specs.Signatures.Sig.{Sig, Abs, SigRow, HasField, NoField, here, there, Module, made}
+use Rattle.signatures.specs.Signatures.Sig.{Sig, Abs, SigRow, HasField, NoField, Module, made}
 use Rattle.signatures.specs.Signatures.SigSubst.{rename_sig, rename_abs, rename_sig_row}
-use Rattle.signatures.specs.Signatures.SigMentions.{MentionsSig, MentionsAbs}
+use Rattle.signatures.specs.Signatures.SigMentions.{MentionsSig}
 use Rattle.signatures.specs.Signatures.Alike.{AlikeSig, NormalSig, NormalAbs, NormalSigRow, IsSigAt, IsAbsAt}
 use Rattle.signatures.specs.Signatures.Encoding.{enc, enc_abs}
 use Rattle.signatures.specs.Explicit.WellFormed.{WellFormed, WellFormedRow, abs}
@@ -29,13 +31,14 @@ use Rattle.sig_laws.specs.Good.{OkAbs, OkModule, NormalTerm}
 use Rattle.sig_laws.proofs.Algebra.BinderLaws.{extend-append}
 use Rattle.sig_laws.proofs.Encoded.EncodingLaws.{enc_well_formed-normal}
 use Rattle.sig_laws.proofs.Formed.Conditions.{abs-body, str-fields, row-field}
+use Rattle.sig_laws.proofs.Algebra.PathLaws.{no-field, field-normal}
 use Rattle.semantic_sigs.specs.Changes.{ty_in, putting}
 use Rattle.semantic_sigs.specs.Fields.{sig_row}
 use Rattle.semantic_sigs.specs.declared.tree.SigNode.{SigNode}
 use Rattle.semantic_sigs.specs.declared.tree.SigNode.TheVariants as node
 use Rattle.semantic_sigs.specs.View.{kinds_of, body_of, sig_of}
 use Rattle.omega_kinds.specs.View.{kind_tree}
-use Rattle.module_rules.specs.ModWhy.{ModWhy, Unbound, NoPart, NotStructure, NotFunctor, WrongPath, Escapes}
+use Rattle.module_rules.specs.ModWhy.{Unbound, NoPart, NotStructure, NotFunctor, WrongPath, Escapes}
 use Rattle.module_rules.specs.ModRules.{NamedGives, NamedRefuses, ProjectRefuses, TypePathRefuses, ValuePathRefuses, SigPathRefuses, GenerativeGives, PartsGive, FunctorRefuses, ApplyGives, SealGives, IncludeGives, IncludeRefuses}
 use Rattle.module_rules.specs.PathUse.{TypeOfPath, ValueOfPath, SigOfPath, value_of}
 use Rattle.module_rules.specs.Projection.{Projected}
@@ -73,6 +76,13 @@ pub packs-at : (ts us : List Ty) (e : Term) (to u : Ty) (d : Term) → ts ≡ us
 packs-at ts us e to u d et eu p ctx fills =
     subst (λ v. Packs ctx us e v d) eu (subst (λ vs. Packs ctx vs e to d) et (p ctx (subst (λ vs. Fills ctx vs to) (sym et) (subst (Fills ctx us) (sym eu) fills))))
 
+none-in : (ts : List Ty) → true ≡ (length ts == 0) → ts ≡ []
+none-in [] e = refl
+none-in (t ∷ ts) e = absurd (omega (arith, eqb-true (length (t ∷ ts)) 0 (sym e)))
+
+pub packs-none : (ts us : List Ty) (e : Term) (u : Ty) (d : Term) → true ≡ (length ts == 0) → ts ≡ us → d ≡ e → (ctx : List Kind) → Packs ctx us e u d
+packs-none ts us e u d none et ed ctx = subst (λ x. Packs ctx us e u x) (sym ed) (subst (λ vs. Packs ctx vs e u e) (sym (none-in ts none) ∙ et) Packs.none)
+
 pub packs-again : (ks : List Kind) (count : ℕ) (x : Abs) (from to : Ty) (ts us : List Ty) (e d : Term) → from ≡ enc_abs x → count ≡ length ks → to ≡ shift count 0 from → us ≡ vars ks → ts ≡ us → ((ctx : List Kind) → Fills ctx ts to → Packs ctx ts e to d) → PackedAgain ks x e d
 packs-again ks count x from to ts us e d ef ec et eu es p ctx fills =
     packs-at ts (vars ks) e to (raise ks (enc_abs x)) d (es ∙ eu) (et ∙ (ap (shift count 0) ef ∙ shift-raise ks count (enc_abs x) (sym ec))) p (extend ctx ks) fills
@@ -81,10 +91,6 @@ pub opened-by : (ks : List Kind) (js : List Kind) (count : ℕ) (e body out : Te
 opened-by ks js count e body out from u ec ej ef h = h ks (sym (ec ∙ ap length ej)) ∙ ap (λ v. opens ks e v body) ef
 
 -- parts
-
-field-normal : (ctx : List Kind) {fs : SigRow} {l : Name} {s : Sig} → NormalSigRow ctx fs → HasField fs l s → NormalSig ctx s
-field-normal ctx n HasField.here = n.0
-field-normal ctx n (HasField.there d h) = field-normal ctx n.1 h
 
 part-ok : (ctx ks : List Kind) (fs : SigRow) (l : Name) (s : Sig) → OkAbs ctx (Abs.Ex ks (Sig.Str fs)) → HasField fs l s → OkAbs ctx (Abs.Ex ks s)
 part-ok ctx ks fs l s ok h = (abs (row-field (str-fields (abs-body ok.0)) h), field-normal (extend ctx ks) ok.1 h)
@@ -111,11 +117,6 @@ projected-impure (Abs.Ex ks b) fs l s ts e f eb h p ctx ok = go b eb ok p
 pub opened-part : (x y : Abs) (ks : List Kind) (e g part own body f : Term) (l : Name) → own ≡ Term.Var zero → part ≡ Term.Get own (Label.Name l) → ks ≡ kinds_of x → PackedAgain ks y part body → g ≡ e → f ≡ opens (kinds_of x) g (enc_abs x) body → OpenedPart x y e l f
 opened-part x y ks e g part own body f l eo ep ek p eg ef =
     (body, subst (λ js. PackedAgain js y (Term.Get (Term.Var zero) (Label.Name l)) body) ek (subst (λ u. PackedAgain ks y u body) (ep ∙ ap (λ u. Term.Get u (Label.Name l)) eo) p), ef ∙ ap (λ u. opens (kinds_of x) u (enc_abs x) body) eg)
-
-no-field : {l : Name} {s : Sig} (fs : SigRow) → NoField l fs → HasField fs l s → ⊥
-no-field SigRow.End n h = elim h [ ]
-no-field (SigRow.More m t rest) n here = n.0 refl
-no-field (SigRow.More m t rest) n (there e h) = no-field rest n.1 h
 
 pub project_no-structure : (f : Effect) (x : Abs) (ts : List Ty) (e : Term) (l : Name) (b : Sig) → b ≡ body_of x → ((fs : SigRow) → b ≡ Sig.Str fs → ⊥) → ProjectRefuses (made f x ts e) l NotStructure
 project_no-structure f (Abs.Ex ks s) ts e l b eb h = ProjectRefuses.no_structure (λ fs q. h fs (eb ∙ q))

@@ -1,7 +1,7 @@
 -- What stands outside of hidden types, and what does not.
 use Rattle.std.specs.Prelude.{ℕ, ◌+◌, ◌<◌, ◌≤◌, ◌++◌, List, [], ◌∷◌, ◌≡◌, length}
 use Rattle.std.proofs.Common.{arith, append_assoc, length-append}
-use Rattle.std.proofs.Math.Path.{refl, sym, subst, ap, ◌∙◌, fun_ext}
+use Rattle.std.proofs.Math.Path.{refl, sym, subst, ap, ◌∙◌}
 use Rattle.omega_kinds.specs.Kind.{Kind}
 use Rattle.omega_types.specs.Ty.{Ty}
 use Rattle.omega_types.specs.Normality.{Normal}
@@ -14,8 +14,8 @@ use Rattle.omega_types.proofs.BinderLaws.{past-maps}
 use Rattle.omega_types.proofs.BinderPuts.{past-plus, its-form}
 use Rattle.omega_types.proofs.Preservation.{normal-kind, normal-rename, conv-rename}
 use Rattle.omega_types.proofs.Readback.{unique_normal_forms}
-use Rattle.signatures.specs.Signatures.Sig.{Sig, Abs}
-use Rattle.signatures.specs.Signatures.SigSubst.{rename_sig, rename_abs, raise_abs, substitute_abs}
+use Rattle.signatures.specs.Signatures.Sig.{Abs}
+use Rattle.signatures.specs.Signatures.SigSubst.{rename_abs, raise_abs}
 use Rattle.signatures.specs.Signatures.SigMentions.{MentionsAbs}
 use Rattle.signatures.specs.Signatures.Alike.{NormalAbs, ConvAbs}
 use Rattle.sig_laws.proofs.Algebra.SigMention.{mentions-rename, mentions_abs-substitute, unmentioned_abs}

@@ -1,7 +1,8 @@
 -- The variables of binders, as they are built one after the other, and binders in a row.
 use Rattle.std.specs.Prelude.{ℕ, zero, suc, ◌+◌, ◌-◌, ◌<◌, ◌≤◌, List, [], ◌∷◌, ◌++◌, ◌≡◌, length, map, drop, take}
-use Rattle.std.proofs.Common.{get_or, arith, append_assoc, append-nil, take_all, take-suc, drop-cons}
-use Rattle.std.proofs.Math.Path.{refl, sym, ap, ap₂, ◌∙◌, subst}
+use Rattle.std.proofs.Common.{get_or, arith, append_assoc, append-nil, take_all, take-suc}
+use Rattle.std.proofs.Math.Path.{refl, sym, ap, ap₂, ◌∙◌}
+use Rattle.std.proofs.lemmas.List.{map-append}
 use Rattle.omega_kinds.specs.Kind.{Kind}
 use Rattle.omega_kinds.specs.View.{kind_tree}
 use Rattle.omega_kinds.specs.declared.kind.Kind.{Kind as SharedKind}
@@ -12,8 +13,9 @@ use Rattle.omega_types.specs.Index.{bump, shift}
 use Rattle.omega_types.specs.Binders.{extend, past, vars, puts, NormalForms}
 use Rattle.omega_types.proofs.Algebra.{rename-weaken}
 use Rattle.omega_types.proofs.BinderPuts.{past-plus, NormalTypes, forms-types}
-use Rattle.semantic_sigs.specs.Changes.{Head, ty_in, putting}
+use Rattle.semantic_sigs.specs.Changes.{ty_in, putting}
 use Rattle.semantic_sigs.proofs.HeadLaws.{Good, in-normal, good-puts, good-vars}
+use Rattle.semantic_sigs.proofs.MentionSteps.{length-trees}
 
 eta-rename : (k : Kind) (r : ℕ → ℕ) (t : Ty) → rename r (eta k t) ≡ eta k (rename r t)
 eta-rename Kind.Star r t = refl
@@ -25,10 +27,6 @@ pub own-raised : (k : Kind) (inner : ℕ) (n t : Ty) → n ≡ eta k (Ty.Var zer
 own-raised k inner n t en et =
     let plus : inner + 0 ≡ inner = omega arith in
     et ∙ (ap (shift inner 0) en ∙ (eta-rename k (bump inner 0) (Ty.Var zero) ∙ ap (λ i. eta k (Ty.Var i)) plus))
-
-length-trees : (items : List SharedKind) → length (map kind_tree items) ≡ length items
-length-trees [] = refl
-length-trees (k ∷ items) = ap suc (length-trees items)
 
 -- the number of binders
 pub count-kinds : (items : List SharedKind) (ks : List Kind) (count : ℕ) → map kind_tree items ≡ ks → count ≡ length items → length ks ≡ count
@@ -66,15 +64,11 @@ own-done items ks n ts e le ew =
 
 -- binders of two lists, one after the other
 
-map-push : {A B : Type 0} (f : A → B) (xs : List A) (x : A) → map f (xs ++ x ∷ []) ≡ map f xs ++ f x ∷ []
-map-push f [] x = refl
-map-push f (y ∷ xs) x = ap (λ zs. f y ∷ zs) (map-push f xs x)
-
 -- one item more of a second list, mapped, behind a first one
 pub pushed-next : {A B : Type 0} (f : A → B) (first ys more : List B) (xs : List A) (n : ℕ) (x : A) (y : B) → n < length xs → x ≡ get_or xs n x → y ≡ f x → ys ≡ first ++ map f (take n xs) → more ≡ ys ++ y ∷ [] → more ≡ first ++ map f (take (n + 1) xs)
 pushed-next f first ys more xs n x y lt ex ey eys em =
     let one : suc n ≡ n + 1 = omega arith in
-    em ∙ (ap₂ (λ us u. us ++ u ∷ []) eys (ey ∙ ap f ex) ∙ (append_assoc first (map f (take n xs)) (f (get_or xs n x) ∷ []) ∙ ap (λ us. first ++ us) (sym (map-push f (take n xs) (get_or xs n x)) ∙ (ap (map f) (sym (take-suc xs n x lt)) ∙ ap (λ m. map f (take m xs)) one))))
+    em ∙ (ap₂ (λ us u. us ++ u ∷ []) eys (ey ∙ ap f ex) ∙ (append_assoc first (map f (take n xs)) (f (get_or xs n x) ∷ []) ∙ ap (λ us. first ++ us) (sym (map-append f (take n xs) (get_or xs n x ∷ [])) ∙ (ap (map f) (sym (take-suc xs n x lt)) ∙ ap (λ m. map f (take m xs)) one))))
 
 pub pushed-done : {A B : Type 0} (f : A → B) (first ys whole : List B) (xs : List A) (n : ℕ) → length xs ≤ n → ys ≡ first ++ map f (take n xs) → map f xs ≡ whole → ys ≡ first ++ whole
 pushed-done f first ys whole xs n le e w = e ∙ (ap (λ zs. first ++ map f zs) (take_all n xs le) ∙ ap (λ us. first ++ us) w)

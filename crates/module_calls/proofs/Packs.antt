@@ -1,10 +1,8 @@
 -- The types that a module keeps fill the quantifiers of its encoding, and so do the variables of binders below these.
-use Rattle.std.specs.Prelude.{ℕ, ◌+◌, List, [], ◌∷◌, ◌++◌, ◌≡◌, length}
-use Rattle.std.proofs.Common.{arith, map}
-use Rattle.std.proofs.Math.Path.{refl, sym, subst, ap, ◌∙◌, fun_ext}
+use Rattle.std.specs.Prelude.{ℕ, ◌+◌, List, [], ◌++◌, ◌≡◌, length}
+use Rattle.std.proofs.Common.{arith}
+use Rattle.std.proofs.Math.Path.{refl, sym, subst, ap, fun_ext}
 use Rattle.omega_kinds.specs.Kind.{Kind}
-use Rattle.omega_kinds.specs.View.{kind_tree}
-use Rattle.omega_kinds.specs.declared.kind.Kind.{Kind as SharedKind}
 use Rattle.omega_types.specs.Ty.{Ty}
 use Rattle.omega_types.specs.Normality.{Normal}
 use Rattle.omega_types.specs.Substitution.{rename}
@@ -46,10 +44,6 @@ pub shift-raise : (ks : List Kind) (count : ℕ) (t : Ty) → length ks ≡ coun
 shift-raise ks count t e = ap (λ r. rename r t) (bump-past ks count e)
 
 -- no binders
-
-pub no-kinds : (items : List SharedKind) (ks : List Kind) → map kind_tree items ≡ ks → length items ≡ 0 → ks ≡ []
-no-kinds [] ks e l = sym e
-no-kinds (k ∷ items) ks e l = absurd (omega (arith, l))
 
 pub packs-nothing : (ks : List Kind) (x : Abs) (e d : Term) → ks ≡ [] → d ≡ e → PackedAgain ks x e d
 packs-nothing ks x e d ek ed = subst (λ js. PackedAgain js x e d) (sym ek) (subst (PackedAgain [] x e) (sym ed) (λ ctx f. Packs.none))

@@ -5,7 +5,7 @@ use Rattle.std.proofs.Math.Path.{refl, sym, ap, ap₂, ◌∙◌, fun_ext}
 use Rattle.omega_kinds.specs.Kind.{Kind}
 use Rattle.omega_types.specs.Ty.{Ty, lift}
 use Rattle.omega_types.specs.Substitution.{rename, substitute, under}
-use Rattle.omega_types.specs.Index.{Slot, taken, kept, raised, slot, bump}
+use Rattle.omega_types.specs.Index.{taken, kept, raised, slot, bump}
 use Rattle.omega_types.specs.Binders.{past}
 use Rattle.omega_types.proofs.Algebra.{substitute-rename, substitute-vars}
 use Rattle.omega_types.proofs.BinderPuts.{past-plus}

@@ -73,8 +73,8 @@ pub fn end_struct(alloc: Global, env: &Env, names: &Names) -> Result<Module, Mem
     requires rising { NamesRise names.now }
     ensures { IfOk result (λ m. (fs : SigRow) × (es : TermRow) × Collected env.now names.now fs es × (module_of m ≡ made Pure (AbsTree.Ex [] (Str fs)) [] (Fields es))) }
 {
-    let mut parts = SigFields::new(alloc);
-    let mut terms = TermFields::new(alloc);
+    let mut parts = SigFields::with_capacity(alloc, names.items().len())?;
+    let mut terms = TermFields::with_capacity(alloc, names.items().len())?;
     for name in names.items() {
         let Some(found) = env.find(alloc, name)? else {
             unreachable!();

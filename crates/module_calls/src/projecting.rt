@@ -165,6 +165,10 @@ pub(crate) fn packed_term(alloc: Global, whole: &Module) -> Result<Term, Mem>
 fn packed_pure(alloc: Global, whole: &Module) -> Result<Term, Mem>
     ensures { IfOk result (λ d. (ctx : List KindTree) → Fills ctx whole.now.types (enc_abs whole.now.sig) → Packs ctx whole.now.types whole.now.term (enc_abs whole.now.sig) d) }
 {
+    let types = whole.types.items();
+    if types.is_empty() {
+        return whole.term.share();
+    }
     let to = encode(alloc, &whole.sig)?;
-    pack_up(alloc, whole.types.items(), &whole.term, &to)
+    pack_up(alloc, types, &whole.term, &to)
 }

@@ -24,12 +24,12 @@ use Rattle.signatures.specs.Packing.{Packed}
 use Rattle.signatures.specs.Verdict.{Verdict, holds, refuses, One, Perhaps, one, none}
 use Rattle.sig_laws.proofs.Formed.Conditions.{abs-body, str-fields, left-functor, match-kinds}
 use Rattle.sig_laws.proofs.Formed.WellFormedLaws.{explicit-kinds}
-use Rattle.sig_laws.proofs.Formed.Forms.{sig-functor, sig-type, sig-value, sig-meta, sig-structure, field-at}
+use Rattle.sig_laws.proofs.Formed.Forms.{sig-functor, sig-type, sig-value, sig-meta, sig-structure, field-at, pair-same}
 use Rattle.premise_laws.proofs.Determined.{packed-one, result-one}
 use Rattle.module_rules.specs.PathUse.{Outside, SigOutside, TypeOfPath, ValueOfPath, SigOfPath, value_of}
 use Rattle.module_rules.specs.Projection.{Projected}
 use Rattle.module_rules.specs.Sequence.{Seq, field_lets}
-use Rattle.sig_laws.specs.Good.{OkRow, OkModule}
+use Rattle.sig_laws.specs.Good.{OkRow, OkModule, OkSig, OkRight}
 use Rattle.module_rules.specs.ModWhy.{ModWhy, Unbound, NoPart, NotStructure, NotFunctor, WrongPath, Escapes}
 use Rattle.module_rules.specs.ModRules.{NamedGives, NamedRefuses, ProjectRefuses, TypePathRefuses, ValuePathRefuses, SigPathRefuses, GenerativeGives, PartsGive, FunctorRefuses, ApplyGives, IncludeGives, IncludeRefuses, SealGives, ValueGives, TypeGives, SignatureGives}
 use Rattle.module_rules.specs.OneOutcome.{OneNamed, OneProjected, OneTypePath, OneValuePath, OneSigPath, OneGenerative, OneParts, OneApply, OneInclude, OneSeal, OneValueModule, OneTypeModule, OneSignatureModule}
@@ -104,9 +104,6 @@ one_projected ctx (made f (Abs.Ex ks s) ts e) l ok = go (sig-structure s)
         same why (inr x) = absurd (n x.0 x.1)
 
 -- paths as types
-
-pair-same : {A B : Type 0} {a : A} {b : B} (p : A × B) → p.0 ≡ a → p.1 ≡ b → p ≡ (a, b)
-pair-same p x y = λ i. (x i, y i)
 
 type-view : {ctx ks : List Kind} {f : Effect} {s : Sig} {ts : List Ty} {e : Term} (o : Ty × Kind) → TypeOfPath ctx (made f (Abs.Ex ks s) ts e) o.0 o.1 → (t : Ty) × (s ≡ Sig.Typ t o.1) × Outside ctx ks t o.1 o.0
 type-view _ (TypeOfPath.type_of {t = t} o) = (t, refl, o)
@@ -262,6 +259,9 @@ parts-view (PartsGive.parts {ks = ks} {s = t}) = (ks, t, refl, refl)
 
 parts-only : {f : Effect} {ks : List Kind} {t : Sig} {y : Abs} (o : Effect × Abs × Abs) → PartsGive (Sig.Fun f ks t y) o.0 o.1 o.2 → o ≡ (f, Abs.Ex ks t, y)
 parts-only _ PartsGive.parts = refl
+
+pub param-ok : {ctx : List Kind} {s : Sig} {f : Effect} {param result : Abs} → PartsGive s f param result → OkSig ctx s → OkRight ctx param
+param-ok PartsGive.parts w = ((left-functor w.0).0, w.1.0)
 
 functor-refused : {s : Sig} {why : ModWhy} → FunctorRefuses s why → ((f : Effect) (ks : List Kind) (t : Sig) (x : Abs) → s ≢ Sig.Fun f ks t x) × (why ≡ NotFunctor)
 functor-refused (FunctorRefuses.no_functor n) = (n, refl)

@@ -1,18 +1,15 @@
 -- The types of a record's fields, found one after the other.
-use Rattle.std.proofs.Common.{◌≡◌, ℕ, zero, suc, ◌+◌, ◌<◌, ◌≤◌, [], ◌∷◌, ◌++◌, List, Option, Some, None, true, not, if◌then◌else◌, length, get_or, take, drop, map, refl, sym, ap, ap₂, ◌∙◌, subst, arith, drop-cons}
-use Rattle.std.proofs.lemmas.Bool.{false≢true}
+use Rattle.std.proofs.Common.{◌≡◌, ℕ, zero, suc, ◌+◌, ◌<◌, ◌≤◌, [], ◌∷◌, ◌++◌, List, Option, Some, None, true, if◌then◌else◌, length, get_or, take, drop, map, refl, sym, ap, ap₂, ◌∙◌, subst, arith, drop-cons}
 use Rattle.std.proofs.lemmas.List.{drop_all}
 use Rattle.std.proofs.Math.Seq.{take-suc}
 use Rattle.std.specs.Option.{option_map}
-use Rattle.std.specs.Ordering.{is_eq, is_lt}
-use Rattle.std.specs.declared.cmp.Ordering.{Ordering}
-use Rattle.std.specs.declared.cmp.Ordering.TheVariants.{Less, Equal, Greater}
 use Rattle.omega_kinds.specs.Kind.{Kind}
-use Rattle.omega_kinds.specs.LabelOrder.{label_cmp, LabelBefore}
+use Rattle.omega_kinds.specs.LabelOrder.{LabelBefore}
 use Rattle.omega_kinds.specs.declared.label.Label.{Label}
 use Rattle.omega_kinds.proofs.LabelLaws.{transitive}
 use Rattle.omega_types.specs.Ty.{Ty, Row}
 use Rattle.omega_types.specs.Fields.{Pairs, row, Rises, MayFollow}
+use Rattle.omega_types.proofs.KindsFound.{before-not}
 use Rattle.omega_terms.specs.Term.{Term, TermRow}
 use Rattle.omega_terms.specs.Fields.{TermPairs, term_row}
 use Rattle.omega_checker.specs.Found.{synth_in, synth_row, more_type, is_new, labels_differ}
@@ -37,7 +34,7 @@ map_more : (xs : Pairs) (l : Label) (t : Ty) (o : Option Row) → option_map (ro
 map_more xs l t None = refl
 map_more xs l t (Some r) = ap Some (row_after-more xs l t r)
 
-left-more : (i : ℕ) (xs : TermPairs) (x : Label × Term) → i < length xs → x ≡ get_or xs i x → term_row (drop i xs) ≡ TermRow.More x.0 x.1 (term_row (drop (i + 1) xs))
+pub left-more : (i : ℕ) (xs : TermPairs) (x : Label × Term) → i < length xs → x ≡ get_or xs i x → term_row (drop i xs) ≡ TermRow.More x.0 x.1 (term_row (drop (i + 1) xs))
 left-more i xs x h e = ap term_row (drop-cons xs i x h ∙ ap₂ (λ y m. y ∷ drop m xs) (sym e) (next i))
 
 -- one more type found
@@ -60,14 +57,6 @@ found-all ctx vars i xs types whole h p =
     ap Some (sym (row_after-end types)) ∙ (ap (λ ys. option_map (row_after types) (synth_row ctx vars (term_row ys))) (sym (drop_all i xs p)) ∙ h)
 
 -- labels that rise differ
-
-not-eq : (o : Ordering) → (o ≡ Equal → ⊥) → not (is_eq o) ≡ true
-not-eq Less h = refl
-not-eq Equal h = absurd (h refl)
-not-eq Greater h = refl
-
-before-not : (l m : Label) → LabelBefore l m → not (is_eq (label_cmp l m)) ≡ true
-before-not l m h = not-eq (label_cmp l m) (λ s. absurd (false≢true (sym (ap is_lt s) ∙ h)))
 
 rises-new : (l : Label) (x : Label × Term) (xs : TermPairs) → LabelBefore l x.0 → Rises (x ∷ xs) → is_new l (term_row (x ∷ xs)) ≡ true
 rises-new l x [] h r = rw (before-not l x.0 h) refl

@@ -269,7 +269,7 @@ fn synth_fields(
     ensures vars { OnOk result (vars.new.items ≡ vars.old.items) }
     ensures found { IfOk result (λ o. o ≡ (if labels_differ (term_row fields.now) then option_map TyTree.Fields (synth_row (scope_of kinds.old.items) (reverse vars.old.items) (term_row fields.now)) else None)) }
 {
-    let mut types = TyFields::new(alloc);
+    let mut types = TyFields::with_capacity(alloc, fields.items().len())?;
     for field in fields.items() {
         let Some(ty) = synth(alloc, kinds, vars, &field.1)? else {
             return Ok(None);

@@ -1,21 +1,21 @@
 // Kinds, whose parts are shared.
 ghost use Rattle.std.specs.Prelude.{◌≡◌, ◌↔◌, IfOk, IsTrue};
 ghost use Rattle.omega_kinds.specs.Kind.{Star, Arrow, kind_eq};
-ghost use Rattle.omega_kinds.specs.View.{kind_tree};
+ghost use Rattle.omega_kinds.specs.View.{height_kept, kind_tree, size_kept};
 
-use crate::height::height_over;
+use crate::extent::{Extent, NOTHING};
 use crate::memory::Mem;
 use std::alloc::Global;
 use std::rc::Rc;
 
-/// A kind of System Fω: that of types, `*`, or that of operators, `K > K`, which keeps its height.
+/// A kind of System Fω: that of types, `*`, or that of operators, `K > K`, which keeps its extent.
 /// Contracts see it as its plain tree.
 ///
 /// Pierce, "Types and Programming Languages", section 29.1, Type operators and kinding.
 #[derive(Drop)]
 pub enum Kind {
     Star,
-    Arrow(Rc<Kind>, Rc<Kind>, u32),
+    Arrow(Rc<Kind>, Rc<Kind>, Extent),
 }
 
 impl Kind {
@@ -25,31 +25,34 @@ impl Kind {
     {
         match self {
             Kind::Star => Ok(Kind::Star),
-            Kind::Arrow(from, to, height) => {
+            Kind::Arrow(from, to, extent) => {
                 let from = from.clone()?;
                 let to = to.clone()?;
-                Ok(Kind::Arrow(from, to, *height))
+                Ok(Kind::Arrow(from, to, *extent))
             }
         }
     }
 
-    /// How many arrows stand inside one another. It decides nothing but where memory is refused.
-    pub fn height(&self) -> u32 {
+    /// How high and how large the kind is. Takes one step.
+    pub fn extent(&self) -> Extent
+        ensures height { result.height ≡ height_kept self.now }
+        ensures size { result.size ≡ size_kept self.now }
+    {
         match self {
-            Kind::Star => 0,
-            Kind::Arrow(_, _, height) => *height,
+            Kind::Star => NOTHING,
+            Kind::Arrow(_, _, extent) => *extent,
         }
     }
 }
 
-/// The kind of operators from one kind to another. `Err` is want of memory, also for a kind that is too high.
+/// The kind of operators from one kind to another. `Err` is want of memory, also for a kind that is too high or too large.
 pub fn arrow(alloc: Global, from: Kind, to: Kind) -> Result<Kind, Mem>
     ensures { IfOk result (λ k. kind_tree k ≡ Arrow (kind_tree from) (kind_tree to)) }
 {
-    let height = height_over(from.height().max(to.height()), 1)?;
+    let extent = from.extent().beside(to.extent()).over(1)?;
     let from = Rc::new(alloc, from)?;
     let to = Rc::new(alloc, to)?;
-    Ok(Kind::Arrow(from, to, height))
+    Ok(Kind::Arrow(from, to, extent))
 }
 
 /// Whether two kinds are the same tree. Takes no memory.

@@ -5,7 +5,7 @@
 #![tactic(auto)]
 
 pub mod effect;
-pub mod height;
+pub mod extent;
 pub mod kind;
 pub mod kinds;
 pub mod label;
@@ -14,7 +14,7 @@ pub mod name;
 pub mod names;
 
 pub use effect::Effect;
-pub use height::height_over;
+pub use extent::{Extent, NOTHING};
 pub use kind::{Kind, arrow, same_kind};
 pub use kinds::Kinds;
 pub use label::{Label, compare, same_label};

@@ -1,16 +1,11 @@
 -- The field of a label is found by going through the fields.
-use Rattle.std.proofs.Common.{◌≡◌, ◌≢◌, ℕ, suc, ◌+◌, ◌<◌, ◌≤◌, ◌∷◌, length, get_or, drop, refl, sym, ap, ap₂, ◌∙◌, subst, arith, drop-cons}
+use Rattle.std.proofs.Common.{◌≡◌, ◌≢◌, ℕ, ◌+◌, ◌<◌, ◌≤◌, length, get_or, drop, refl, sym, subst}
 use Rattle.std.proofs.lemmas.List.{drop_all}
 use Rattle.omega_kinds.specs.declared.label.Label.{Label}
 use Rattle.omega_terms.specs.Term.{Term, TermRow}
 use Rattle.omega_terms.specs.Fields.{TermPairs, term_row}
 use Rattle.omega_terms.specs.Steps.{HasField}
-
-next : (n : ℕ) → suc n ≡ n + 1
-next n = omega arith
-
-pub left-more : (i : ℕ) (xs : TermPairs) (x : Label × Term) → i < length xs → x ≡ get_or xs i x → term_row (drop i xs) ≡ TermRow.More x.0 x.1 (term_row (drop (i + 1) xs))
-left-more i xs x h e = ap term_row (drop-cons xs i x h ∙ ap₂ (λ y m. y ∷ drop m xs) (sym e) (next i))
+use Rattle.omega_checker.proofs.FieldLoop.{left-more}
 
 -- the label's field is among the fields from the place on, exactly where it is among all
 pub record StillThere (l : Label) (xs : TermPairs) (i : ℕ) : Type 0 where

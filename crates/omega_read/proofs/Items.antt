@@ -4,7 +4,7 @@ use Rattle.std.proofs.Math.Seq.{drop-cons}
 use Rattle.std.proofs.lemmas.List.{take_all}
 use Rattle.omega_spelling.specs.Refusals.{Place, goes_on, after, is_wide, wide_from, zeroed_item, zeroed_from}
 
-drop_here : (bs : List ℕ) (i d : ℕ) → i < length bs → drop i bs ≡ get_or bs i d ∷ drop (i + 1) bs
+pub drop_here : (bs : List ℕ) (i d : ℕ) → i < length bs → drop i bs ≡ get_or bs i d ∷ drop (i + 1) bs
 drop_here bs i d lt = rw add-one (drop-cons bs i d lt)
 
 drop_out : (bs : List ℕ) (i : ℕ) → length bs ≤ i → drop i bs ≡ []

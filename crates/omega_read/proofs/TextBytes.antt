@@ -1,11 +1,11 @@
 -- The bytes of a text, as far as a loop has come.
-use Rattle.std.proofs.Common.{◌≡◌, ℕ, zero, suc, ◌+◌, ◌<◌, ◌≤◌, Bool, true, false, List, [], ◌∷◌, ◌++◌, length, get_or, drop, Option, Some, None, refl, sym, ap, ◌∙◌, append_assoc, arith, add-one}
-use Rattle.std.proofs.Math.Seq.{drop-cons}
+use Rattle.std.proofs.Common.{◌≡◌, ℕ, zero, suc, ◌+◌, ◌<◌, ◌≤◌, Bool, true, false, List, [], ◌∷◌, ◌++◌, length, get_or, drop, Option, Some, None, refl, sym, ap, ◌∙◌, append_assoc, arith}
 use Rattle.omega_spelling.specs.Reading.{◌>>=◌}
 use Rattle.omega_spelling.specs.TermReading.{chars_at, with_byte}
 use Rattle.omega_read.specs.Chars.{after_char}
 use Rattle.omega_read.specs.declared.texts.Char.{Char}
 use Rattle.omega_read.specs.declared.texts.Char.TheVariants.{End, Escape, Byte, Bad}
+use Rattle.omega_read.proofs.Items.{drop_here}
 
 -- bytes that were read, before those that are still to come
 abbrev pub with_text : List ℕ → Option (List ℕ × List ℕ) → Option (List ℕ × List ℕ)
@@ -14,9 +14,6 @@ with_text xs read = read >>= λ x. Some (xs ++ x.0, x.1)
 -- what the byte here says
 abbrev pub Says : Bool → ℕ → Char → Type 0
 Says escaped b char = (rest : List ℕ) → chars_at escaped (b ∷ rest) ≡ after_char char rest
-
-drop_here : (bs : List ℕ) (i d : ℕ) → i < length bs → drop i bs ≡ get_or bs i d ∷ drop (i + 1) bs
-drop_here bs i d lt = rw add-one (drop-cons bs i d lt)
 
 step_is : (xs bs : List ℕ) (i d : ℕ) (escaped : Bool) (char : Char) (total : Option (List ℕ × List ℕ)) → i < length bs → Says escaped (get_or bs i d) char
     → with_text xs (chars_at escaped (drop i bs)) ≡ total → with_text xs (after_char char (drop (i + 1) bs)) ≡ total

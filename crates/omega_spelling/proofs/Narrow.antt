@@ -28,6 +28,7 @@ use Rattle.omega_spelling.proofs.Quoted.{Sorted, quote, slash, line, other, sort
 use Rattle.omega_spelling.proofs.Types.{below-test, built-is, record-is, field-is}
 use Rattle.omega_spelling.proofs.Terms.{three-is, quoted-is}
 use Rattle.omega_spelling.proofs.Depth.{or-cases}
+use Rattle.omega_spelling.proofs.Texts.{text-is}
 
 abbrev wide : List ℕ → Truth
 wide bytes = wide_from Outside [] bytes
@@ -231,10 +232,6 @@ mutual
   term-row-narrow : (r : TermRow) (n m : ℕ) (last : Option Label) → TermRowSpelled n m last r → Closes (term_row_text n m r)
   term-row-narrow End n m last ok = λ rest. refl
   term-row-narrow (More l t r) n m last ok = field-narrow (label_text l) (term_text n m t) (term_row_text n m r) (label-narrow l ok.1) (term-narrow t n m ok.2) (term-row-narrow r n m (Some l) ok.3)
-
-text-is : (t : Ty) (e : Term) → omega_text t e ≡ codes "omega 1\n" ++ (ty_text 0 t ++ (10 ∷ (term_text 0 0 e ++ (10 ∷ []))))
-unfolding ◌then◌
-text-is t e = refl
 
 -- in an Omega text each number is one of signed 64 bits
 pub text-not-wide : (t : Ty) (e : Term) → TySpelled 0 t → TermSpelled 0 0 e → has_wide (omega_text t e) ≡ false

@@ -14,7 +14,7 @@ use Rattle.omega_spelling.proofs.Steps.{some_is, strip-again, Ends}
 use Rattle.omega_spelling.proofs.Types.{ty-reads}
 use Rattle.omega_spelling.proofs.Terms.{term-reads}
 
-text-is : (t : Ty) (e : Term) → omega_text t e ≡ codes "omega 1\n" ++ (ty_text 0 t ++ (10 ∷ (term_text 0 0 e ++ (10 ∷ []))))
+pub text-is : (t : Ty) (e : Term) → omega_text t e ≡ codes "omega 1\n" ++ (ty_text 0 t ++ (10 ∷ (term_text 0 0 e ++ (10 ∷ []))))
 unfolding ◌then◌
 text-is t e = refl
 

@@ -1,7 +1,6 @@
 -- A whole Omega text with no more than 4,000 open parentheses is read as it is written, and nothing else is read.
 use Rattle.std.proofs.Common.{◌≡◌, ℕ, zero, suc, ◌+◌, ◌<◌, ◌≤◌, true, false, List, [], ◌∷◌, ◌++◌, Some, refl, sym, ap, ◌∙◌, subst, arith}
 use Rattle.std.specs.Prelude.{codes}
-use Rattle.omega_kinds.specs.Text.{◌then◌}
 use Rattle.omega_types.specs.Ty.{Ty}
 use Rattle.omega_terms.specs.TypeText.{ty_text}
 use Rattle.omega_terms.specs.TermText.{term_text}
@@ -18,10 +17,7 @@ use Rattle.omega_spelling.proofs.Terms.{term-reads}
 use Rattle.omega_spelling.proofs.Depth.{ty-shows, quiet-run}
 use Rattle.omega_spelling.proofs.TermDepth.{term-shows}
 use Rattle.omega_spelling.proofs.Narrow.{text-not-wide}
-
-text-is : (t : Ty) (e : Term) → omega_text t e ≡ codes "omega 1\n" ++ (ty_text 0 t ++ (10 ∷ (term_text 0 0 e ++ (10 ∷ []))))
-unfolding ◌then◌
-text-is t e = refl
+use Rattle.omega_spelling.proofs.Texts.{text-is}
 
 nil-is : (xs : List ℕ) → is_nil xs ≡ true → xs ≡ []
 nil-is [] e = refl

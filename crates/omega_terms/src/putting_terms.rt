@@ -218,7 +218,7 @@ fn put_in_fields(
 ) -> Result<TermFields, Mem>
     ensures { IfOk result (λ f. term_row f ≡ sub_fields TyTree.Var (put_at index arg.now) (term_row fields.now)) }
 {
-    let mut filled = TermFields::new(alloc);
+    let mut filled = TermFields::with_capacity(alloc, fields.items().len())?;
     for field in fields.items() {
         let part = put_term(alloc, &field.1, index, arg)?;
         filled.push((field.0.share()?, part))?;

@@ -219,7 +219,7 @@ fn put_in_fields(
 ) -> Result<TermFields, Mem>
     ensures { IfOk result (λ f. term_row f ≡ sub_fields (put index arg.now) TermTree.Var (term_row fields.now)) }
 {
-    let mut filled = TermFields::new(alloc);
+    let mut filled = TermFields::with_capacity(alloc, fields.items().len())?;
     for field in fields.items() {
         let part = put_type(alloc, &field.1, index, arg)?;
         filled.push((field.0.share()?, part))?;

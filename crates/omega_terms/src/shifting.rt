@@ -247,7 +247,7 @@ fn shift_under_two(alloc: Global, body: &Term, by: Raise) -> Result<Term, Mem>
 fn shift_in_fields(alloc: Global, fields: &TermFields, by: Raise) -> Result<TermFields, Mem>
     ensures { IfOk result (λ f. term_row f ≡ ren_fields (bump by.types by.from_type) (bump by.terms by.from_term) (term_row fields.now)) }
 {
-    let mut shifted = TermFields::new(alloc);
+    let mut shifted = TermFields::with_capacity(alloc, fields.items().len())?;
     for field in fields.items() {
         let part = shift_in(alloc, &field.1, by)?;
         shifted.push((field.0.share()?, part))?;

@@ -1,12 +1,13 @@
 // Terms, whose parts are shared.
-ghost use Rattle.std.specs.Prelude.{◌≡◌, ◌++◌, ◌∷◌, [], IfOk, OnOk, OnErr, slice_get};
+ghost use Rattle.std.specs.Prelude.{◌≡◌, ◌≤◌, ◌+◌, ◌++◌, ◌∷◌, [], IfOk, OnOk, OnErr, slice_get};
 ghost use Rattle.std.specs.Option.{option_copied};
 ghost use Rattle.omega_types.specs.Fields.{Rises, MayFollow};
 ghost use Rattle.omega_terms.specs.Bound.{type_bound, term_bound, pairs_type_bound, pairs_term_bound};
+ghost use Rattle.omega_terms.specs.Height.{term_height};
 ghost use Rattle.omega_terms.specs.View.{term_of};
 
 use crate::op::Op;
-use omega_kinds::{Kind, Label, Mem, Name, height_over};
+use omega_kinds::{Extent, Kind, Label, Mem, NOTHING, Name};
 use omega_types::{Ty, next_level};
 use std::alloc::Global;
 use std::marker::Model;
@@ -27,11 +28,11 @@ pub struct Term {
     made: Rc<Made>,
 }
 
-// A node, with how many forms stand inside one another in it, those of types counted too.
+// A node with its extent, the forms of types counted too.
 #[cycle(term)]
 #[derive(Drop)]
 struct Made {
-    height: u32,
+    extent: Extent,
     node: TermNode,
 }
 
@@ -63,12 +64,12 @@ pub enum TermNode {
 #[derive(Drop)]
 pub struct TermFields {
     pairs: Vec<(Label, Term)>,
-    // the height of the highest part
-    height: u32,
+    // that of the parts beside each other
+    extent: Extent,
 }
 
 impl Model for Term {
-    ghost use Rattle.std.specs.Prelude.{◌≡◌};
+    ghost use Rattle.std.specs.Prelude.{◌≡◌, ◌≤◌};
     ghost use Rattle.omega_terms.specs.Term.{Term as TermTree};
     ghost use Rattle.omega_terms.specs.Code.{term_code};
 
@@ -81,11 +82,12 @@ impl Model for Term {
     ghost size = { term_size };
 
     ghost use Rattle.omega_terms.specs.Bound.{type_bound as type_bound_of, term_bound as term_bound_of};
+    ghost use Rattle.omega_terms.specs.Height.{term_height};
     ghost use Rattle.omega_terms.specs.View.{term_of};
 
     ghost view = { λ e. term_of e.made.value.node };
 
-    ghost invariant = { λ e. (e.type_bound ≡ type_bound_of (term_of e.made.value.node)) × (e.term_bound ≡ term_bound_of (term_of e.made.value.node)) };
+    ghost invariant = { λ e. (e.type_bound ≡ type_bound_of (term_of e.made.value.node)) × (e.term_bound ≡ term_bound_of (term_of e.made.value.node)) × (term_height (term_of e.made.value.node) ≤ e.made.value.extent.height) × (e.made.value.extent.height ≤ 4096) };
 
     ghost use Rattle.omega_terms.specs.Falls.{made_le-term_size};
 
@@ -93,6 +95,7 @@ impl Model for Term {
 }
 
 impl Model for TermFields {
+    ghost use Rattle.std.specs.Prelude.{◌≤◌};
     ghost use Rattle.omega_terms.specs.Fields.{TermPairs};
     ghost use Rattle.omega_terms.specs.Code.{term_pairs_code};
 
@@ -105,10 +108,11 @@ impl Model for TermFields {
     ghost size = { pairs_size };
 
     ghost use Rattle.omega_types.specs.Fields.{Rises};
+    ghost use Rattle.omega_terms.specs.Height.{pairs_height};
 
     ghost view = { λ f. f.pairs.items };
 
-    ghost invariant = { λ f. Rises f.pairs.items };
+    ghost invariant = { λ f. Rises f.pairs.items × (pairs_height f.pairs.items ≤ f.extent.height) };
 
     ghost use Rattle.omega_terms.specs.Falls.{deep_le-pairs_size};
 
@@ -117,17 +121,17 @@ impl Model for TermFields {
 
 impl Term {
     /// The term that a node makes. `Err` is want of memory, also for a variable whose index is the last number, and for
-    /// a term so high that the walks over it are not sure to fit on the stack.
+    /// a term that is too high or too large (`Extent::over`).
     pub fn make(alloc: Global, node: TermNode) -> Result<Term, Mem>
         ensures { IfOk result (λ e. e ≡ term_of node) }
     {
         let type_bound = node.type_bound();
         let term_bound = node.term_bound()?;
-        let height = height_over(node.highest_part(), 1)?;
+        let extent = node.parts().over(1)?;
         Ok(Term {
             type_bound,
             term_bound,
-            made: Rc::new(alloc, Made { height, node })?,
+            made: Rc::new(alloc, Made { extent, node })?,
         })
     }
 
@@ -138,9 +142,13 @@ impl Term {
         &self.made.node
     }
 
-    // How many forms stand inside one another.
-    fn height(&self) -> u32 {
-        self.made.height
+    /// How high and how large the term is, the forms of its types and of kinds counted too. Takes one step.
+    /// No term is higher than 4,096.
+    pub fn extent(&self) -> Extent
+        ensures height { term_height self.now ≤ result.height }
+        ensures high { result.height ≤ 4096 }
+    {
+        self.made.extent
     }
 
     /// The same term, with its parts shared. `Err` is want of memory.
@@ -212,21 +220,23 @@ impl TermNode {
         }
     }
 
-    // The height of the highest part.
-    fn highest_part(&self) -> u32 {
+    // The extent of the parts beside each other.
+    fn parts(&self) -> Extent
+        ensures { term_height (term_of self.now) ≤ result.height + 1 }
+    {
         match self {
-            TermNode::Var(_) | TermNode::Int(_) | TermNode::Bool(_) | TermNode::Text(_) => 0,
-            TermNode::Lam(t, e) | TermNode::Inst(e, t) => t.height().max(e.height()),
+            TermNode::Var(_) | TermNode::Int(_) | TermNode::Bool(_) | TermNode::Text(_) => NOTHING,
+            TermNode::Lam(t, e) | TermNode::Inst(e, t) => t.extent().beside(e.extent()),
             TermNode::Call(a, b) | TermNode::Arith(_, a, b) | TermNode::Unpack(a, b) => {
-                a.height().max(b.height())
+                a.extent().beside(b.extent())
             }
-            TermNode::TyLam(k, e) => k.height().max(e.height()),
-            TermNode::Fields(fields) => fields.height,
-            TermNode::Get(e, _) => e.height(),
+            TermNode::TyLam(k, e) => k.extent().beside(e.extent()),
+            TermNode::Fields(fields) => fields.extent,
+            TermNode::Get(e, _) => e.extent(),
             TermNode::Pack(t, e, u) | TermNode::Fix(t, u, e) => {
-                t.height().max(u.height()).max(e.height())
+                t.extent().beside(u.extent()).beside(e.extent())
             }
-            TermNode::If(a, b, c) => a.height().max(b.height()).max(c.height()),
+            TermNode::If(a, b, c) => a.extent().beside(b.extent()).beside(c.extent()),
         }
     }
 }
@@ -238,8 +248,18 @@ impl TermFields {
     {
         TermFields {
             pairs: Vec::new(alloc),
-            height: 0,
+            extent: NOTHING,
         }
+    }
+
+    /// No fields, with room for so many. `Err` is want of memory.
+    pub fn with_capacity(alloc: Global, count: usize) -> Result<TermFields, Mem>
+        ensures { IfOk result (λ f. f ≡ []) }
+    {
+        Ok(TermFields {
+            pairs: Vec::with_capacity(alloc, count)?,
+            extent: NOTHING,
+        })
     }
 
     /// One more field at the end, whose label is greater than the last one.
@@ -249,9 +269,9 @@ impl TermFields {
         ensures ok { OnOk result (self.new ≡ self.old ++ item ∷ []) }
         ensures err { OnErr result (self.new ≡ self.old) }
     {
-        let height = self.height.max(item.1.height());
+        let extent = self.extent.beside(item.1.extent());
         self.pairs.push(item)?;
-        self.height = height;
+        self.extent = extent;
         Ok(())
     }
 

@@ -166,7 +166,7 @@ kind_means ctx t None e = λ k h. let c = kind_in-complete h in cc
 kind_means ctx t (Some k) e = kind_in-sound ctx t (kind_tree k) (sym e)
 
 -- labels that rise are distinct
-before-not : (l m : Label) → LabelBefore l m → not (is_eq (label_cmp l m)) ≡ true
+pub before-not : (l m : Label) → LabelBefore l m → not (is_eq (label_cmp l m)) ≡ true
 before-not l m h = not-eq (label_cmp l m) (λ s. absurd (false≢true (sym (ap is_lt s) ∙ h)))
 
 rises-fresh : (l : Label) (x : Label × Ty) (xs : Pairs) → LabelBefore l x.0 → Rises (x ∷ xs) → is_fresh l (row (x ∷ xs)) ≡ true

@@ -35,6 +35,10 @@ shift-under by from b = ap (λ n. shift by n b) (next from)
     next : (n : ℕ) → suc n ≡ n + 1
     next n = omega arith
 
+-- by nothing
+pub shift-still : (by from : ℕ) (t : Ty) → by ≡ 0 → shift by from t ≡ t
+shift-still by from t e = ap (λ n. shift n from t) e ∙ shift-zero from t
+
 pub shift-var_below : (by from i : ℕ) → i < from → Ty.Var (bump by from i) ≡ Ty.Var i
 shift-var_below by from i h = ap Ty.Var (bump-below by from i h)
 
@@ -69,6 +73,6 @@ put-var_above at (suc i) arg h = put-above at arg i (omega arith) ∙ ap Ty.Var 
 pub substitute_at-shift_zero : (index : ℕ) (arg body : Ty) → substitute_at index (shift 0 0 arg) body ≡ substitute_at index arg body
 substitute_at-shift_zero index arg body = ap (λ a. substitute_at index a body) (shift-zero 0 arg)
 
-pub ruleset shift_steps = (shift-unchanged, shift-under, shift-var_below, shift-var_above, row-shift, may_follow-at)
+pub ruleset shift_steps = (shift-unchanged, shift-still, shift-under, shift-var_below, shift-var_above, row-shift, may_follow-at)
 
 pub ruleset put_steps = (substitute_at-unchanged, put-under_at, put-var_below, put-var_same, put-var_above, row-put, may_follow-at)

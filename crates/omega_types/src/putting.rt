@@ -89,7 +89,7 @@ fn put_in_fields(
 ) -> Result<TyFields, Mem>
     ensures { IfOk result (λ f. row f ≡ substitute_row (put at (shift depth 0 arg.now)) (row fields.now)) }
 {
-    let mut filled = TyFields::new(alloc);
+    let mut filled = TyFields::with_capacity(alloc, fields.items().len())?;
     for field in fields.items() {
         let part = put_in(alloc, &field.1, at, depth, arg)?;
         filled.push((field.0.share()?, part))?;

@@ -19,7 +19,7 @@ use std::alloc::Global;
 pub fn shift(alloc: Global, ty: &Ty, by: u64, from: u64) -> Result<Ty, Mem>
     ensures { IfOk result (λ t. t ≡ shift by from ty.now) }
 {
-    if ty.bound() <= from {
+    if by == 0 || ty.bound() <= from {
         return ty.share();
     }
     match ty.node() {
@@ -69,7 +69,7 @@ fn shift_under(alloc: Global, body: &Ty, by: u64, from: u64) -> Result<Ty, Mem>
 fn shift_fields(alloc: Global, fields: &TyFields, by: u64, from: u64) -> Result<TyFields, Mem>
     ensures { IfOk result (λ f. row f ≡ rename_row (bump by from) (row fields.now)) }
 {
-    let mut shifted = TyFields::new(alloc);
+    let mut shifted = TyFields::with_capacity(alloc, fields.items().len())?;
     for field in fields.items() {
         let part = shift(alloc, &field.1, by, from)?;
         shifted.push((field.0.share()?, part))?;

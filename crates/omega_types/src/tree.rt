@@ -1,12 +1,13 @@
 // Types, whose parts are shared.
-ghost use Rattle.std.specs.Prelude.{◌≡◌, ◌++◌, ◌∷◌, [], IfOk, OnOk, OnErr, slice_get};
+ghost use Rattle.std.specs.Prelude.{◌≡◌, ◌≤◌, ◌+◌, ◌++◌, ◌∷◌, [], IfOk, OnOk, OnErr, slice_get};
 ghost use Rattle.std.specs.Option.{option_copied};
 ghost use Rattle.omega_types.specs.Bound.{bound_of, bound_pairs};
 ghost use Rattle.omega_types.specs.Fields.{Rises, MayFollow};
+ghost use Rattle.omega_types.specs.Height.{height};
 ghost use Rattle.omega_types.specs.View.{ty_of};
 
 use crate::levels::next_level;
-use omega_kinds::{Kind, Label, Mem, height_over};
+use omega_kinds::{Extent, Kind, Label, Mem, NOTHING};
 use std::alloc::Global;
 use std::marker::Model;
 use std::rc::Rc;
@@ -23,11 +24,11 @@ pub struct Ty {
     made: Rc<Made>,
 }
 
-// A node, with how many forms stand inside one another in it, those of kinds counted too.
+// A node with its extent, the forms of kinds counted too.
 #[cycle(ty)]
 #[derive(Drop)]
 struct Made {
-    height: u32,
+    extent: Extent,
     node: TyNode,
 }
 
@@ -53,12 +54,12 @@ pub enum TyNode {
 #[derive(Drop)]
 pub struct TyFields {
     pairs: Vec<(Label, Ty)>,
-    // the height of the highest part
-    height: u32,
+    // that of the parts beside each other
+    extent: Extent,
 }
 
 impl Model for Ty {
-    ghost use Rattle.std.specs.Prelude.{◌≡◌};
+    ghost use Rattle.std.specs.Prelude.{◌≡◌, ◌≤◌};
     ghost use Rattle.omega_types.specs.Ty.{Ty as TyTree};
     ghost use Rattle.omega_types.specs.Code.{ty_code};
 
@@ -71,11 +72,12 @@ impl Model for Ty {
     ghost size = { nodes };
 
     ghost use Rattle.omega_types.specs.Bound.{bound_of};
+    ghost use Rattle.omega_types.specs.Height.{height};
     ghost use Rattle.omega_types.specs.View.{ty_of};
 
     ghost view = { λ t. ty_of t.made.value.node };
 
-    ghost invariant = { λ t. t.bound ≡ bound_of (ty_of t.made.value.node) };
+    ghost invariant = { λ t. (t.bound ≡ bound_of (ty_of t.made.value.node)) × (height (ty_of t.made.value.node) ≤ t.made.value.extent.height) × (t.made.value.extent.height ≤ 4096) };
 
     ghost use Rattle.omega_types.specs.Falls.{made_le-nodes};
 
@@ -83,6 +85,7 @@ impl Model for Ty {
 }
 
 impl Model for TyFields {
+    ghost use Rattle.std.specs.Prelude.{◌≤◌};
     ghost use Rattle.omega_types.specs.Fields.{Pairs};
     ghost use Rattle.omega_types.specs.Code.{pairs_code};
 
@@ -95,10 +98,11 @@ impl Model for TyFields {
     ghost size = { nodes_pairs };
 
     ghost use Rattle.omega_types.specs.Fields.{Rises};
+    ghost use Rattle.omega_types.specs.Height.{height_pairs};
 
     ghost view = { λ f. f.pairs.items };
 
-    ghost invariant = { λ f. Rises f.pairs.items };
+    ghost invariant = { λ f. Rises f.pairs.items × (height_pairs f.pairs.items ≤ f.extent.height) };
 
     ghost use Rattle.omega_types.specs.Falls.{deep_le-nodes_pairs};
 
@@ -107,15 +111,15 @@ impl Model for TyFields {
 
 impl Ty {
     /// The type that a node makes. `Err` is want of memory, also for a variable whose index is the last number, and for
-    /// a type so high that the walks over it are not sure to fit on the stack.
+    /// a type that is too high or too large (`Extent::over`).
     pub fn make(alloc: Global, node: TyNode) -> Result<Ty, Mem>
         ensures { IfOk result (λ t. t ≡ ty_of node) }
     {
         let bound = node.bound()?;
-        let height = height_over(node.highest_part(), 1)?;
+        let extent = node.parts().over(1)?;
         Ok(Ty {
             bound,
-            made: Rc::new(alloc, Made { height, node })?,
+            made: Rc::new(alloc, Made { extent, node })?,
         })
     }
 
@@ -133,9 +137,13 @@ impl Ty {
         self.bound
     }
 
-    /// How many forms stand inside one another. It decides nothing but where memory is refused. Takes one step.
-    pub fn height(&self) -> u32 {
-        self.made.height
+    /// How high and how large the type is, the forms of kinds counted too. Takes one step.
+    /// No type is higher than 4,096.
+    pub fn extent(&self) -> Extent
+        ensures height { height self.now ≤ result.height }
+        ensures high { result.height ≤ 4096 }
+    {
+        self.made.extent
     }
 
     /// The same type, with its parts shared. `Err` is want of memory.
@@ -165,13 +173,17 @@ impl TyNode {
         }
     }
 
-    // The height of the highest part.
-    fn highest_part(&self) -> u32 {
+    // The extent of the parts beside each other.
+    fn parts(&self) -> Extent
+        ensures { height (ty_of self.now) ≤ result.height + 1 }
+    {
         match self {
-            TyNode::Var(_) | TyNode::Int | TyNode::Bool | TyNode::Text => 0,
-            TyNode::Arrow(a, b) | TyNode::Apply(a, b) => a.height().max(b.height()),
-            TyNode::Fields(fields) => fields.height,
-            TyNode::All(k, b) | TyNode::Ex(k, b) | TyNode::Lam(k, b) => k.height().max(b.height()),
+            TyNode::Var(_) | TyNode::Int | TyNode::Bool | TyNode::Text => NOTHING,
+            TyNode::Arrow(a, b) | TyNode::Apply(a, b) => a.extent().beside(b.extent()),
+            TyNode::Fields(fields) => fields.extent,
+            TyNode::All(k, b) | TyNode::Ex(k, b) | TyNode::Lam(k, b) => k
+                .extent()
+                .beside(b.extent()),
         }
     }
 }
@@ -183,8 +195,18 @@ impl TyFields {
     {
         TyFields {
             pairs: Vec::new(alloc),
-            height: 0,
+            extent: NOTHING,
         }
+    }
+
+    /// No fields, with room for so many. `Err` is want of memory.
+    pub fn with_capacity(alloc: Global, count: usize) -> Result<TyFields, Mem>
+        ensures { IfOk result (λ f. f ≡ []) }
+    {
+        Ok(TyFields {
+            pairs: Vec::with_capacity(alloc, count)?,
+            extent: NOTHING,
+        })
     }
 
     /// One more field at the end, whose label is greater than the last one.
@@ -194,9 +216,9 @@ impl TyFields {
         ensures ok { OnOk result (self.new ≡ self.old ++ item ∷ []) }
         ensures err { OnErr result (self.new ≡ self.old) }
     {
-        let height = self.height.max(item.1.height());
+        let extent = self.extent.beside(item.1.extent());
         self.pairs.push(item)?;
-        self.height = height;
+        self.extent = extent;
         Ok(())
     }
 

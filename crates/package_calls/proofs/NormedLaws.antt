@@ -12,7 +12,8 @@ use Rattle.signatures.specs.Explicit.WellFormed.{EachRooted, WellFormed, WellFor
 use Rattle.sig_laws.specs.Good.{OkRight}
 use Rattle.sig_laws.proofs.Algebra.AlikeLaws.{normal_sig-rename, normal_abs-rename}
 use Rattle.norm_laws.proofs.Orders.Orders.{renumber-maps}
-use Rattle.norm_laws.proofs.Norm.NormKeeps.{root-norm, norm-well_formed, norm_abs-explicit}
+use Rattle.norm_laws.proofs.Norm.NormKeeps.{norm-well_formed, norm_abs-explicit}
+use Rattle.norm_laws.proofs.Orders.OrderExists.{root-each}
 use Rattle.package_calls.specs.Renumbered.{moved}
 use Rattle.package_calls.specs.Normed.{order, in_order, functor_in_order, normed_sig, normed_abs, normed_row}
 use Rattle.package_calls.proofs.TurnLaws.{in-new-order}
@@ -22,9 +23,6 @@ Good ctx s t = NormSig ctx s t × NormalSig ctx t
 
 abbrev pub GoodAbs : List Kind → Abs → Abs → Type 0
 GoodAbs ctx x y = Norm ctx x y × NormalAbs ctx y
-
-root-each : {ctx ks : List Kind} {s t : Sig} → NormSig (extend ctx ks) s t → EachRooted ctx ks s → EachRooted ctx ks t
-root-each n r i lt = let q = r i lt in (q.0, root-norm n q.1)
 
 -- the renumbering of the code, and its kinds
 abbrev pub Ordered : List Kind → List Kind → Sig → Type 0

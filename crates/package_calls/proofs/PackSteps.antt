@@ -10,21 +10,18 @@ use Rattle.omega_terms.specs.Term.{Term}
 use Rattle.omega_terms.specs.Shorthands.{Packs}
 use Rattle.signatures.specs.Signatures.Sig.{Abs, made}
 use Rattle.signatures.specs.Signatures.Encoding.{enc, enc_abs}
-use Rattle.signatures.specs.Explicit.WellFormed.{WellFormedAbs, Explicit, abs, explicit}
 use Rattle.signatures.specs.QuantifierOrder.{Norm}
 use Rattle.sig_laws.specs.Good.{OkAbs, OkRight}
 use Rattle.sig_laws.proofs.Encoded.EncodingLaws.{enc_well_formed-normal}
+use Rattle.sig_laws.proofs.Formed.Conditions.{explicit-abs}
 use Rattle.packages.specs.Package.{PackTypeGives, PackGives, UnpackGives, UnpackWhy, UnpackRefuses}
 use Rattle.semantic_sigs.specs.View.{kinds_of}
 use Rattle.term_shorthands.specs.Packed.{Fills}
 
-formed : {ctx : List Kind} {x : Abs} → Explicit ctx x → WellFormedAbs ctx x
-formed (explicit w r e) = abs w
-
 -- package types
 
 pub type-normal : (x y : Abs) (t : Ty) → ((ctx : List Kind) → OkRight ctx x → OkRight ctx y) → t ≡ enc_abs y → (ctx : List Kind) → OkRight ctx x → Normal ctx t Kind.Star
-type-normal x y t h e ctx ok = let q = h ctx ok in subst (λ u. Normal ctx u Kind.Star) (sym e) (enc_well_formed-normal (formed q.0) q.1)
+type-normal x y t h e ctx ok = let q = h ctx ok in subst (λ u. Normal ctx u Kind.Star) (sym e) (enc_well_formed-normal (explicit-abs q.0) q.1)
 
 pub type-given : (x y : Abs) (t : Ty) → ((ctx : List Kind) → OkRight ctx x → Norm ctx x y) → t ≡ enc_abs y → (ctx : List Kind) → OkRight ctx x → PackTypeGives ctx x t
 type-given x y t h e ctx ok = subst (PackTypeGives ctx x) (sym e) (PackTypeGives.pack_type (h ctx ok))

@@ -20,6 +20,7 @@ use Rattle.semantic_sigs.specs.Fields.{SigPairs, sig_row}
 use Rattle.semantic_sigs.specs.View.{kinds_of, body_of}
 use Rattle.semantic_sigs.proofs.MentionSteps.{sig_mention-below}
 use Rattle.semantic_sigs.proofs.SigSteps.{map_sigs, name_follows-at}
+use Rattle.semantic_sigs.proofs.PartSteps.{row-at}
 use Rattle.package_calls.specs.First.{Places, is_untaken, blocks, barred, if_untaken, first, first_row, or_first}
 use Rattle.package_calls.specs.Normed.{in_order, functor_in_order, normed_sig, normed_abs, normed_row}
 use Rattle.package_calls.specs.Renumbered.{moved}
@@ -89,9 +90,6 @@ pub blocks-not : (o : Option ℕ) (j i : ℕ) (s : Sig) → o ≡ Some j → fal
 blocks-not o j i s e = sym (ap (λ p. blocks p i s) e)
 
 -- the fields of a structure
-
-row-at : (xs : SigPairs) (i : ℕ) (d : Name × Sig) → i < length xs → sig_row (drop i xs) ≡ SigRow.More (get_or xs i d).0 (get_or xs i d).1 (sig_row (drop (i + 1) xs))
-row-at xs i d lt = ap sig_row (drop-cons xs i d lt) ∙ ap (λ n. SigRow.More (get_or xs i d).0 (get_or xs i d).1 (sig_row (drop n xs))) (sym (next-index i))
 
 first-at : (ps : Places) (depth : ℕ) (xs : SigPairs) (i : ℕ) (x : Name × Sig) → i < length xs → x ≡ get_or xs i x → first_row ps depth (sig_row (drop i xs)) ≡ or_first (first ps depth x.1) (first_row ps depth (sig_row (drop (i + 1) xs)))
 first-at ps depth xs i x lt e = ap (first_row ps depth) (row-at xs i x lt) ∙ ap (λ y. or_first (first ps depth y.1) (first_row ps depth (sig_row (drop (i + 1) xs)))) (sym e)

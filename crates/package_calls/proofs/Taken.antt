@@ -2,7 +2,7 @@
 use Rattle.std.specs.Prelude.{ℕ, zero, suc, ◌+◌, ◌≡◌, List, [], ◌∷◌, ◌++◌, ◌⊎◌, length, Option, Some, None, Bool, true, false, ◌||◌}
 use mathlib.Core.Logic.{inl, inr}
 use Rattle.std.proofs.Common.{arith}
-use Rattle.std.proofs.Math.Path.{refl, sym, ap, ap₂, ◌∙◌, subst, subst₂}
+use Rattle.std.proofs.Math.Path.{refl, sym, ap, ◌∙◌, subst, subst₂}
 use Rattle.omega_kinds.specs.Kind.{Kind}
 use Rattle.omega_kinds.specs.Name.{Name}
 use Rattle.omega_kinds.specs.declared.effect.Effect.TheVariants.{Pure, Impure}
@@ -14,22 +14,25 @@ use Rattle.omega_types.specs.Binders.{extend, past, applied}
 use Rattle.omega_types.proofs.Preservation.{conv-kinds, normal-kind}
 use Rattle.omega_types.proofs.Inverse.{same-normal}
 use Rattle.omega_types.proofs.LawProofs.{normal_of_normal}
+use Rattle.omega_types.proofs.BinderLaws.{spread}
 use Rattle.signatures.specs.Signatures.Sig.{Sig, Abs, SigRow, HasField, here, there}
 use Rattle.signatures.specs.Signatures.Alike.{NormalSig, NormalSigRow}
 use Rattle.signatures.specs.Signatures.SigMentions.{MentionsSig, Avoids, by_normal_form}
-use Rattle.signatures.specs.Explicit.SigPath.{SigPath, Item, PathBefore, first as by_item, later, by_name, PartAt, ParamOn}
+use Rattle.signatures.specs.Explicit.SigPath.{SigPath, Item, PathBefore, PartAt, ParamOn}
 use Rattle.signatures.specs.Explicit.RootPath.{ParamsAvoid}
 use Rattle.signatures.specs.Explicit.WellFormed.{BeforeAll, Rising, WellFormed, WellFormedRow}
 use Rattle.sig_laws.specs.Decide.{decided, dec_mentions_sig}
-use Rattle.sig_laws.proofs.Algebra.AlikeLaws.{form_sig-unique, normal_sig-form}
-use Rattle.sig_laws.proofs.Algebra.BinderLaws.{extend-append, past-append, applied-append, past-length}
+use Rattle.sig_laws.proofs.Algebra.AlikeLaws.{normal_sig-form, avoided}
+use Rattle.sig_laws.proofs.Algebra.BinderLaws.{extend-append, past-append, applied-append}
+use Rattle.sig_laws.proofs.Algebra.PathLaws.{one-field}
 use Rattle.explicit_laws.proofs.Names.{NameBefore}
-use Rattle.explicit_laws.proofs.Paths.{one-field}
 use Rattle.explicit_laws.proofs.Moves.{Shows, shows, FieldsIn, shows-grown, params-grown}
 use Rattle.explicit_laws.proofs.Liftings.{shows-result, params-result}
-use Rattle.norm_laws.proofs.Orders.OrderExists.{field-split}
+use Rattle.norm_laws.proofs.Orders.OrderExists.{field-split, before_all-field, before-cases, part-opens, before-result, Opens}
+use Rattle.norm_laws.proofs.Orders.Decided.{param-enters}
 use Rattle.root_paths.specs.Rooted.{rooted}
-use Rattle.root_paths.proofs.RootedLaws.{spread, spread-raised, rooted-conv, rooted-found}
+use Rattle.root_paths.proofs.RootedLaws.{rooted-conv, rooted-found}
+use Rattle.root_paths.proofs.SeekLaws.{spread-past, past-depth}
 use Rattle.package_calls.specs.First.{Places, is_untaken, blocks, barred, if_untaken, first, first_row, first_type, or_first}
 
 -- the variable is not taken yet and is rooted at the path, and no functor parameter on the path mentions one that is not
@@ -44,20 +47,6 @@ Outcome c ps depth s (Some i) = (p : SigPath) × Takes c ps depth s i p × ((j :
 
 -- where a path to a type can go
 
-abbrev Opens : Sig → Type 0
-Opens (Sig.Val t) = ⊥
-Opens (Sig.Meta x) = ⊥
-Opens (Sig.Typ t k) = Unit {0}
-Opens (Sig.Str fs) = Unit {0}
-Opens (Sig.Fun Pure ks s (Abs.Ex [] r)) = Unit {0}
-Opens (Sig.Fun Pure ks s (Abs.Ex (k ∷ js) r)) = ⊥
-Opens (Sig.Fun Impure ks s x) = ⊥
-
-part-opens : {s : Sig} {p : SigPath} {bs : List Kind} {t : Ty} {k : Kind} → PartAt s p bs (Sig.Typ t k) → Opens s
-part-opens PartAt.end = tt
-part-opens (PartAt.field h x) = tt
-part-opens (PartAt.result x) = tt
-
 shows-opens : {c : List Kind} {s : Sig} {u : Ty} {p : SigPath} → Shows c s u p → Opens s
 shows-opens (shows x d) = part-opens x
 
@@ -71,15 +60,6 @@ shows-type (shows PartAt.end d) = at_type refl d
 
 conv-found : {c : List Kind} {t : Ty} {k : Kind} (depth i : ℕ) → Normal c t k → Conv c t (spread (depth + i) zero depth) k → rooted depth t ≡ Some i
 conv-found {c} {t} {k} depth i n d = rooted-found depth i t (conv-kinds d).1 (sym (normal_of_normal c t k n) ∙ same-normal d)
-
-abbrev Enters : SigPath → Type 0
-Enters [] = ⊥
-Enters (a ∷ p) = Unit {0}
-
-param-enters : {s t : Sig} {p : SigPath} {ds ks : List Kind} → ParamOn s p ds ks t → Enters p
-param-enters ParamOn.here = tt
-param-enters (ParamOn.field h on) = tt
-param-enters (ParamOn.result on) = tt
 
 no-params : (c : List Kind) (s : Sig) (j : ℕ) → ParamsAvoid c s [] j
 no-params c s j ds ks t on = absurd (param-enters on)
@@ -112,14 +92,6 @@ type-outcome {c} ps depth t k n None e = λ j p w. go j (shows-type w.1) w.0
     go j (at_type f d) u = untaken-none ps (rooted depth t) j e (conv-found depth j n d) u
 
 -- structures
-
-before_all-field : (l m : Name) {q : Sig} {fs : SigRow} → BeforeAll l fs → HasField fs m q → NameBefore l m
-before_all-field l m h here = h.0
-before_all-field l m h (there n g) = before_all-field l m h.1 g
-
-before-cases : {l m : Name} {p o : SigPath} → PathBefore (Item.Part l ∷ p) (Item.Part m ∷ o) → NameBefore l m ⊎ ((l ≡ m) × PathBefore p o)
-before-cases (by_item (by_name h)) = inl h
-before-cases (later h) = inr (refl, h)
 
 apart : (l m : Name) → NameBefore l m → l ≡ m → ⊥
 apart l m b e = name-irreflexive l (subst (λ n. NameBefore l n) (sym e) b)
@@ -234,23 +206,8 @@ barred-no (Some o ∷ ps) i s e zero u m = cc
 barred-no (None ∷ ps) i s e (suc j) u m = barred-no ps (suc i) s (either-false (blocks None i s) (barred ps (suc i) s) e).1 j u (subst (λ n. MentionsSig n s) (sym (plus-suc i j)) m)
 barred-no (Some o ∷ ps) i s e (suc j) u m = barred-no ps (suc i) s (either-false (blocks (Some o) i s) (barred ps (suc i) s) e).1 j u (subst (λ n. MentionsSig n s) (sym (plus-suc i j)) m)
 
-spread-applied : (ks : List Kind) (index count : ℕ) → applied ks (spread index zero count) ≡ spread (length ks + index) zero (length ks + count)
-spread-applied [] index count = ap₂ (λ i n. spread i zero n) (omega arith) (omega arith)
-spread-applied (k ∷ ks) index count =
-    ap (λ f. applied ks (Ty.Apply f (Ty.Var zero))) (spread-raised index zero count)
-    ∙ (spread-applied ks (suc index) (suc count) ∙ ap₂ (λ i n. spread i zero n) (omega arith) (omega arith))
-
-spread-past : (ks : List Kind) (own depth : ℕ) → spread (length ks + depth + own) zero (length ks + depth) ≡ applied ks (spread (depth + own) zero depth)
-spread-past ks own depth = ap (λ i. spread i zero (length ks + depth)) (omega arith) ∙ sym (spread-applied ks (depth + own) depth)
-
-past-depth : (ks : List Kind) (depth x : ℕ) → length ks + depth + x ≡ past ks (depth + x)
-past-depth ks depth x = let e = past-length ks (depth + x) in omega (arith, e)
-
 avoids-of : {c : List Kind} {s : Sig} {i : ℕ} → NormalSig c s → (MentionsSig i s → ⊥) → Avoids c s i
 avoids-of {c} {s} n h = by_normal_form (normal_sig-form c s n) h
-
-avoids-not : {c : List Kind} {s : Sig} {i : ℕ} → NormalSig c s → Avoids c s i → MentionsSig i s → ⊥
-avoids-not {c} {s} {i} n (by_normal_form f h) m = h (subst (MentionsSig i) (form_sig-unique (normal_sig-form c s n) f) m)
 
 -- a path through a functor goes on in its result
 data Through (c : List Kind) (ps : Places) (depth : ℕ) (ks : List Kind) (s r : Sig) (j : ℕ) (q : SigPath) : Type 0 where
@@ -274,15 +231,11 @@ takes-result c ps depth j {ks} {s} {r} {p} h w = (
   λ i u. params-result c ks p (depth + i) (h i u) (subst (ParamsAvoid (extend c ks) r p) (past-depth ks depth i) (w.2 i u)),
 )
 
-before-result : {p o : SigPath} → PathBefore (Item.Res ∷ p) (Item.Res ∷ o) → PathBefore p o
-before-result (later h) = h
-before-result (by_item h) = elim h [ ]
-
 barred-outcome : {c : List Kind} (ps : Places) (depth : ℕ) (ks : List Kind) (s r : Sig) → NormalSig (extend c ks) s → barred ps (length ks + depth) s ≡ true → Outcome c ps depth (Sig.Fun Pure ks s (Abs.Ex [] r)) None
 barred-outcome {c} ps depth ks s r n e j q w = go (takes-through w)
   where
     go : {q : SigPath} → Through c ps depth ks s r j q → ⊥
-    go (through f a v) = let m = barred-yes ps (length ks + depth) s e in avoids-not n (a m.0 m.1) (subst (λ i. MentionsSig i s) (past-depth ks depth m.0) m.2)
+    go (through f a v) = let m = barred-yes ps (length ks + depth) s e in avoided n (a m.0 m.1) (subst (λ i. MentionsSig i s) (past-depth ks depth m.0) m.2)
 
 through-outcome : (c : List Kind) (ps : Places) (depth : ℕ) (ks : List Kind) (s r : Sig) → NormalSig (extend c ks) s → barred ps (length ks + depth) s ≡ false → (o : Option ℕ) → Outcome (extend c ks) ps (length ks + depth) r o → Outcome c ps depth (Sig.Fun Pure ks s (Abs.Ex [] r)) o
 through-outcome c ps depth ks s r n e (Some i) (p, w, h) = (Item.Res ∷ p, takes-result c ps depth i avoided w, λ j q v. none-before j (takes-through v))

@@ -8,6 +8,7 @@ use Rattle.omega_kinds.specs.Kind.{Kind}
 use Rattle.omega_types.specs.Ty.{Ty}
 use Rattle.omega_types.specs.Normaliser.{kind_at}
 use Rattle.omega_types.specs.Binders.{extend, past, own}
+use Rattle.omega_types.proofs.BinderLaws.{spread}
 use Rattle.signatures.specs.Signatures.Sig.{Sig}
 use Rattle.signatures.specs.Signatures.Alike.{NormalSig}
 use Rattle.signatures.specs.Explicit.SigPath.{SigPath}
@@ -19,7 +20,6 @@ use Rattle.sig_laws.proofs.Algebra.Own.{split_index}
 use Rattle.explicit_laws.proofs.Moves.{Shows, rooted-shows, shows-rooted}
 use Rattle.norm_laws.proofs.Orders.OrderExists.{LeastBelow, least_below}
 use Rattle.norm_laws.proofs.Orders.Orders.{place-same, place-other, own-own, renumber-below, renumber-past}
-use Rattle.root_paths.proofs.RootedLaws.{spread}
 use Rattle.package_calls.specs.First.{Places, is_untaken, first}
 use Rattle.package_calls.specs.Renumbered.{moved, or_stays, place_in}
 use Rattle.package_calls.specs.Turns.{turns, turn, untaken}

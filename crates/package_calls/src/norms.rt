@@ -120,7 +120,7 @@ fn impure_functor(alloc: Global, kinds: &Kinds, from: &Sig, to: &Abs) -> Result<
 fn norm_fields(alloc: Global, fields: &SigFields) -> Result<SigFields, Mem>
     ensures { IfOk result (λ f. sig_row f ≡ normed_row (sig_row fields.now)) }
 {
-    let mut ordered = SigFields::new(alloc);
+    let mut ordered = SigFields::with_capacity(alloc, fields.items().len())?;
     for field in fields.items() {
         let part = norm_sig(alloc, &field.1)?;
         ordered.push((field.0.share()?, part))?;

@@ -93,7 +93,7 @@ fn renumber_sig_fields(
 ) -> Result<SigFields, Mem>
     ensures { IfOk result (λ f. sig_row f ≡ rename_sig_row (sunk depth (moved places.now)) (sig_row fields.now)) }
 {
-    let mut renumbered = SigFields::new(alloc);
+    let mut renumbered = SigFields::with_capacity(alloc, fields.items().len())?;
     for field in fields.items() {
         let part = renumber_sig(alloc, &field.1, places, depth)?;
         renumbered.push((field.0.share()?, part))?;

@@ -75,7 +75,7 @@ fn renumber_fields(
 ) -> Result<TyFields, Mem>
     ensures { IfOk result (λ f. row f ≡ rename_row (sunk depth (moved places.now)) (row fields.now)) }
 {
-    let mut renumbered = TyFields::new(alloc);
+    let mut renumbered = TyFields::with_capacity(alloc, fields.items().len())?;
     for field in fields.items() {
         let part = renumber_ty(alloc, &field.1, places, depth)?;
         renumbered.push((field.0.share()?, part))?;

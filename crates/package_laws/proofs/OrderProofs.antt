@@ -36,6 +36,7 @@ use Rattle.package_laws.specs.FlipExample.{binary}
 use Rattle.package_laws.specs.OrderExample.{two_types, result_part, in_order, out_of_order, two_stars, functor, a_first, b_first}
 use Rattle.norm_laws.proofs.Orders.Orders.{nth}
 use Rattle.norm_laws.proofs.Norm.NormUnique.{norm_unique}
+use Rattle.explicit_laws.proofs.Liftings.{body-of}
 use Rattle.package_laws.proofs.FlipProofs.{flips, flip-form, instance-kinds, packed, one-order, one-number}
 
 abbrev outer : List Kind
@@ -134,9 +135,6 @@ swapped = OfKinds.next first (OfKinds.next second OfKinds.none)
 
 swapped-form : NormalForms inner (Ty.Var 0 ∷ (Ty.Var 1 ∷ [])) two_stars (Ty.Var 0 ∷ (Ty.Var 1 ∷ []))
 swapped-form = NormalForms.next (normal-gives first) (NormalForms.next (normal-gives second) NormalForms.none)
-
-body-of : {ctx ks : List Kind} {s : Sig} → Explicit ctx (Abs.Ex ks s) → WellFormed (extend ctx ks) s
-body-of (explicit w r e) = w
 
 param-of : {ctx ks : List Kind} {s r : Sig} → WellFormed ctx (Sig.Fun Pure ks s (Abs.Ex [] r)) → Explicit ctx (Abs.Ex ks s)
 param-of (WellFormed.pure e w) = e

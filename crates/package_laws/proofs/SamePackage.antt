@@ -31,7 +31,6 @@ use Rattle.sig_laws.proofs.Formed.WellFormedLaws.{well_formed-kinds, explicit-ki
 use Rattle.package_laws.specs.SamePaths.{SameAbs, SameSig, SameNumbers}
 use Rattle.omega_kinds.proofs.NameLaws.{name-irreflexive, name-transitive}
 use Rattle.omega_types.specs.Normaliser.{kind_at}
-use Rattle.explicit_laws.proofs.Paths.{one-field}
 use Rattle.norm_laws.proofs.Orders.OrderUnique.{one-rooted, same-own}
 use Rattle.explicit_laws.proofs.Moves.{rooted-shows, shows-substitute}
 use Rattle.explicit_laws.proofs.Liftings.{lifts-below}
@@ -42,6 +41,7 @@ use Rattle.package_laws.proofs.Shuffles.{Paired, paired-turned, shuffle, shuffle
 use Rattle.package_laws.proofs.Pairs.{Linked, Placed, Pairs, pairs, pair, placed-shuffle, placed_sig, placed_abs}
 use Rattle.norm_laws.proofs.Orders.OrderExists.{field-split}
 use Rattle.sig_laws.proofs.Formed.Conditions.{results-first, row-first}
+use Rattle.sig_laws.proofs.Algebra.PathLaws.{one-field}
 
 -- normal and well formed, and ordered explicit where a right side is
 

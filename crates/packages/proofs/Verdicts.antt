@@ -12,6 +12,7 @@ use Rattle.signatures.specs.QuantifierOrder.{Norm}
 use Rattle.signatures.specs.Verdict.{Verdict, holds, refuses}
 use Rattle.sig_laws.specs.Decide.{dec_ty}
 use Rattle.sig_laws.proofs.Formed.Conditions.{explicit-abs, match-kinds}
+use Rattle.sig_laws.proofs.Formed.Forms.{pair-same}
 use Rattle.premise_laws.proofs.Determined.{norm-one}
 use Rattle.premise_laws.proofs.Terms.{packs_all-one}
 use Rattle.packages.specs.Package.{PackTypeGives, PackGives, UnpackGives, UnpackWhy, Differ, UnpackRefuses}
@@ -24,9 +25,6 @@ pub one_pack_type : OnePackType
 one_pack_type ctx x h =
     let n = norm-one ctx x h in
     (enc_abs n.0, PackTypeGives.pack_type n.1, λ t g. let v = pack_type-view g in v.2 ∙ ap enc_abs (n.2 v.0 v.1))
-
-pair-same : {A B : Type 0} {a : A} {b : B} (p : A × B) → p.0 ≡ a → p.1 ≡ b → p ≡ (a, b)
-pair-same p x y = λ i. (x i, y i)
 
 pack-view : {ctx : List Kind} {e c : Term} {z : Abs} {ts : List Ty} (o : Ty × Term) → PackGives ctx e z ts c o.0 o.1 → (o.0 ≡ enc_abs z) × Packs ctx ts (Term.Call c e) (enc_abs z) o.1
 pack-view _ (PackGives.pack p) = (refl, p)

@@ -1,21 +1,13 @@
 -- Steps and pieces, one after the other.
 use Rattle.std.proofs.Common.{◌≡◌, ℕ, zero, suc, ◌<◌, List, [], ◌∷◌, ◌++◌, length, get_or, map, refl, ap, ◌∙◌, append_assoc, arith}
-use Rattle.std.specs.Prelude.{flat_map, codes, Result, IsErr}
+use Rattle.std.specs.Prelude.{flat_map, codes}
 use Rattle.std.proofs.lemmas.List.{append-nil}
-use Rattle.std.proofs.lemmas.Result.{MatchResult-from_err}
-use Rattle.fing_text.specs.Told.{Told}
-use Rattle.fing_text.specs.Writes.{Grew, Broke, Wrote}
 use Rattle.omega_kinds.specs.Text.{◌then◌}
 use Rattle.semantic_sigs.specs.Items.{item_of}
 use Rattle.semantic_sigs.specs.declared.path.Item.{Item as CodeItem}
 use Rattle.refusal_lines.specs.declared.pieces.Piece.{Piece}
 use Rattle.refusal_lines.specs.Line.{item_text, more_items_text}
 use Rattle.refusal_lines.specs.Pieces.{piece_text, pieces_text, PieceInScope, PiecesInScope}
-
--- a call that ends where an inner one failed
-pub wrote-err : {T E : Type 0} (old new : Told) (text : List ℕ) (r : Result T E) → IsErr r → Broke old new text → Wrote old new text r
-wrote-err old new text r failed broke =
-    MatchResult-from_err r (λ _. Grew old new text) (λ _. Broke old new text) failed (λ _. broke)
 
 abbrev pub dotted_text : CodeItem → List ℕ
 dotted_text a = codes "." then item_text (item_of a)

@@ -18,17 +18,9 @@ use Rattle.omega_types.proofs.Preservation.{conv-kinds, normal-kind}
 use Rattle.omega_types.proofs.Hereditary.{eta-normal}
 use Rattle.omega_types.proofs.Inverse.{same-normal}
 use Rattle.omega_types.proofs.LawProofs.{normal_of_normal}
+use Rattle.omega_types.proofs.BinderLaws.{spread, spread-raised}
 use Rattle.sig_laws.proofs.Algebra.EtaLaws.{applied-kinded}
 use Rattle.root_paths.specs.Rooted.{outside, if_is, rooted, spine}
-
--- a variable applied to as many variables, the last one being this
-abbrev pub spread : (index next count : ℕ) → Ty
-spread index next zero = Ty.Var index
-spread index next (suc count) = Ty.Apply (spread index (suc next) count) (Ty.Var next)
-
-pub spread-raised : (index next count : ℕ) → rename suc (spread index next count) ≡ spread (suc index) (suc next) count
-spread-raised index next zero = refl
-spread-raised index next (suc count) = ap (λ f. Ty.Apply f (Ty.Var (suc next))) (spread-raised index (suc next) count)
 
 pub outside-past : (count own : ℕ) → outside count (count + own) ≡ Some own
 outside-past count own = grind (arith, nat_tests)

@@ -1,5 +1,5 @@
 -- What the walk finds for a hidden type is what the search for it finds.
-use Rattle.std.specs.Prelude.{ℕ, zero, suc, ◌+◌, ◌<◌, ◌≤◌, ◌≡◌, List, [], ◌∷◌, length, Option, Some, None, nat_eq, true, false, Bool as Truth}
+use Rattle.std.specs.Prelude.{ℕ, zero, ◌+◌, ◌<◌, ◌≤◌, ◌≡◌, List, [], ◌∷◌, length, Option, Some, None, nat_eq, true, false, Bool as Truth}
 use Rattle.std.proofs.Common.{arith}
 use Rattle.std.proofs.lemmas.Bool.Decides.{nat_tests}
 use Rattle.std.proofs.Math.Path.{refl, sym, ap, ap₂, ◌∙◌, subst}
@@ -13,7 +13,7 @@ use Rattle.omega_types.specs.Normaliser.{normal, kind_at}
 use Rattle.omega_types.specs.Binders.{extend, past, own, applied, arrow_over}
 use Rattle.omega_types.proofs.Preservation.{conv-kinds, normal-kind}
 use Rattle.omega_types.proofs.Inverse.{one_kind}
-use Rattle.omega_types.proofs.BinderLaws.{applied-kind}
+use Rattle.omega_types.proofs.BinderLaws.{applied-kind, spread, spread-applied}
 use Rattle.signatures.specs.Signatures.Sig.{Sig, Abs, SigRow}
 use Rattle.signatures.specs.Signatures.Alike.{NormalSig, NormalSigRow}
 use Rattle.signatures.specs.Signatures.SigMentions.{MentionsSig}
@@ -24,12 +24,12 @@ use Rattle.sig_laws.specs.Decide.{dec_ty, NoneUpTo, dec_none, dec_mentions_sig}
 use Rattle.sig_laws.proofs.Algebra.BinderLaws.{past-length}
 use Rattle.sig_laws.proofs.Algebra.EtaLaws.{applied-kinded}
 use Rattle.match_laws.specs.RootSearch.{kind_left, after, or_else, where_both, find_root, find_root_row, least_root}
-use Rattle.match_laws.proofs.LookUp.Roots.{own-kind, least_root-exists, least_root-gives}
+use Rattle.match_laws.proofs.LookUp.Roots.{own-kind, least_root-exists, least_root-gives, kind_left-over}
 use Rattle.root_paths.specs.Rooted.{rooted}
 use Rattle.root_paths.specs.Least.{least_sig}
 use Rattle.root_paths.specs.Seek.{is_open, unless_barred, ends, seek, seek_abs, seek_row}
 use Rattle.root_paths.specs.Roots.{IsRoot}
-use Rattle.root_paths.proofs.RootedLaws.{spread, spread-raised, rooted-conv, rooted-is, rooted-found}
+use Rattle.root_paths.proofs.RootedLaws.{rooted-conv, rooted-is, rooted-found}
 use Rattle.root_paths.proofs.LeastLaws.{IsLeast, least-sig, least-past_sig, open-none, none-open}
 
 none-if : (o : Option SigPath) → ((p : SigPath) → o ≡ Some p → ⊥) → o ≡ None
@@ -79,16 +79,10 @@ barred-none bar own = go (is_open own bar) refl
 
 -- below a functor's variables
 
-spread-applied : (ks : List Kind) (index count : ℕ) → applied ks (spread index zero count) ≡ spread (length ks + index) zero (length ks + count)
-spread-applied [] index count = ap₂ (λ i n. spread i zero n) (omega arith) (omega arith)
-spread-applied (k ∷ ks) index count =
-    ap (λ f. applied ks (Ty.Apply f (Ty.Var zero))) (spread-raised index zero count)
-    ∙ (spread-applied ks (suc index) (suc count) ∙ ap₂ (λ i n. spread i zero n) (omega arith) (omega arith))
-
-spread-past : (ks : List Kind) (own depth : ℕ) → spread (length ks + depth + own) zero (length ks + depth) ≡ applied ks (spread (depth + own) zero depth)
+pub spread-past : (ks : List Kind) (own depth : ℕ) → spread (length ks + depth + own) zero (length ks + depth) ≡ applied ks (spread (depth + own) zero depth)
 spread-past ks own depth = ap (λ i. spread i zero (length ks + depth)) (omega arith) ∙ sym (spread-applied ks (depth + own) depth)
 
-past-depth : (ks : List Kind) (depth x : ℕ) → length ks + depth + x ≡ past ks (depth + x)
+pub past-depth : (ks : List Kind) (depth x : ℕ) → length ks + depth + x ≡ past ks (depth + x)
 past-depth ks depth x = let e = past-length ks (depth + x) in omega (arith, e)
 
 -- a variable with a root path has a kind
@@ -120,10 +114,6 @@ typ-same own depth t n h (yes e) (yes g) = ends-here (rooted depth t) own (roote
 typ-same own depth t n h (yes e) (no g) = ends-not (rooted depth t) own (λ f. g (rooted-is depth own t n f))
 typ-same {c} {k} {j} own depth t n h (no e) b =
     ends-not (rooted depth t) own (λ f. e (one_kind c (spread (depth + own) zero depth) k j (conv-kinds (rooted-conv depth own t f (normal-kind n))).1 h))
-
-kind_left-over : (ks : List Kind) (k : Kind) → kind_left ks (arrow_over ks k) ≡ k
-kind_left-over [] k = refl
-kind_left-over (j ∷ ks) k = kind_left-over ks k
 
 fun-same : {A : Type 0} {P : ℕ → Type 0} (own : ℕ) (bar : Option ℕ) (o q : Option SigPath) (a : Dec A) (b : Dec (NoneUpTo own P)) → IsLeast P bar → (A → o ≡ q) → ((A → ⊥) → o ≡ None) → unless_barred bar own o ≡ where_both a b q
 fun-same {A} {P} own bar o q (yes a) (yes b) h f g = let t = none-open P own bar h b in (let w : unless_barred bar own o ≡ o = rw t refl in w) ∙ f a

@@ -17,6 +17,12 @@ sunk-below zero h i lt = absurd (omega (arith, lt))
 sunk-below (suc depth) h zero lt = refl
 sunk-below (suc depth) h (suc i) lt = ap raised (sunk-below depth h i (omega arith))
 
+-- where each index stays, so it does below binders
+pub sunk-still : (depth : ℕ) (h : ℕ → Head) → ((i : ℕ) → h i ≡ stands (Ty.Var i)) → (i : ℕ) → sunk depth h i ≡ stands (Ty.Var i)
+sunk-still zero h all i = all i
+sunk-still (suc depth) h all zero = refl
+sunk-still (suc depth) h all (suc i) = ap raised (sunk-still depth h all i)
+
 -- the first indexes stay
 abbrev pub Keeps : ℕ → (ℕ → Head) → Type 0
 Keeps n h = (i : ℕ) → i < n → h i ≡ stands (Ty.Var i)

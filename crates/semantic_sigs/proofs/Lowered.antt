@@ -1,5 +1,5 @@
 -- Lowering a signature that does not mention the innermost variables.
-use Rattle.std.specs.Prelude.{ℕ, zero, suc, ◌+◌, ◌-◌, ◌<◌, ◌≤◌, List, [], ◌∷◌, ◌≡◌, ◌++◌, length}
+use Rattle.std.specs.Prelude.{ℕ, ◌+◌, ◌-◌, ◌<◌, ◌≤◌, List, [], ◌∷◌, ◌≡◌, ◌++◌, length}
 use Rattle.std.proofs.Common.{arith}
 use Rattle.std.proofs.Math.Decide.{dec_lt}
 use Rattle.std.proofs.Math.Logic.{inl, inr}
@@ -8,18 +8,14 @@ use Rattle.omega_kinds.specs.Kind.{Kind}
 use Rattle.omega_types.specs.Ty.{Ty, lift}
 use Rattle.omega_types.specs.Binders.{extend, past, lifts}
 use Rattle.omega_types.specs.Index.{bump}
-use Rattle.omega_types.specs.Kinding.{Lookup, here, there}
-use Rattle.omega_types.proofs.Lowering.{MapsAll, normal-mapped}
+use Rattle.omega_types.specs.Kinding.{Lookup}
+use Rattle.omega_types.proofs.Lowering.{MapsAll, normal-mapped, lift-all, outer}
 use Rattle.signatures.specs.Signatures.Sig.{Sig, Abs, SigRow}
 use Rattle.signatures.specs.Signatures.SigMentions.{MentionsSig, MentionsAbs, MentionsRow}
 use Rattle.signatures.specs.Signatures.SigSubst.{rename_sig, rename_abs, rename_sig_row}
 use Rattle.signatures.specs.Signatures.Alike.{NormalSig, NormalAbs, NormalSigRow}
 use Rattle.sig_laws.proofs.Algebra.SigAlgebra.{rename-rename_sig, substitute-vars_sig, substitute_sig-id}
 use Rattle.sig_laws.proofs.Algebra.SigMention.{substitute_sig-agree}
-
-lift-all : (P : ℕ → Type 0) {ctx other : List Kind} {r : ℕ → ℕ} (l : Kind) → MapsAll (λ i. P (suc i)) ctx other r → MapsAll P (l ∷ ctx) (l ∷ other) (lift r)
-lift-all P l h _ _ m here = here
-lift-all P l h _ _ m (there {k = k} {i = i} x) = there (h i k m x)
 
 lifts-all : (P : ℕ → Type 0) {ctx other : List Kind} {r : ℕ → ℕ} (ks : List Kind) → MapsAll (λ i. P (past ks i)) ctx other r → MapsAll P (extend ctx ks) (extend other ks) (lifts ks r)
 lifts-all P [] h = h
@@ -39,17 +35,6 @@ mutual
   sig_row-mapped : {ctx other : List Kind} (r : ℕ → ℕ) (fs : SigRow) → MapsAll (λ i. MentionsRow i fs) ctx other r → NormalSigRow ctx fs → NormalSigRow other (rename_sig_row r fs)
   sig_row-mapped r SigRow.End h n = n
   sig_row-mapped r (SigRow.More l s rest) h n = (sig-mapped r s (λ i j m. h i j (inl m)) n.0, sig_row-mapped r rest (λ i j m. h i j (inr m)) n.1)
-
-outer : (inner ctx : List Kind) (i : ℕ) (k : Kind) → length inner ≤ i → Lookup (inner ++ ctx) i k → Lookup ctx (i - length inner) k
-outer [] ctx i k h x = subst (λ j. Lookup ctx j k) (go i) x
-  where
-    go : (i : ℕ) → i ≡ i - zero
-    go i = omega arith
-outer (l ∷ inner) ctx zero k h x = absurd (omega (arith, h))
-outer (l ∷ inner) ctx (suc i) k h (there x) = subst (λ j. Lookup ctx j k) (go i (length inner)) (outer inner ctx i k (omega arith) x)
-  where
-    go : (i n : ℕ) → i - n ≡ suc i - suc n
-    go i n = omega arith
 
 at-least : (n i : ℕ) (P : Type 0) → (i < n → P → ⊥) → P → n ≤ i
 at-least n i P h p = go (dec_lt i n)

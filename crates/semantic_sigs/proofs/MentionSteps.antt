@@ -57,9 +57,13 @@ sig-absent s count index bound rest eb er le = (λ h. cc, λ m. absurd (let lt =
 pub abs-absent : (x : Abs) (count index bound rest : ℕ) → bound ≡ bound_abs x → rest ≡ bound - count → rest ≤ index → IsTrue false ↔ MentionsAbs (count + index) x
 abs-absent x count index bound rest eb er le = (λ h. cc, λ m. absurd (let lt = abs_mention-below (count + index) x m in omega (arith, lt, eb, er, le)))
 
-length-trees : (items : List SharedKind) → length (map kind_tree items) ≡ length items
+pub length-trees : (items : List SharedKind) → length (map kind_tree items) ≡ length items
 length-trees [] = refl
 length-trees (k ∷ items) = ap suc (length-trees items)
+
+pub no-kinds : (items : List SharedKind) (ks : List Kind) → map kind_tree items ≡ ks → length items ≡ 0 → ks ≡ []
+no-kinds [] ks e l = sym e
+no-kinds (k ∷ items) ks e l = absurd (omega (arith, l))
 
 past-items : (ks : List Kind) (items : List SharedKind) (index : ℕ) → map kind_tree items ≡ ks → length items + index ≡ past ks index
 past-items ks items index e = ap (λ n. n + index) (sym (length-trees items) ∙ ap length e) ∙ sym (past-length ks index)

@@ -1,15 +1,20 @@
 -- Fields that are found, and paths followed name by name.
-use Rattle.std.proofs.Common.{◌≡◌, ℕ, zero, suc, ◌+◌, ◌<◌, ◌≤◌, ◌↔◌, List, [], ◌∷◌, length, get_or, drop, map, refl, sym, ap, ◌∙◌, subst, arith}
+use Rattle.std.proofs.Common.{◌≡◌, ℕ, zero, suc, ◌+◌, ◌<◌, ◌≤◌, ◌↔◌, List, [], ◌∷◌, length, get_or, drop, map, refl, sym, ap, ◌∙◌, subst, arith, ap₂}
 use Rattle.std.proofs.Math.Seq.{drop-cons}
 use Rattle.omega_kinds.specs.Name.{Name}
 use Rattle.signatures.specs.Explicit.SigPath.{Item, PartAt}
 use Rattle.signatures.specs.Signatures.Sig.{Sig, SigRow, HasField, NoField, here, there}
+use Rattle.sig_laws.proofs.Algebra.PathLaws.{one-field, no-field}
 use Rattle.semantic_sigs.specs.Fields.{SigPairs, sig_row}
 
 next-index : (i : ℕ) → i + 1 ≡ suc i
 next-index i = omega arith
 
-row-at : (xs : SigPairs) (i : ℕ) (d : Name × Sig) → i < length xs → sig_row (drop i xs) ≡ SigRow.More (get_or xs i d).0 (get_or xs i d).1 (sig_row (drop (i + 1) xs))
+-- what is left at an item is the item and what is left after it
+pub left-more : {A : Type 0} (xs : List A) (i : ℕ) (x : A) → i < length xs → x ≡ get_or xs i x → drop i xs ≡ x ∷ drop (i + 1) xs
+left-more xs i x h e = drop-cons xs i x h ∙ ap₂ (λ y m. y ∷ drop m xs) (sym e) (sym (next-index i))
+
+pub row-at : (xs : SigPairs) (i : ℕ) (d : Name × Sig) → i < length xs → sig_row (drop i xs) ≡ SigRow.More (get_or xs i d).0 (get_or xs i d).1 (sig_row (drop (i + 1) xs))
 row-at xs i d lt = ap sig_row (drop-cons xs i d lt) ∙ ap (λ n. SigRow.More (get_or xs i d).0 (get_or xs i d).1 (sig_row (drop n xs))) (sym (next-index i))
 
 pub found-here : (xs : SigPairs) (i : ℕ) (x : Name × Sig) (l : Name) → i < length xs → x ≡ get_or xs i x → l ≡ x.0 → ((s : Sig) → HasField (sig_row (drop i xs)) l s → HasField (sig_row xs) l s) → HasField (sig_row xs) l x.1
@@ -23,17 +28,6 @@ found-later xs i x l lt ex ne back =
     let e : sig_row (drop i xs) ≡ SigRow.More x.0 x.1 (sig_row (drop (i + 1) xs)) = row-at xs i x lt ∙ ap (λ y. SigRow.More y.0 y.1 (sig_row (drop (i + 1) xs))) (sym ex) in
     (λ s h. back.0 s (subst (λ r. HasField r l s) (sym e) (there ne h)), λ h. back.1 (subst (NoField l) (sym e) (ne, h)))
 
-field-one : {fs : SigRow} {l m : Name} {s t : Sig} → HasField fs l s → HasField fs m t → l ≡ m → s ≡ t
-field-one here here e = refl
-field-one here (there n g) e = absurd (n (sym e))
-field-one (there n h) here e = absurd (n e)
-field-one (there n h) (there m g) e = field-one h g e
-
-no-field : {l : Name} {s : Sig} (fs : SigRow) → NoField l fs → HasField fs l s → ⊥
-no-field SigRow.End n h = elim h [ ]
-no-field (SigRow.More m t rest) n here = n.0 refl
-no-field (SigRow.More m t rest) n (there e h) = no-field rest n.1 h
-
 abbrev pub steps : List Name → List Item
 steps = map Item.Part
 
@@ -42,7 +36,7 @@ abbrev pub Follows : Sig → List Name → Sig → List Name → Type 0
 Follows s rest w path = (q : Sig) → PartAt s (steps rest) [] q ↔ PartAt w (steps path) [] q
 
 into-field : {fs : SigRow} {l : Name} {s q : Sig} {p : List Item} → HasField fs l s → PartAt (Sig.Str fs) (Item.Part l ∷ p) [] q → PartAt s p [] q
-into-field {q = q} {p = p} h (PartAt.field g r) = subst (λ u. PartAt u p [] q) (field-one g h refl) r
+into-field {q = q} {p = p} h (PartAt.field g r) = subst (λ u. PartAt u p [] q) (one-field g h refl) r
 
 path-at : (path : List Name) (i : ℕ) (d : Name) → i < length path → drop i path ≡ get_or path i d ∷ drop (i + 1) path
 path-at path i d lt = drop-cons path i d lt ∙ ap (λ n. get_or path i d ∷ drop n path) (sym (next-index i))

@@ -4,9 +4,10 @@ use Rattle.omega_kinds.specs.Kind.{Kind}
 use Rattle.omega_kinds.specs.Name.{Name}
 use Rattle.signatures.specs.Signatures.Sig.{Sig, Abs, SigRow}
 use Rattle.semantic_sigs.specs.Bound.{bound_sig, bound_abs, bound_sig_row}
-use Rattle.semantic_sigs.specs.Changes.{Head, tree, under_head, sunk, sinks, sig_in, abs_in, sig_row_in}
+use Rattle.omega_types.specs.Ty.{Ty}
+use Rattle.semantic_sigs.specs.Changes.{Head, stands, tree, under_head, sunk, sinks, sig_in, abs_in, sig_row_in}
 use Rattle.semantic_sigs.specs.Fields.{SigPairs, sig_row, Rises, MayFollow}
-use Rattle.semantic_sigs.proofs.HeadSteps.{Keeps, sunk-below, under-keeps, head-unchanged}
+use Rattle.semantic_sigs.proofs.HeadSteps.{Keeps, sunk-below, sunk-still, under-keeps, head-unchanged}
 
 pub sinks-keeps : (ks : List Kind) (n : ℕ) (h : ℕ → Head) → Keeps n h → Keeps (length ks + n) (sinks ks h)
 sinks-keeps [] n h k i lt = k i (omega arith)
@@ -61,3 +62,13 @@ sig_row-changed h [] = refl
 sig_row-changed h (x ∷ xs) = ap (SigRow.More x.0 (sig_in h x.1)) (sig_row-changed h xs)
 
 pub ruleset sig_steps = (sig-closed, abs-closed, sig-sinks, abs-sinks, sig_row-changed, name_follows-at)
+
+-- where each variable stays, nothing changes
+
+pub sig-still : (depth : ℕ) (h : ℕ → Head) (s : Sig) → ((i : ℕ) → h i ≡ stands (Ty.Var i)) → sig_in (sunk depth h) s ≡ s
+sig-still depth h s all = sig-unchanged (bound_sig s) (sunk depth h) s (λ i _. sunk-still depth h all i) (omega arith)
+
+pub abs-still : (depth : ℕ) (h : ℕ → Head) (x : Abs) → ((i : ℕ) → h i ≡ stands (Ty.Var i)) → abs_in (sunk depth h) x ≡ x
+abs-still depth h x all = abs-unchanged (bound_abs x) (sunk depth h) x (λ i _. sunk-still depth h all i) (omega arith)
+
+pub ruleset still_steps = (sig-still, abs-still)

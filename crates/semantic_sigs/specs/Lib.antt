@@ -1,6 +1,7 @@
 pub mod Fields
 pub mod Code
 pub mod Size
+pub mod Height
 pub mod Bound
 pub mod View
 pub mod Falls
@@ -11,3 +12,4 @@ pub mod Items
 pub mod Made
 pub mod Entries
 pub mod EnvCode
+pub mod Slots

@@ -25,7 +25,7 @@ use type_normal::NormalTy;
 pub fn instantiate(alloc: Global, abs: &Abs, types: &[NormalTy]) -> Result<Sig, Mem>
     ensures { IfOk result (λ s. (ctx : List KindTree) → NormalAbs ctx abs.now → NormalForms ctx types.now (kinds_of abs.now) types.now → IsSigAt ctx (body_of abs.now) types.now s) }
 {
-    change_sig(alloc, abs.body(), Change::Put(types), 0)
+    changed_sig(alloc, abs.body(), Change::Put(types), 0)
 }
 
 /// A type below `depth` binders, with normal types put in for the innermost variables outside these binders, one for
@@ -48,14 +48,14 @@ pub fn put_types(
 pub fn raise_sig(alloc: Global, sig: &Sig, by: u64, from: u64) -> Result<Sig, Mem>
     ensures { IfOk result (λ s. s ≡ rename_sig (bump by from) sig.now) }
 {
-    change_sig(alloc, sig, Change::Raise(by), from)
+    changed_sig(alloc, sig, Change::Raise(by), from)
 }
 
 /// The same for an abstract signature.
 pub fn raise_abs(alloc: Global, abs: &Abs, by: u64, from: u64) -> Result<Abs, Mem>
     ensures { IfOk result (λ x. x ≡ rename_abs (bump by from) abs.now) }
 {
-    change_abs(alloc, abs, Change::Raise(by), from)
+    changed_abs(alloc, abs, Change::Raise(by), from)
 }
 
 /// The signature with each free index less by `by`. Where it mentions no index below `by`, it is the one signature
@@ -66,7 +66,29 @@ pub fn lower_sig(alloc: Global, sig: &Sig, by: u64) -> Result<Sig, Mem>
     ensures raised { IfOk result (λ s. ((i : ℕ) → i < by → MentionsSig i sig.now → ⊥) → rename_sig (bump by 0) s ≡ sig.now) }
     ensures normal { IfOk result (λ s. (inner ctx : List KindTree) → length inner ≡ by → NormalSig (inner ++ ctx) sig.now → ((i : ℕ) → i < by → MentionsSig i sig.now → ⊥) → NormalSig ctx s) }
 {
-    change_sig(alloc, sig, Change::Lower(by), 0)
+    changed_sig(alloc, sig, Change::Lower(by), 0)
+}
+
+// The signature, changed below `depth` binders; shared where nothing changes.
+#[tactic(auto, using(crate::proofs::SigSteps::still_steps))]
+fn changed_sig(alloc: Global, sig: &Sig, change: Change<'_>, depth: u64) -> Result<Sig, Mem>
+    ensures { IfOk result (λ s. s ≡ sig_in (sunk depth (change_of change.entry)) sig.now) }
+{
+    if change.is_still() {
+        return sig.share();
+    }
+    change_sig(alloc, sig, change, depth)
+}
+
+// The same for an abstract signature.
+#[tactic(auto, using(crate::proofs::SigSteps::still_steps))]
+fn changed_abs(alloc: Global, abs: &Abs, change: Change<'_>, depth: u64) -> Result<Abs, Mem>
+    ensures { IfOk result (λ x. x ≡ abs_in (sunk depth (change_of change.entry)) abs.now) }
+{
+    if change.is_still() {
+        return abs.share();
+    }
+    change_abs(alloc, abs, change, depth)
 }
 
 // The signature, changed below `depth` binders.
@@ -141,7 +163,7 @@ fn change_sig_fields(
 ) -> Result<SigFields, Mem>
     ensures { IfOk result (λ f. sig_row f ≡ sig_row_in (sunk depth (change_of change.entry)) (sig_row fields.now)) }
 {
-    let mut changed = SigFields::new(alloc);
+    let mut changed = SigFields::with_capacity(alloc, fields.items().len())?;
     for field in fields.items() {
         let part = change_sig(alloc, &field.1, change, depth)?;
         changed.push((field.0.share()?, part))?;

@@ -66,7 +66,7 @@ pub fn encode_sig(alloc: Global, sig: &Sig) -> Result<Ty, Mem>
 fn encode_fields(alloc: Global, fields: &SigFields) -> Result<TyFields, Mem>
     ensures { IfOk result (λ f. row f ≡ enc_row (sig_row fields.now)) }
 {
-    let mut encoded = TyFields::new(alloc);
+    let mut encoded = TyFields::with_capacity(alloc, fields.items().len())?;
     for field in fields.items() {
         let part = encode_sig(alloc, &field.1)?;
         encoded.push((Label::Name(field.0.share()?), part))?;
@@ -78,7 +78,7 @@ fn encode_fields(alloc: Global, fields: &SigFields) -> Result<TyFields, Mem>
 fn one_part(alloc: Global, label: Label, ty: Ty) -> Result<Ty, Mem>
     ensures { IfOk result (λ t. t ≡ one_part_of label ty) }
 {
-    let mut fields = TyFields::new(alloc);
+    let mut fields = TyFields::with_capacity(alloc, 1)?;
     fields.push((label, ty))?;
     Ty::make(alloc, TyNode::Fields(fields))
 }

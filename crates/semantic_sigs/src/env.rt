@@ -1,24 +1,27 @@
 // Environments of elaboration.
-ghost use Rattle.std.specs.Prelude.{◌≡◌, ◌+◌, ◌<◌, ◌∷◌, [], IfOk, OnOk, OnErr, MatchOption, length, take};
-ghost use Rattle.omega_kinds.specs.Name.{same_name as same_name_of};
+ghost use Rattle.std.specs.Prelude.{◌≡◌, ◌+◌, ◌<◌, ◌∷◌, [], IfOk, IsSome, Some, OnOk, OnErr, MatchOption, length, take};
+ghost use Rattle.std.specs.BTreeMap.{Updates, get};
+ghost use Rattle.omega_kinds.specs.LabelOrder.{name_cmp};
 ghost use Rattle.omega_kinds.specs.View.{kind_tree};
 ghost use Rattle.omega_types.specs.EtaLong.{eta as eta_of};
 ghost use Rattle.omega_types.specs.Index.{shift};
 ghost use Rattle.omega_types.specs.Scope.{scope_of};
 ghost use Rattle.omega_types.specs.Ty.{Var};
 ghost use Rattle.omega_terms.specs.PartTerms.{type_term as type_term_of};
-ghost use Rattle.signatures.specs.Env.{find as find_in, kinds as kinds_in, first_kind as first_kind_in};
+ghost use Rattle.signatures.specs.Env.{Env as EnvTree, find as find_in, kinds as kinds_in, first_kind as first_kind_in};
 ghost use Rattle.signatures.specs.Signatures.Sig.{Typ};
-ghost use Rattle.semantic_sigs.specs.Entries.{here_first, entry_of, entries_of, is_named, seen, term_vars, type_vars};
+ghost use Rattle.semantic_sigs.specs.Entries.{here_first, entry_of, seen, term_vars};
+ghost use Rattle.semantic_sigs.specs.Slots.{Keeps, hidden_by, with_slots};
 
 use crate::changing::raise_sig;
 use crate::heads::sum;
 use crate::part_terms::{type_term, value_term};
 use crate::tree::{Sig, SigNode};
-use omega_kinds::{Kind, Mem, Name, same_name};
+use omega_kinds::{Kind, Mem, Name};
 use omega_terms::{Term, TermNode};
 use omega_types::{Ty, TyNode};
 use std::alloc::Global;
+use std::collections::BTreeMap;
 use std::marker::Model;
 use type_normal::{NormalTy, normal, plain, raise};
 
@@ -35,24 +38,40 @@ pub enum Entry {
     TypeParam(Name),
 }
 
+// A place of an environment: an entry, the place of the entry of its name that it hides, and how many type variables
+// and term variables there are up to it, with its own.
+#[derive(Drop)]
+struct Slot {
+    entry: Entry,
+    hidden: Option<usize>,
+    types: u64,
+    terms: u64,
+}
+
 /// An environment: a list of entries, each in the scope of those before it. Contracts see it as the list of its
-/// entries, the last one first, so that indexes count from it.
+/// entries, the last one first, so that indexes count from it. Beside the entries it keeps the kinds of the type
+/// variables, the number of term variables, and the place of the last entry of each name.
 #[derive(Drop)]
 pub struct Env {
-    list: Vec<Entry>,
+    slots: Vec<Slot>,
+    kinds: Vec<Kind>,
+    places: BTreeMap<Name, usize>,
+    terms: u64,
 }
 
 impl Model for Env {
+    ghost use Rattle.std.specs.Prelude.{[]};
     ghost use Rattle.signatures.specs.Env.{Env as EnvTree};
     ghost use Rattle.semantic_sigs.specs.EnvCode.{env_code};
+    ghost use Rattle.semantic_sigs.specs.Slots.{IsKept, with_slots};
 
     ghost Value = { EnvTree };
 
     ghost coded = { env_code };
 
-    ghost use Rattle.semantic_sigs.specs.Entries.{entries_of};
+    ghost view = { λ g. with_slots [] g.slots.items };
 
-    ghost view = { λ g. entries_of g.list.items };
+    ghost invariant = { λ g. IsKept g.slots.items g.kinds.items g.places g.terms };
 }
 
 impl Env {
@@ -61,7 +80,10 @@ impl Env {
         ensures { result ≡ [] }
     {
         Env {
-            list: Vec::new(alloc),
+            slots: Vec::new(alloc),
+            kinds: Vec::new(alloc),
+            places: BTreeMap::new(alloc),
+            terms: 0,
         }
     }
 
@@ -70,7 +92,21 @@ impl Env {
         ensures ok { OnOk result (self.new ≡ entry_of entry ∷ self.old) }
         ensures err { OnErr result (self.new ≡ self.old) }
     {
-        self.list.push(entry)?;
+        let terms = sum(self.terms, entry.term_vars())?;
+        self.slots.reserve(1)?;
+        let slots = self.slots.as_slice();
+        let at = slots.len();
+        let hidden = note(&mut self.kinds, &mut self.places, &entry, at)?;
+        let kinds = self.kinds.as_slice();
+        let types = kinds.len() as u64;
+        self.terms = terms;
+        // There is room.
+        self.slots.push(Slot {
+            entry,
+            hidden,
+            types,
+            terms,
+        })?;
         Ok(())
     }
 
@@ -78,20 +114,21 @@ impl Env {
     pub fn pop(&mut self) -> Option<Entry>
         ensures { MatchOption result ((self.old ≡ []) × (self.new ≡ [])) (λ entry. self.old ≡ entry_of entry ∷ self.new) }
     {
-        self.list.pop()
+        match self.slots.pop() {
+            Some(slot) => {
+                forget(&mut self.kinds, &mut self.places, &slot.entry, slot.hidden);
+                self.terms -= slot.entry.term_vars();
+                Some(slot.entry)
+            }
+            None => None,
+        }
     }
 
-    /// The kinds of the type variables, that of the innermost last. `Err` is want of memory.
-    pub fn kinds(&self, alloc: Global) -> Result<Vec<Kind>, Mem>
-        ensures { IfOk result (λ kinds. scope_of kinds.items ≡ kinds_in self.now) }
+    /// The kinds of the type variables, that of the innermost last.
+    pub fn kinds(&self) -> &[Kind]
+        ensures { scope_of result.now ≡ kinds_in self.now }
     {
-        let mut kinds = Vec::new(alloc);
-        for entry in &self.list {
-            if let Entry::TypeVar(kind) = entry {
-                kinds.push(kind.share()?)?;
-            }
-        }
-        Ok(kinds)
+        self.kinds.as_slice()
     }
 
     /// The signature and the term of the last entry of the name, as they stand at the end of the environment; `None`
@@ -102,46 +139,87 @@ impl Env {
     pub fn find(&self, alloc: Global, name: &Name) -> Result<Option<(Sig, Term)>, Mem>
         ensures { IfOk result (λ found. found ≡ find_in self.now name.now) }
     {
-        let entries = self.list.as_slice();
-        let mut types = 0;
-        let mut terms = 0;
-        let mut at = entries.len();
-        while at > 0 {
-            at -= 1;
-            let entry = &entries[at];
-            if entry.is_named(name) {
-                return found(alloc, entries, at, types, terms);
-            }
-            types = sum(types, entry.type_vars())?;
-            terms = sum(terms, entry.term_vars())?;
+        let Some(place) = self.places.get(name) else {
+            return Ok(None);
+        };
+        let at = *place;
+        let slots = self.slots.as_slice();
+        let slot = &slots[at];
+        let kinds = self.kinds.as_slice();
+        let types = kinds.len() as u64 - slot.types;
+        let terms = self.terms - slot.terms;
+        found(alloc, slots, at, types, terms)
+    }
+}
+
+// One more entry for the kinds and the places of an environment, at a place: what it hides. `Err` is want of memory,
+// and both stay as they were.
+fn note(
+    kinds: &mut Vec<Kind>,
+    places: &mut BTreeMap<Name, usize>,
+    entry: &Entry,
+    at: usize,
+) -> Result<Option<usize>, Mem>
+    ensures ok { OnOk result ((g : EnvTree) → length g ≡ at → Keeps kinds.old.items places.old g → Keeps kinds.new.items places.new (entry_of entry.now ∷ g)) }
+    ensures hidden { IfOk result (λ hidden. (g : EnvTree) → Keeps kinds.old.items places.old g → hidden ≡ hidden_by (entry_of entry.now) g) }
+    ensures err { OnErr result ((kinds.new.items ≡ kinds.old.items) × (places.new.entries ≡ places.old.entries)) }
+{
+    match entry {
+        Entry::TypeVar(kind) => {
+            kinds.push(kind.share()?)?;
+            Ok(None)
         }
-        Ok(None)
+        Entry::Named(name, _) => put(places, name, at),
+        Entry::Value(name, _) => put(places, name, at),
+        Entry::TypeParam(name) => put(places, name, at),
+    }
+}
+
+// The place of the last entry of a name, in place of the one before, which it gives.
+fn put(places: &mut BTreeMap<Name, usize>, name: &Name, at: usize) -> Result<Option<usize>, Mem>
+    ensures hidden { IfOk result (λ hidden. hidden ≡ get name_cmp places.old name.now) }
+    ensures ok { OnOk result (Updates name_cmp places.old places.new name.now (Some at)) }
+    ensures err { OnErr result (places.new.entries ≡ places.old.entries) }
+{
+    Ok(places.insert(name.share()?, at)?)
+}
+
+// The last entry is taken from the kinds and the places of an environment, and what it hid is seen again.
+fn forget(
+    kinds: &mut Vec<Kind>,
+    places: &mut BTreeMap<Name, usize>,
+    entry: &Entry,
+    hidden: Option<usize>,
+)
+    ensures { (g : EnvTree) → hidden ≡ hidden_by (entry_of entry.now) g → Keeps kinds.old.items places.old (entry_of entry.now ∷ g) → Keeps kinds.new.items places.new g }
+{
+    match entry {
+        Entry::TypeVar(_) => {
+            let _kind = kinds.pop();
+        }
+        Entry::Named(name, _) => put_back(places, name, hidden),
+        Entry::Value(name, _) => put_back(places, name, hidden),
+        Entry::TypeParam(name) => put_back(places, name, hidden),
+    }
+}
+
+// The place of a name that the map has becomes another one, or goes.
+fn put_back(places: &mut BTreeMap<Name, usize>, name: &Name, hidden: Option<usize>)
+    ensures { IsSome (get name_cmp places.old name.now) → Updates name_cmp places.old places.new name.now hidden }
+{
+    match hidden {
+        Some(at) => {
+            if let Some(place) = places.get_mut(name) {
+                *place = at;
+            }
+        }
+        None => {
+            let _place = places.remove(name);
+        }
     }
 }
 
 impl Entry {
-    // Whether the entry has this name.
-    fn is_named(&self, name: &Name) -> bool
-        ensures { result ≡ is_named name.now (entry_of self.now) }
-    {
-        match self {
-            Entry::TypeVar(_) => false,
-            Entry::Named(other, _) => is_same(name, other),
-            Entry::Value(other, _) => is_same(name, other),
-            Entry::TypeParam(other) => is_same(name, other),
-        }
-    }
-
-    // How many type variables the entry brings.
-    fn type_vars(&self) -> u64
-        ensures { result ≡ type_vars (entry_of self.now) }
-    {
-        match self {
-            Entry::TypeVar(_) => 1,
-            _ => 0,
-        }
-    }
-
     // How many term variables the entry brings.
     fn term_vars(&self) -> u64
         ensures { result ≡ term_vars (entry_of self.now) }
@@ -153,25 +231,18 @@ impl Entry {
     }
 }
 
-// Whether two names are the same.
-fn is_same(left: &Name, right: &Name) -> bool
-    ensures { result ≡ same_name_of left.now right.now }
-{
-    same_name(left, right)
-}
-
 // What the entry at a place stands for, past so many type variables and term variables.
 fn found(
     alloc: Global,
-    entries: &[Entry],
+    slots: &[Slot],
     at: usize,
     types: u64,
     terms: u64,
 ) -> Result<Option<(Sig, Term)>, Mem>
-    requires { at < length entries.now }
-    ensures { IfOk result (λ o. o ≡ seen types terms (here_first (entries_of (take (at + 1) entries.now)))) }
+    requires { at < length slots.now }
+    ensures { IfOk result (λ o. o ≡ seen types terms (here_first (with_slots [] (take (at + 1) slots.now)))) }
 {
-    match &entries[at] {
+    match &slots[at].entry {
         Entry::TypeVar(_) => Ok(None),
         Entry::Named(_, sig) => {
             let sig = raise_sig(alloc, sig, types, 0)?;
@@ -185,7 +256,7 @@ fn found(
             Ok(Some((sig, term)))
         }
         Entry::TypeParam(_) => {
-            let kind = kind_before(entries, at)?;
+            let kind = kind_before(slots, at)?;
             let (sig, term) = type_param(alloc, &kind, types)?;
             Ok(Some((sig, term)))
         }
@@ -193,14 +264,14 @@ fn found(
 }
 
 // The kind of the entry before a place, a type variable where it is asked for.
-fn kind_before(entries: &[Entry], at: usize) -> Result<Kind, Mem>
-    requires { at < length entries.now }
-    ensures { IfOk result (λ k. kind_tree k ≡ first_kind_in (entries_of (take at entries.now))) }
+fn kind_before(slots: &[Slot], at: usize) -> Result<Kind, Mem>
+    requires { at < length slots.now }
+    ensures { IfOk result (λ k. kind_tree k ≡ first_kind_in (with_slots [] (take at slots.now))) }
 {
     if at == 0 {
         return Ok(Kind::Star);
     }
-    match &entries[at - 1] {
+    match &slots[at - 1].entry {
         Entry::TypeVar(kind) => kind.share(),
         _ => Ok(Kind::Star),
     }

@@ -1,5 +1,5 @@
 // Changes of the variables in types: raised, lowered, or normal types put in for them.
-ghost use Rattle.std.specs.Prelude.{◌≡◌, ◌≤◌, ◌+◌, IfOk};
+ghost use Rattle.std.specs.Prelude.{◌≡◌, ◌≤◌, ◌+◌, ℕ, IfOk, IsTrue};
 ghost use Rattle.omega_types.specs.Fields.{row};
 ghost use Rattle.semantic_sigs.specs.Change.{change_of, head_of};
 ghost use Rattle.semantic_sigs.specs.Changes.{apply_head, head_in, row_in, stands, came, sunk, ty_in, under_head, putting};
@@ -19,6 +19,18 @@ pub(crate) enum Change<'a> {
     Raise(u64),
     Lower(u64),
     Put(&'a [NormalTy]),
+}
+
+impl Change<'_> {
+    // Whether each variable stays as it is.
+    pub(crate) fn is_still(self) -> bool
+        ensures { IsTrue result → (i : ℕ) → change_of self.entry i ≡ stands (Var i) }
+    {
+        match self {
+            Change::Raise(by) | Change::Lower(by) => by == 0,
+            Change::Put(types) => types.is_empty(),
+        }
+    }
 }
 
 // What has become of a part of a type: its own head stands, or a type came in for the head.
@@ -112,7 +124,7 @@ fn change_fields(
 ) -> Result<TyFields, Mem>
     ensures { IfOk result (λ f. row f ≡ row_in (sunk depth (change_of change.entry)) (row fields.now)) }
 {
-    let mut changed = TyFields::new(alloc);
+    let mut changed = TyFields::with_capacity(alloc, fields.items().len())?;
     for field in fields.items() {
         let part = change_tree(alloc, &field.1, change, depth)?;
         changed.push((field.0.share()?, part))?;

@@ -49,7 +49,7 @@ pub(crate) fn at_predicate(alloc: Global, ty: &Ty) -> Result<Ty, Mem>
 fn one_field(alloc: Global, label: Label, term: Term) -> Result<Term, Mem>
     ensures { IfOk result (λ e. e ≡ one_field_of label term) }
 {
-    let mut fields = TermFields::new(alloc);
+    let mut fields = TermFields::with_capacity(alloc, 1)?;
     fields.push((label, term))?;
     Term::make(alloc, TermNode::Fields(fields))
 }

@@ -1,12 +1,13 @@
 // Semantic signatures, whose parts are shared.
-ghost use Rattle.std.specs.Prelude.{◌≡◌, ◌++◌, ◌∷◌, [], IfOk, OnOk, OnErr, slice_get};
+ghost use Rattle.std.specs.Prelude.{◌≡◌, ◌≤◌, ◌+◌, ◌++◌, ◌∷◌, [], IfOk, OnOk, OnErr, slice_get};
 ghost use Rattle.std.specs.Option.{option_copied};
 ghost use Rattle.signatures.specs.Signatures.Sig.{Ex};
 ghost use Rattle.semantic_sigs.specs.Bound.{bound_sig, bound_abs, bound_sig_pairs};
 ghost use Rattle.semantic_sigs.specs.Fields.{Rises, MayFollow};
+ghost use Rattle.semantic_sigs.specs.Height.{sig_height, abs_height};
 ghost use Rattle.semantic_sigs.specs.View.{sig_of, kinds_of, body_of};
 
-use omega_kinds::{Effect, Kind, Kinds, Mem, Name, height_over};
+use omega_kinds::{Effect, Extent, Kind, Kinds, Mem, NOTHING, Name};
 use std::alloc::Global;
 use std::marker::Model;
 use std::rc::Rc;
@@ -28,11 +29,11 @@ pub struct Sig {
     made: Rc<Made>,
 }
 
-// A node with its height, in which each form counts `LEVELS`, and those of types and kinds one.
+// A node with its extent, in which each form counts `LEVELS`, and those of types and kinds one.
 #[cycle(sig)]
 #[derive(Drop)]
 struct Made {
-    height: u32,
+    extent: Extent,
     node: SigNode,
 }
 
@@ -59,8 +60,8 @@ pub enum SigNode {
 #[derive(Drop)]
 pub struct SigFields {
     pairs: Vec<(Name, Sig)>,
-    // the height of the highest part
-    height: u32,
+    // that of the parts beside each other
+    extent: Extent,
 }
 
 /// An abstract signature: one that hides types of some kinds, the outermost variable first.
@@ -79,13 +80,13 @@ pub struct Abs {
 #[cycle(sig)]
 #[derive(Drop)]
 struct AbsNode {
-    height: u32,
+    extent: Extent,
     kinds: Kinds,
     body: Sig,
 }
 
 impl Model for Sig {
-    ghost use Rattle.std.specs.Prelude.{◌≡◌};
+    ghost use Rattle.std.specs.Prelude.{◌≡◌, ◌≤◌};
     ghost use Rattle.signatures.specs.Signatures.Sig.{Sig as SigTree};
     ghost use Rattle.semantic_sigs.specs.Code.{sig_code};
 
@@ -98,11 +99,12 @@ impl Model for Sig {
     ghost size = { sig_nodes };
 
     ghost use Rattle.semantic_sigs.specs.Bound.{bound_sig as bound_of_sig};
+    ghost use Rattle.semantic_sigs.specs.Height.{sig_height};
     ghost use Rattle.semantic_sigs.specs.View.{sig_of};
 
     ghost view = { λ s. sig_of s.made.value.node };
 
-    ghost invariant = { λ s. s.bound ≡ bound_of_sig (sig_of s.made.value.node) };
+    ghost invariant = { λ s. (s.bound ≡ bound_of_sig (sig_of s.made.value.node)) × (sig_height (sig_of s.made.value.node) ≤ s.made.value.extent.height) × (s.made.value.extent.height ≤ 4096) };
 
     ghost use Rattle.semantic_sigs.specs.Falls.{made_falls};
 
@@ -110,6 +112,7 @@ impl Model for Sig {
 }
 
 impl Model for SigFields {
+    ghost use Rattle.std.specs.Prelude.{◌≤◌};
     ghost use Rattle.semantic_sigs.specs.Fields.{SigPairs};
     ghost use Rattle.semantic_sigs.specs.Code.{sig_pairs_code};
 
@@ -122,10 +125,11 @@ impl Model for SigFields {
     ghost size = { sig_pairs_nodes };
 
     ghost use Rattle.semantic_sigs.specs.Fields.{Rises};
+    ghost use Rattle.semantic_sigs.specs.Height.{sig_pairs_height};
 
     ghost view = { λ f. f.pairs.items };
 
-    ghost invariant = { λ f. Rises f.pairs.items };
+    ghost invariant = { λ f. Rises f.pairs.items × (sig_pairs_height f.pairs.items ≤ f.extent.height) };
 
     ghost use Rattle.semantic_sigs.specs.Falls.{pairs_fall};
 
@@ -133,7 +137,7 @@ impl Model for SigFields {
 }
 
 impl Model for Abs {
-    ghost use Rattle.std.specs.Prelude.{◌≡◌};
+    ghost use Rattle.std.specs.Prelude.{◌≡◌, ◌≤◌};
     ghost use Rattle.signatures.specs.Signatures.Sig.{Abs as AbsTree};
     ghost use Rattle.semantic_sigs.specs.Code.{abs_code};
 
@@ -146,11 +150,12 @@ impl Model for Abs {
     ghost size = { abs_nodes };
 
     ghost use Rattle.semantic_sigs.specs.Bound.{bound_abs as bound_of_abs};
+    ghost use Rattle.semantic_sigs.specs.Height.{abs_height};
     ghost use Rattle.semantic_sigs.specs.View.{abs_of};
 
     ghost view = { λ x. abs_of x.node.value };
 
-    ghost invariant = { λ x. x.bound ≡ bound_of_abs (abs_of x.node.value) };
+    ghost invariant = { λ x. (x.bound ≡ bound_of_abs (abs_of x.node.value)) × (abs_height (abs_of x.node.value) ≤ x.node.value.extent.height) × (x.node.value.extent.height ≤ 4096) };
 
     ghost use Rattle.semantic_sigs.specs.Falls.{abs_falls};
 
@@ -158,16 +163,16 @@ impl Model for Abs {
 }
 
 impl Sig {
-    /// The signature that a node makes. `Err` is want of memory, also for a signature so high that the walks over it are
-    /// not sure to fit on the stack.
+    /// The signature that a node makes. `Err` is want of memory, also for a signature that is too high or too
+    /// large (`Extent::over`).
     pub fn make(alloc: Global, node: SigNode) -> Result<Sig, Mem>
         ensures { IfOk result (λ s. s ≡ sig_of node) }
     {
         let bound = node.bound();
-        let height = height_over(node.highest_part(), LEVELS)?;
+        let extent = node.parts().over(LEVELS)?;
         Ok(Sig {
             bound,
-            made: Rc::new(alloc, Made { height, node })?,
+            made: Rc::new(alloc, Made { extent, node })?,
         })
     }
 
@@ -185,9 +190,13 @@ impl Sig {
         self.bound
     }
 
-    // The height.
-    fn height(&self) -> u32 {
-        self.made.height
+    /// How high and how large the signature is: each of its forms counts three in the height, and each form of its
+    /// types and of kinds one. Takes one step. No signature is higher than 4,096.
+    pub fn extent(&self) -> Extent
+        ensures height { sig_height self.now ≤ result.height }
+        ensures high { result.height ≤ 4096 }
+    {
+        self.made.extent
     }
 
     /// The same signature, with its parts shared. `Err` is want of memory.
@@ -222,14 +231,16 @@ impl SigNode {
         }
     }
 
-    // The height of the highest part.
-    fn highest_part(&self) -> u32 {
+    // The extent of the parts beside each other.
+    fn parts(&self) -> Extent
+        ensures { sig_height (sig_of self.now) ≤ result.height + 3 }
+    {
         match self {
-            SigNode::Val(ty) => plain(ty).height(),
-            SigNode::Typ(ty, kind) => plain(ty).height().max(kind.height()),
-            SigNode::Meta(sig) => sig.node.height,
-            SigNode::Str(fields) => fields.height,
-            SigNode::Fun { param, result, .. } => param.height().max(result.node.height),
+            SigNode::Val(ty) => plain(ty).extent(),
+            SigNode::Typ(ty, kind) => plain(ty).extent().beside(kind.extent()),
+            SigNode::Meta(sig) => sig.extent(),
+            SigNode::Str(fields) => fields.extent,
+            SigNode::Fun { param, result, .. } => param.extent().beside(result.extent()),
         }
     }
 }
@@ -241,8 +252,18 @@ impl SigFields {
     {
         SigFields {
             pairs: Vec::new(alloc),
-            height: 0,
+            extent: NOTHING,
         }
+    }
+
+    /// No fields, with room for so many. `Err` is want of memory.
+    pub fn with_capacity(alloc: Global, count: usize) -> Result<SigFields, Mem>
+        ensures { IfOk result (λ f. f ≡ []) }
+    {
+        Ok(SigFields {
+            pairs: Vec::with_capacity(alloc, count)?,
+            extent: NOTHING,
+        })
     }
 
     /// One more field at the end, whose name is greater than the last one.
@@ -252,9 +273,9 @@ impl SigFields {
         ensures ok { OnOk result (self.new ≡ self.old ++ item ∷ []) }
         ensures err { OnErr result (self.new ≡ self.old) }
     {
-        let height = self.height.max(item.1.height());
+        let extent = self.extent.beside(item.1.extent());
         self.pairs.push(item)?;
-        self.height = height;
+        self.extent = extent;
         Ok(())
     }
 
@@ -287,14 +308,14 @@ impl SigFields {
 
 impl Abs {
     /// The signature that hides types of these kinds, the first being the outermost, in a body. `Err` is want of memory,
-    /// also for a signature so high that the walks over it are not sure to fit on the stack.
+    /// also for a signature that is too high or too large (`Extent::over`).
     pub fn make(alloc: Global, kinds: Kinds, body: Sig) -> Result<Abs, Mem>
         ensures { IfOk result (λ x. x ≡ Ex kinds body) }
     {
         let bound = body.bound().saturating_sub(kinds.items().len() as u64);
-        let height = height_over(body.height(), LEVELS)?;
+        let extent = body.extent().over(LEVELS)?;
         let node = AbsNode {
-            height,
+            extent,
             kinds,
             body,
         };
@@ -323,6 +344,14 @@ impl Abs {
         ensures { result ≡ bound_abs self.now }
     {
         self.bound
+    }
+
+    /// How high and how large the signature is, counted as in `Sig::extent`. Takes one step.
+    pub fn extent(&self) -> Extent
+        ensures height { abs_height self.now ≤ result.height }
+        ensures high { result.height ≤ 4096 }
+    {
+        self.node.extent
     }
 
     /// The same signature, with its parts shared. `Err` is want of memory.

@@ -4,8 +4,8 @@ use Rattle.omega_kinds.specs.Name.{Name}
 use Rattle.signatures.specs.Explicit.SigPath.{PartAt}
 use Rattle.signatures.specs.Signatures.Sig.{NoField, Sig, SigRow}
 use Rattle.sig_rules.specs.Refinement.{Lacks, Leads, LeavesAt, here, there}
+use Rattle.semantic_sigs.proofs.PartSteps.{left-more}
 use Rattle.sig_calls.specs.Hidden.{IsAt}
-use Rattle.sig_calls.proofs.Lists.{from-index}
 
 abbrev pub Leaves : Sig → List Name → Name → Type 0
 Leaves s names l = LeavesAt (λ m. m) s names l
@@ -20,12 +20,12 @@ into s next l rest h =
 
 pub step-into : (s next w : Sig) (path : List Name) (i : ℕ) (l : Name) → i < length path → l ≡ get_or path i l → IsAt s l next → Follows s (drop i path) w path → Follows next (drop (i + 1) path) w path
 step-into s next w path i l lt el h f =
-    let e = from-index path i l lt el in
+    let e = left-more path i l lt el in
     let g = into s next l (drop (i + 1) path) h in
     (λ q p. f.0 q (subst (λ names. Leads s names q) (sym e) (g.0 q p)), λ m p. f.1 m (subst (λ names. Leaves s names m) (sym e) (g.1 m p)))
 
 pub step-lost : (s w : Sig) (path : List Name) (i : ℕ) (l : Name) → i < length path → l ≡ get_or path i l → Lacks s l → Follows s (drop i path) w path → Leaves w path l
-step-lost s w path i l lt el n f = f.1 l (subst (λ names. Leaves s names l) (sym (from-index path i l lt el)) (here n))
+step-lost s w path i l lt el n f = f.1 l (subst (λ names. Leaves s names l) (sym (left-more path i l lt el)) (here n))
 
 pub path-done : (s w : Sig) (path : List Name) (i : ℕ) → length path ≤ i → Follows s (drop i path) w path → Leads w path s
 path-done s w path i le f = f.0 s (subst (λ names. Leads s names s) (sym (drop_of_length-le path le)) PartAt.end)

@@ -18,10 +18,12 @@ use Rattle.signatures.specs.Signatures.FieldOrder.{insert_field, merge}
 use Rattle.signatures.specs.Explicit.WellFormed.{BeforeAll}
 use Rattle.semantic_sigs.specs.Fields.{MayFollow, Rises, SigPairs, sig_row}
 use Rattle.semantic_sigs.specs.View.{body_of, kinds_of}
+use Rattle.semantic_sigs.proofs.PartSteps.{left-more}
 use Rattle.sig_rules.specs.SigRules.{DeclarationsGive}
+use Rattle.explicit_laws.proofs.Fields.{before_all-before}
 use Rattle.sig_calls.specs.Plain.{AreApart}
 use Rattle.sig_calls.proofs.Putting.{past-bump}
-use Rattle.sig_calls.proofs.Lists.{from-index, kinds-length}
+use Rattle.sig_calls.proofs.Lists.{kinds-length}
 
 -- fields before a row
 
@@ -55,10 +57,6 @@ rises-without [] x (y ∷ ys) r = r.1
 rises-without (z ∷ []) x [] r = tt
 rises-without (z ∷ []) x (y ∷ ys) r = (name-transitive z.0 x.0 y.0 r.0 r.1.0, r.1.1)
 rises-without (z ∷ w ∷ ws) x xs r = (r.0, rises-without (w ∷ ws) x xs r.1)
-
-before_all-before : (l m : Name) (fs : SigRow) → IsTrue (name_before l m) → BeforeAll m fs → BeforeAll l fs
-before_all-before l m SigRow.End h g = tt
-before_all-before l m (SigRow.More n s rest) h g = (name-transitive l m n h g.0, before_all-before l m rest h g.1)
 
 before-all : (x : Name × Sig) (xs : SigPairs) → Rises (x ∷ xs) → BeforeAll x.0 (sig_row xs)
 before-all x [] r = tt
@@ -174,7 +172,7 @@ abbrev pub Walking : (left right done : SigPairs) (i j : ℕ) → Type 0
 Walking left right done i j = (i ≤ length left) × (j ≤ length right) × Walked left right done (drop i left) (drop j right)
 
 opened : (left right done : SigPairs) (i j : ℕ) (x y : Name × Sig) → i < length left → j < length right → x ≡ get_or left i x → y ≡ get_or right j y → Walking left right done i j → Walked left right done (x ∷ drop (i + 1) left) (y ∷ drop (j + 1) right)
-opened left right done i j x y li lj ex ey w = subst₂ (λ (xs ys : SigPairs). Walked left right done xs ys) (from-index left i x li ex) (from-index right j y lj ey) w.2
+opened left right done i j x y li lj ex ey w = subst₂ (λ (xs ys : SigPairs). Walked left right done xs ys) (left-more left i x li ex) (left-more right j y lj ey) w.2
 
 pub left-follows : (left right done : SigPairs) (i j : ℕ) (x y : Name × Sig) → i < length left → j < length right → x ≡ get_or left i x → y ≡ get_or right j y → Walking left right done i j → MayFollow done x.0
 left-follows left right done i j x y li lj ex ey w = may-follow done x (drop (i + 1) left) (opened left right done i j x y li lj ex ey w).0
@@ -185,17 +183,17 @@ right-follows left right done i j x y li lj ex ey w = may-follow done y (drop (j
 pub left-taken : (left right done now : SigPairs) (i j : ℕ) (x y : Name × Sig) → i < length left → j < length right → x ≡ get_or left i x → y ≡ get_or right j y → Less ≡ name_cmp x.0 y.0 → now ≡ done ++ x ∷ [] → Walking left right done i j → Walking left right now (i + 1) j
 left-taken left right done now i j x y li lj ex ey h e w =
     let v = walk-left left right done x y (drop (i + 1) left) (drop (j + 1) right) (less-before x.0 y.0 h) (opened left right done i j x y li lj ex ey w) in
-    (omega (arith, li), w.1, subst₂ (λ (ds ys : SigPairs). Walked left right ds (drop (i + 1) left) ys) (sym e) (sym (from-index right j y lj ey)) v)
+    (omega (arith, li), w.1, subst₂ (λ (ds ys : SigPairs). Walked left right ds (drop (i + 1) left) ys) (sym e) (sym (left-more right j y lj ey)) v)
 
 pub right-taken : (left right done now : SigPairs) (i j : ℕ) (x y : Name × Sig) → i < length left → j < length right → x ≡ get_or left i x → y ≡ get_or right j y → Greater ≡ name_cmp x.0 y.0 → now ≡ done ++ y ∷ [] → Walking left right done i j → Walking left right now i (j + 1)
 right-taken left right done now i j x y li lj ex ey h e w =
     let v = walk-right left right done x y (drop (i + 1) left) (drop (j + 1) right) (greater-after x.0 y.0 h) (opened left right done i j x y li lj ex ey w) in
-    (w.0, omega (arith, lj), subst₂ (λ (ds xs : SigPairs). Walked left right ds xs (drop (j + 1) right)) (sym e) (sym (from-index left i x li ex)) v)
+    (w.0, omega (arith, lj), subst₂ (λ (ds xs : SigPairs). Walked left right ds xs (drop (j + 1) right)) (sym e) (sym (left-more left i x li ex)) v)
 
 pub left-skipped : (left right done : SigPairs) (i j : ℕ) (x y : Name × Sig) → i < length left → j < length right → x ≡ get_or left i x → y ≡ get_or right j y → Equal ≡ name_cmp x.0 y.0 → Walking left right done i j → Walking left right done (i + 1) j
 left-skipped left right done i j x y li lj ex ey h w =
     let v = walk-same left right done x y (drop (i + 1) left) (drop (j + 1) right) (equal-same x.0 y.0 h) (opened left right done i j x y li lj ex ey w) in
-    (omega (arith, li), w.1, subst (λ (ys : SigPairs). Walked left right done (drop (i + 1) left) ys) (sym (from-index right j y lj ey)) v)
+    (omega (arith, li), w.1, subst (λ (ys : SigPairs). Walked left right done (drop (i + 1) left) ys) (sym (left-more right j y lj ey)) v)
 
 pub left-done : (left right done some all : SigPairs) (i j : ℕ) → length left ≤ i → Walking left right done i j → some ≡ done ++ drop i left → all ≡ some ++ drop j right → AreApart (sig_row left) (sig_row right) → sig_row all ≡ merge (sig_row left) (sig_row right)
 left-done left right done some all i j le w es ea a = ap sig_row (ea ∙ ap (λ zs. zs ++ drop j right) es) ∙ walk-ends_left left right done (drop i left) (drop j right) (drop_of_length-le left le) w.2 a
@@ -206,7 +204,7 @@ right-done left right done some all i j le w es ea a = ap sig_row (ea ∙ ap (λ
 -- fields that are added one after the other
 pub more-follow : (done more now : SigPairs) (i : ℕ) (x : Name × Sig) → i < length more → x ≡ get_or more i x → Rises (done ++ more) → now ≡ done ++ take i more → MayFollow now x.0
 more-follow done more now i x lt ex r e =
-    let d : drop i more ≡ x ∷ drop (i + 1) more = from-index more i x lt ex in
+    let d : drop i more ≡ x ∷ drop (i + 1) more = left-more more i x lt ex in
     let q : done ++ more ≡ (done ++ take i more) ++ (x ∷ drop (i + 1) more) = ap (λ zs. done ++ zs) (sym (take-append-drop i more)) ∙ (sym (append_assoc done (take i more) (drop i more)) ∙ ap (λ zs. (done ++ take i more) ++ zs) d) in
     subst (λ (zs : SigPairs). MayFollow zs x.0) (sym e) (may-follow (done ++ take i more) x (drop (i + 1) more) (subst (λ (zs : SigPairs). Rises zs) q r))
 

@@ -2,17 +2,17 @@
 use Rattle.std.proofs.Common.{◌≡◌, ◌↔◌, ℕ, ◌+◌, ◌<◌, ◌≤◌, List, length, get_or, drop, sym, subst, drop_of_length-le}
 use Rattle.omega_kinds.specs.Name.{Name}
 use Rattle.semantic_sigs.specs.Fields.{SigPairs, sig_row}
+use Rattle.semantic_sigs.proofs.PartSteps.{left-more}
 use Rattle.signatures.specs.Signatures.RecordOrder.{AreNew, FirstOld, IsNew, here, there}
 use Rattle.signatures.specs.Signatures.Sig.{Sig}
-use Rattle.sig_calls.proofs.Lists.{from-index}
 
 -- a name that is found is not new, and the other names are still to be tried
 pub found : (l : Name) (names : List Name) (i : ℕ) (m : Name) → i < length names → m ≡ get_or names i m → l ≡ m → (IsNew l (drop i names) ↔ IsNew l names) → IsNew l names → ⊥
-found l names i m lt em e f n = (subst (IsNew l) (from-index names i m lt em) (f.1 n)).0 e
+found l names i m lt em e f n = (subst (IsNew l) (left-more names i m lt em) (f.1 n)).0 e
 
 pub not-found : (l : Name) (names : List Name) (i : ℕ) (m : Name) → i < length names → m ≡ get_or names i m → (l ≡ m → ⊥) → (IsNew l (drop i names) ↔ IsNew l names) → (IsNew l (drop (i + 1) names) ↔ IsNew l names)
 not-found l names i m lt em n f =
-    let e = from-index names i m lt em in
+    let e = left-more names i m lt em in
     (λ h. f.0 (subst (IsNew l) (sym e) (n, h)), λ h. (subst (IsNew l) e (f.1 h)).1)
 
 pub all-tried : (l : Name) (names : List Name) (i : ℕ) → length names ≤ i → (IsNew l (drop i names) ↔ IsNew l names) → IsNew l names
@@ -23,11 +23,11 @@ abbrev pub Passes : List Name → SigPairs → SigPairs → Type 0
 Passes before rest all = (AreNew (sig_row rest) before → AreNew (sig_row all) before) × ((l : Name) → FirstOld (sig_row rest) before l → FirstOld (sig_row all) before l)
 
 pub is-old : (before : List Name) (fields : SigPairs) (i : ℕ) (x : Name × Sig) → i < length fields → x ≡ get_or fields i x → (IsNew x.0 before → ⊥) → Passes before (drop i fields) fields → FirstOld (sig_row fields) before x.0
-is-old before fields i x lt e n p = p.1 x.0 (subst (λ (xs : SigPairs). FirstOld (sig_row xs) before x.0) (sym (from-index fields i x lt e)) (here n))
+is-old before fields i x lt e n p = p.1 x.0 (subst (λ (xs : SigPairs). FirstOld (sig_row xs) before x.0) (sym (left-more fields i x lt e)) (here n))
 
 pub one-passed : (before : List Name) (fields : SigPairs) (i : ℕ) (x : Name × Sig) → i < length fields → x ≡ get_or fields i x → IsNew x.0 before → Passes before (drop i fields) fields → Passes before (drop (i + 1) fields) fields
 one-passed before fields i x lt e n p =
-    let f = from-index fields i x lt e in
+    let f = left-more fields i x lt e in
     (λ a. p.0 (subst (λ (xs : SigPairs). AreNew (sig_row xs) before) (sym f) (n, a)), λ l o. p.1 l (subst (λ (xs : SigPairs). FirstOld (sig_row xs) before l) (sym f) (there n o)))
 
 pub all-passed : (before : List Name) (fields : SigPairs) (i : ℕ) → length fields ≤ i → Passes before (drop i fields) fields → AreNew (sig_row fields) before

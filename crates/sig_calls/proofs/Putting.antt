@@ -23,8 +23,9 @@ use Rattle.sig_laws.proofs.Algebra.AlikeLaws.{conv-form_sig, conv_sig-substitute
 use Rattle.sig_laws.proofs.Algebra.BinderLaws.{past-length}
 use Rattle.sig_laws.proofs.Algebra.SigAlgebra.{substitute-rename_sig}
 use Rattle.semantic_sigs.specs.View.{body_of, kinds_of}
+use Rattle.semantic_sigs.proofs.PartSteps.{left-more}
 use Rattle.sig_calls.specs.Hidden.{PutFirst}
-use Rattle.sig_calls.proofs.Lists.{from-index, kinds-length}
+use Rattle.sig_calls.proofs.Lists.{kinds-length}
 
 -- an eta-long variable from elsewhere
 
@@ -147,7 +148,7 @@ pub own-added : (later : List SharedKind) (i n : ℕ) (k : SharedKind) (first t 
     → (now ++ vars (map kind_tree (drop (i + 1) later)) ≡ first ∷ vars (map kind_tree later)) × (n - 1 + (i + 1) ≡ length later)
 own-added later i n k first t done now lt ek et en inv =
     let rest = vars (map kind_tree (drop (i + 1) later)) in
-    let d : drop i later ≡ k ∷ drop (i + 1) later = from-index later i k lt ek in
+    let d : drop i later ≡ k ∷ drop (i + 1) later = left-more later i k lt ek in
     let own : t ≡ eta (kind_tree k) (Ty.Var (past (map kind_tree (drop (i + 1) later)) 0)) = et ∙ ap (λ m. eta (kind_tree k) (Ty.Var m)) (sym (own-index later i n inv.1)) in
     let whole : now ++ rest ≡ done ++ vars (map kind_tree (drop i later)) = ap (λ ds. ds ++ rest) en ∙ (append_assoc done (t ∷ []) rest ∙ (ap (λ u. done ++ (u ∷ rest)) own ∙ ap (λ ls. done ++ vars (map kind_tree ls)) (sym d))) in
     let e = inv.1 in

@@ -14,10 +14,11 @@ use Rattle.signatures.specs.Matching.MatchRefusal.{NoRoot, RefusesMatch}
 use Rattle.sig_laws.specs.NormalSig.{normal_sig}
 use Rattle.sig_laws.proofs.Formed.Conditions.{explicit-right, explicit-roots}
 use Rattle.match_laws.specs.MatchClaims.{IsLeft, IsRightAbs}
-use Rattle.match_laws.proofs.LookUp.LookUpLaws.{found-agree, root-agreed}
+use Rattle.match_laws.proofs.LookUp.LookUpLaws.{found-agree}
 use Rattle.match_laws.proofs.LookUp.Roots.{least-unique}
 use Rattle.match_laws.proofs.LookUp.FoundKinds.{found_at-normal}
 use Rattle.match_laws.proofs.Function.LookSound.{at-form}
+use Rattle.match_laws.proofs.OneMatch.Agree.{root-agreed}
 use Rattle.semantic_sigs.specs.View.{kinds_of, body_of}
 use Rattle.sig_match.specs.Put.{AreNormal, filled}
 use Rattle.sig_match.specs.Looking.{Looks, LookSides, FirstFound, NextSides}

@@ -7,7 +7,7 @@ use Rattle.omega_kinds.specs.declared.kind.Kind.{Kind as SharedKind}
 use Rattle.omega_types.specs.Binders.{extend, past, lifts, lam_over, puts, NormalForms}
 use Rattle.omega_types.specs.Index.{bump}
 use Rattle.omega_types.specs.Ty.{Ty}
-use Rattle.omega_types.proofs.BinderLaws.{past-maps}
+use Rattle.omega_types.proofs.BinderLaws.{past-maps, lam-take}
 use Rattle.omega_types.proofs.BinderPuts.{puts-lifts, types-fit, forms-types}
 use Rattle.signatures.specs.Signatures.Alike.{AlikeSig, NormalAbs, NormalAbsForm, IsSigAt}
 use Rattle.signatures.specs.Signatures.Sig.{Sig, Abs}
@@ -22,11 +22,6 @@ use Rattle.sig_match.specs.Put.{any_type, or_any, filled, AreNormal, MayPut, Eac
 use Rattle.sig_match.proofs.LookSteps.{nothing-put}
 
 -- a type as an operator, from the last kind to the first
-
-lam-take : (kinds : List SharedKind) (n : ℕ) (d : SharedKind) (t : Ty) → n < length kinds → lam_over (map kind_tree (take (suc n) kinds)) t ≡ lam_over (map kind_tree (take n kinds)) (Ty.Lam (kind_tree (get_or kinds n d)) t)
-lam-take [] n d t lt = absurd (omega (arith, lt))
-lam-take (k ∷ kinds) zero d t lt = refl
-lam-take (k ∷ kinds) (suc n) d t lt = ap (Ty.Lam (kind_tree k)) (lam-take kinds n d t (omega (arith, lt)))
 
 pub lam-next : (kinds : List SharedKind) (left : ℕ) (kind shared : SharedKind) (ty grown whole : Ty) → 0 < left → left ≤ length kinds → lam_over (map kind_tree (take left kinds)) ty ≡ whole → kind ≡ get_or kinds (left - 1) kind → kind_tree shared ≡ kind_tree kind → grown ≡ Ty.Lam (kind_tree shared) ty → lam_over (map kind_tree (take (left - 1) kinds)) grown ≡ whole
 lam-next kinds zero kind shared ty grown whole lt le e ek es en = absurd (omega (arith, lt))
@@ -71,10 +66,6 @@ put-found ks s n ts us x e eu h = subst (λ z. EachPut (kinds_of z) (body_of z) 
 
 pub may-put_found : (ks : List Kind) (s : Sig) (ts us : List Ty) (x : Abs) → x ≡ Abs.Ex ks s → us ≡ ts → MayPut ks s ts → MayPut (kinds_of x) (body_of x) us
 may-put_found ks s ts us x e eu h = subst (λ z. MayPut (kinds_of z) (body_of z) us) (sym e) (subst (MayPut ks s) (sym eu) h)
-
-pub no-kinds : (items : List SharedKind) (ks : List Kind) → map kind_tree items ≡ ks → length items ≡ 0 → ks ≡ []
-no-kinds [] ks e l = sym e
-no-kinds (k ∷ items) ks e l = absurd (omega (arith, l))
 
 pub put-at : (x : Abs) (ts : List Ty) (n : Sig) → ((ctx : List Kind) → NormalAbs ctx x → NormalForms ctx ts (kinds_of x) ts → IsSigAt ctx (body_of x) ts n) → EachPut (kinds_of x) (body_of x) ts n
 put-at (Abs.Ex ks r) ts n h = h

@@ -1,5 +1,5 @@
 // The public calls.
-ghost use Rattle.std.specs.Prelude.{◌≡◌, IfOk, length};
+ghost use Rattle.std.specs.Prelude.{◌≡◌, length};
 ghost use Rattle.signatures.specs.Env.{kinds as kinds_in};
 ghost use Rattle.match_laws.specs.MatchClaims.{IsLeft, IsLeftAbs, IsRightAbs};
 ghost use Rattle.sig_match.specs.Exact.{OnlyMatch, OnlySubAbs};
@@ -7,7 +7,6 @@ ghost use Rattle.sig_match.specs.Outcomes.{MatchGives, SubAbsGives};
 
 use crate::matching::{match_in, sub_abs_in};
 use crate::refusal::{MatchRefusal, Matched};
-use omega_kinds::Mem;
 use omega_terms::Term;
 use semantic_sigs::{Abs, Env, Sig};
 use std::alloc::Global;
@@ -29,7 +28,7 @@ pub fn match_sig(alloc: Global, env: &Env, left: &Sig, right: &Abs) -> Result<Ma
     ensures gives { MatchGives (kinds_in env.now) left.now right.now result }
     ensures only { OnlyMatch (kinds_in env.now) left.now right.now result }
 {
-    let depth = depth(alloc, env)?;
+    let depth = depth(env);
     match_in(alloc, depth, left, right)
 }
 
@@ -43,13 +42,13 @@ pub fn sub_abs(alloc: Global, env: &Env, left: &Abs, right: &Abs) -> Result<Term
     ensures gives { SubAbsGives (kinds_in env.now) left.now right.now result }
     ensures only { OnlySubAbs (kinds_in env.now) left.now right.now result }
 {
-    let depth = depth(alloc, env)?;
+    let depth = depth(env);
     sub_abs_in(alloc, depth, left, right)
 }
 
 // How many type variables are in scope.
-fn depth(alloc: Global, env: &Env) -> Result<u64, Mem>
-    ensures { IfOk result (λ n. n ≡ length (kinds_in env.now)) }
+fn depth(env: &Env) -> u64
+    ensures { result ≡ length (kinds_in env.now) }
 {
-    Ok(env.kinds(alloc)?.len() as u64)
+    env.kinds().len() as u64
 }

@@ -1,38 +1,16 @@
 -- The sides of the worked matches are good ones.
-use Rattle.std.specs.Prelude.{List, [], ◌∷◌, ◌≡◌, ℕ, zero}
-use Rattle.std.proofs.Common.{arith, subst, sym, refl}
+use Rattle.std.specs.Prelude.{[], ◌∷◌, ◌≡◌}
+use Rattle.std.proofs.Common.{subst, sym, refl}
 use Rattle.omega_kinds.specs.Kind.{Kind}
-use Rattle.omega_types.specs.Ty.{Ty}
 use Rattle.omega_types.specs.Kinding.{here}
 use Rattle.omega_types.specs.Kinding.HasKind.{k_var, k_int}
-use Rattle.omega_types.specs.Conversion.Conv.{c_refl}
 use Rattle.omega_types.specs.Normality.{n_int, n_neutral, n_var}
 use Rattle.signatures.specs.Env.{Env, kinds}
-use Rattle.signatures.specs.Signatures.Sig.{Sig, Abs, SigRow, HasField}
-use Rattle.signatures.specs.Explicit.SigPath.{SigPath, Item, PartAt, ParamOn}
-use Rattle.signatures.specs.Explicit.RootPath.{Rooted, RootPath, root_path, root_of}
-use Rattle.signatures.specs.Explicit.WellFormed.{WellFormed, WellFormedRow, WellFormedAbs, EachRooted, explicit, in_str, in_more, in_typ, in_end}
-use Rattle.match_laws.specs.Examples.{name_t, with_int, with_nothing, hides_t}
+use Rattle.signatures.specs.Signatures.Sig.{Sig, Abs}
+use Rattle.signatures.specs.Explicit.WellFormed.{WellFormed, WellFormedRow, WellFormedAbs, explicit, in_str, in_more, in_typ, in_end}
+use Rattle.match_laws.specs.Examples.{with_int, with_nothing, hides_t}
 use Rattle.match_laws.specs.MatchClaims.{IsLeft, IsLeftAbs, IsRightAbs}
-
-abbrev path_t : SigPath
-path_t = Item.Part name_t ∷ []
-
-abbrev body_t : Sig
-body_t = Sig.Str (SigRow.More name_t (Sig.Typ (Ty.Var zero) Kind.Star) SigRow.End)
-
-root_t : (number : ℕ) → number ≡ zero → RootPath [] (Kind.Star ∷ []) body_t number path_t
-root_t number e = subst (λ n. RootPath [] (Kind.Star ∷ []) body_t n path_t) (sym e) (root_path (omega arith) (root_of (Rooted.at (PartAt.field HasField.here PartAt.end) (c_refl (k_var here))) (λ j le ds ks q on. absurd (no_param on))))
-  where
-    no_inner : {ds ks : List Kind} {q : Sig} → ParamOn (Sig.Typ (Ty.Var zero) Kind.Star) [] ds ks q → ⊥
-    no_inner on = elim on [ ]
-
-    no_param : {ds ks : List Kind} {q : Sig} → ParamOn body_t path_t ds ks q → ⊥
-    no_param (ParamOn.field HasField.here on) = no_inner on
-    no_param (ParamOn.field (HasField.there n h) on) = elim h [ ]
-
-roots_t : EachRooted [] (Kind.Star ∷ []) body_t
-roots_t number lt = (path_t, root_t number (omega (arith, lt)))
+use Rattle.match_laws.proofs.ExampleProofs.{body_t, roots_t}
 
 well_t : WellFormed (Kind.Star ∷ []) body_t
 well_t = WellFormed.str (tt, tt) (WellFormedRow.more (WellFormed.typ (k_var here)) WellFormedRow.end)

@@ -178,8 +178,26 @@ fn found_names(alloc: Global) -> Result<bool, Mem> {
     )
 }
 
+// whether m has the signature
+fn m_is(alloc: Global, env: &Env, expected: Sig) -> Result<bool, Mem> {
+    match env.find(alloc, &name_of(alloc, b"m")?)? {
+        Some((sig, _term)) => is(alloc, &sig, &expected),
+        None => Ok(false),
+    }
+}
+
+// another m hides the first one until it is taken away
+fn hidden_name(alloc: Global) -> Result<bool, Mem> {
+    let mut env = scope(alloc)?;
+    let first = holding(alloc, var(alloc, 1)?)?;
+    env.push(Entry::Named(name_of(alloc, b"m")?, holding(alloc, int(alloc)?)?))?;
+    let hidden = m_is(alloc, &env, holding(alloc, int(alloc)?)?)?;
+    let taken = env.pop().is_some();
+    Ok(hidden && taken && m_is(alloc, &env, first)? && env.kinds().len() == 2)
+}
+
 fn kinds_of_scope(alloc: Global) -> Result<bool, Mem> {
-    Ok(scope(alloc)?.kinds(alloc)?.len() == 2)
+    Ok(scope(alloc)?.kinds().len() == 2)
 }
 
 // a path of one step, and the term of a type part
@@ -205,5 +223,6 @@ fn signatures(rt: HostRuntime) -> Result<(), Fail> {
 fn environments(rt: HostRuntime) -> Result<(), Fail> {
     assert!(rt; found_names(rt.alloc())?);
     assert!(rt; kinds_of_scope(rt.alloc())?);
+    assert!(rt; hidden_name(rt.alloc())?);
     Ok(())
 }

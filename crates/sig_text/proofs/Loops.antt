@@ -1,10 +1,7 @@
 -- Kinds, pieces and fields, one after the other.
 use Rattle.std.proofs.Common.{◌≡◌, ℕ, zero, suc, ◌+◌, ◌*◌, ◌<◌, ◌≤◌, List, [], ◌∷◌, ◌++◌, length, get_or, map, refl, ap, ◌∙◌, append_assoc, arith}
-use Rattle.std.specs.Prelude.{flat_map, codes, Result, IsErr}
+use Rattle.std.specs.Prelude.{flat_map, codes}
 use Rattle.std.proofs.lemmas.List.{append-nil}
-use Rattle.std.proofs.lemmas.Result.{MatchResult-from_err}
-use Rattle.fing_text.specs.Told.{Told}
-use Rattle.fing_text.specs.Writes.{Grew, Broke, Wrote}
 use Rattle.omega_kinds.specs.Text.{◌then◌}
 use Rattle.omega_kinds.specs.Name.{Name}
 use Rattle.omega_kinds.specs.View.{kind_tree}
@@ -18,11 +15,6 @@ use Rattle.sig_text.specs.declared.trees.Piece.TheVariants as piece
 use Rattle.sig_text.specs.Pieces.{field_text, piece_text, pieces_text, PieceInScope, PiecesInScope}
 use Rattle.sig_text.specs.SigInScope.{SigInScope, SigRowInScope}
 use Rattle.sig_text.specs.SigText.{more_kinds_text, sig_row_text}
-
--- a call that ends where an inner one failed
-pub wrote-err : {T E : Type 0} (old new : Told) (text : List ℕ) (r : Result T E) → IsErr r → Broke old new text → Wrote old new text r
-wrote-err old new text r failed broke =
-    MatchResult-from_err r (λ _. Grew old new text) (λ _. Broke old new text) failed (λ _. broke)
 
 abbrev pub spaced_text : SharedKind → List ℕ
 spaced_text k = codes " " then kind_text (kind_tree k)

@@ -240,7 +240,7 @@ fn put_in_fields(
 ) -> Result<TermFields, Mem>
     ensures { IfOk result (λ f. term_row f ≡ fields_in (sunk depth (putting types.now)) (term_row fields.now)) }
 {
-    let mut filled = TermFields::new(alloc);
+    let mut filled = TermFields::with_capacity(alloc, fields.items().len())?;
     for field in fields.items() {
         let part = put_in(alloc, &field.1, types, depth)?;
         filled.push((field.0.share()?, part))?;

@@ -6,7 +6,6 @@ use Rattle.omega_kinds.specs.Kind.{Kind}
 use Rattle.omega_kinds.specs.View.{kind_tree}
 use Rattle.omega_kinds.specs.declared.kind.Kind.{Kind as SharedKind}
 use Rattle.omega_types.specs.Ty.{Ty}
-use Rattle.omega_types.specs.Substitution.{rename}
 use Rattle.omega_types.specs.Index.{i_here}
 use Rattle.omega_types.specs.Normality.{Normal}
 use Rattle.omega_types.specs.Normaliser.{hsubst}
@@ -14,17 +13,12 @@ use Rattle.omega_types.specs.Normalises.{NormalForm}
 use Rattle.omega_types.specs.Binders.{extend, raise, ex_over}
 use Rattle.omega_types.proofs.Single.{substitute_at-zero}
 use Rattle.omega_types.proofs.Hereditary.{hsubst-gives}
-use Rattle.omega_types.proofs.BinderPuts.{NormalTypes, forms-types, forms-kinds}
+use Rattle.omega_types.proofs.BinderPuts.{NormalTypes, forms-types, forms-kinds, ex_over-hsubst}
 use Rattle.omega_types.proofs.BinderPuts.NormalTypes.{none, next}
 use Rattle.omega_terms.specs.Term.{Term}
 use Rattle.omega_terms.specs.Shorthands.{Packs, opens_after, opens, ty_lam_over}
 use Rattle.omega_terms.proofs.NormalTyping.{normal-ex}
 use Rattle.term_shorthands.specs.Packed.{pack_up, opened_times, opened, Fills}
-
--- what is left after one type is put in has the other quantifiers
-ex_over-hsubst : (j : Kind) (i : ℕ) (a : Ty) (ks : List Kind) (b : Ty) → (c : Ty) × (hsubst j i a (ex_over ks b) ≡ ex_over ks c)
-ex_over-hsubst j i a [] b = (hsubst j i a b, refl)
-ex_over-hsubst j i a (k ∷ ks) b = let q = ex_over-hsubst j (suc i) (rename suc a) ks b in (q.0, ap (Ty.Ex k) q.1)
 
 pack_up-packs : {ctx : List Kind} {ts : List Ty} {ks : List Kind} (e : Term) (b : Ty) → NormalTypes ctx ts ks → Normal ctx (ex_over ks b) Kind.Star → Packs ctx ts e (ex_over ks b) (pack_up ts e (ex_over ks b))
 pack_up-packs e b none n = Packs.none

@@ -23,7 +23,7 @@ pub fn variable(alloc: Global, index: u64) -> Result<Term, Mem>
 pub fn one_field(alloc: Global, label: Label, term: Term) -> Result<Term, Mem>
     ensures { IfOk result (λ e. e ≡ one_field_of label term) }
 {
-    let mut fields = TermFields::new(alloc);
+    let mut fields = TermFields::with_capacity(alloc, 1)?;
     fields.push((label, term))?;
     Term::make(alloc, TermNode::Fields(fields))
 }
@@ -95,9 +95,13 @@ fn pack_one(
 {
     match to.node() {
         TyNode::Ex(kind, body) => {
-            let body = as_normal(body.share()?);
-            let inner = hsubst(alloc, &body, 0, hidden, kind)?;
-            let packed = pack_all(alloc, rest, term, plain(&inner))?;
+            let packed = if rest.is_empty() {
+                term.share()?
+            } else {
+                let body = as_normal(body.share()?);
+                let inner = hsubst(alloc, &body, 0, hidden, kind)?;
+                pack_all(alloc, rest, term, plain(&inner))?
+            };
             Term::make(
                 alloc,
                 TermNode::Pack(plain(hidden).share()?, packed, to.share()?),

@@ -164,7 +164,7 @@ fn fill_fields(
 ) -> Result<TyFields, Mem>
     ensures { IfOk result (λ f. row f ≡ put_in_row (kind_tree kind.now) (args (kind_tree kind.now)) at (shift depth 0 arg.now) (row fields.now)) }
 {
-    let mut filled = TyFields::new(alloc);
+    let mut filled = TyFields::with_capacity(alloc, fields.items().len())?;
     for field in fields.items() {
         let part = fill(alloc, &field.1, at, depth, arg, kind)?;
         filled.push((field.0.share()?, part))?;

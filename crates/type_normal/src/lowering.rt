@@ -86,7 +86,7 @@ fn lower_under(alloc: Global, body: &Ty, by: u64, from: u64) -> Result<Ty, Mem>
 fn lower_fields(alloc: Global, fields: &TyFields, by: u64, from: u64) -> Result<TyFields, Mem>
     ensures { IfOk result (λ f. row f ≡ rename_row (sink by from) (row fields.now)) }
 {
-    let mut lowered = TyFields::new(alloc);
+    let mut lowered = TyFields::with_capacity(alloc, fields.items().len())?;
     for field in fields.items() {
         let part = lower_ty(alloc, &field.1, by, from)?;
         lowered.push((field.0.share()?, part))?;

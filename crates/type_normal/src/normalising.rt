@@ -129,7 +129,7 @@ fn normalise_fields(
     ensures kept { OnOk result (scope_of scope.new.items ≡ scope_of scope.old.items) }
     ensures value { IfOk result (λ f. row f ≡ normal_row (scope_of scope.old.items) (row fields.now)) }
 {
-    let mut found = TyFields::new(alloc);
+    let mut found = TyFields::with_capacity(alloc, fields.items().len())?;
     for field in fields.items() {
         let part = normalise(alloc, scope, &field.1)?;
         found.push((field.0.share()?, part))?;

@@ -28,13 +28,13 @@ use Rattle.signatures.specs.Matching.LookUp.{Found, PutFirst, FoundAt, found_at,
 use Rattle.signatures.specs.Matching.MatchRefusal.{MatchRefusal, RefusesMatch}
 use Rattle.omega_kinds.proofs.NameLaws.{dec_name}
 use Rattle.match_laws.specs.MatchFunction.{MatchOutcome, Lookings, all_found, stopped_at, MatchFn, this_or, find_field, any_type, any_types, look_end, look_field, lam_found, look_result, look, go_on, look_along, look_all}
-use Rattle.match_laws.proofs.OneMatch.Agree.{carry}
+use Rattle.match_laws.proofs.OneMatch.Agree.{carry, root-agreed}
 use Rattle.match_laws.proofs.OneMatch.Views.{field-unique}
 use Rattle.sig_laws.proofs.Formed.Conditions.{explicit-right, explicit-roots, left-functor, abs-body, match-kinds}
 use Rattle.match_laws.proofs.OneMatch.Unique.{append-one, match-unique}
 use Rattle.match_laws.proofs.LookUp.Roots.{least_root-exists, least-unique}
 use Rattle.match_laws.proofs.LookUp.Good.{GoodLeft, GoodRight, GoodAbs, good-param, good-left_result, good-right_param, good-right_result, good-pure, good-body, good-at, good-left_field, good-right_field}
-use Rattle.match_laws.proofs.LookUp.LookUpLaws.{found-view, found-agree, root-agreed, append-nothing}
+use Rattle.match_laws.proofs.LookUp.LookUpLaws.{found-view, found-agree, append-nothing}
 use Rattle.match_laws.proofs.LookUp.FoundKinds.{found_at-normal, normal_types-more, normal_types-length, kinds-one, kinds-nothing}
 use Rattle.match_laws.proofs.LookUp.Refused.{no-field, match-excluded}
 

@@ -21,9 +21,9 @@ use Rattle.match_laws.specs.RootSearch.{where_both}
 use Rattle.match_laws.specs.MatchFunction.{Outcome, MatchFn, find_field, look_field, look_result, look, where_same, where_both_same, match_sig}
 use Rattle.match_laws.specs.MatchClaims.{LookGives, LaterTypesDoNotMatter}
 use Rattle.match_laws.proofs.OneMatch.Views.{field-unique}
-use Rattle.match_laws.proofs.OneMatch.Agree.{Agree}
+use Rattle.match_laws.proofs.OneMatch.Agree.{Agree, root-agreed}
 use Rattle.match_laws.proofs.LookUp.Good.{GoodLeft, GoodRight}
-use Rattle.match_laws.proofs.LookUp.LookUpLaws.{found-unique, root-agreed}
+use Rattle.match_laws.proofs.LookUp.LookUpLaws.{found-unique}
 use Rattle.match_laws.proofs.LookUp.Refused.{no-field}
 use Rattle.match_laws.proofs.Function.LookSound.{FieldOk, has, lacks, find_field-ok, LookOk, look_found, look_none, look-ok, at-form}
 use Rattle.match_laws.proofs.Function.FunctionSound.{match_sig-ok}

@@ -24,7 +24,8 @@ use Rattle.match_laws.proofs.OneMatch.Views.{field-unique}
 use Rattle.sig_laws.proofs.Formed.Conditions.{match-kinds}
 use Rattle.match_laws.proofs.OneMatch.Unique.{append-one}
 use Rattle.match_laws.proofs.LookUp.Good.{GoodLeft, GoodRight, GoodAbs, good-left_result, good-right_result, good-pure, good-body, good-left_field, good-right_field, good-at}
-use Rattle.match_laws.proofs.LookUp.LookUpLaws.{root-agreed, agree-part, append-nothing}
+use Rattle.match_laws.proofs.LookUp.LookUpLaws.{agree-part, append-nothing}
+use Rattle.match_laws.proofs.OneMatch.Agree.{root-agreed}
 use Rattle.omega_types.proofs.BinderLaws.{applied-substitute}
 
 arrow_over-append : (ks js : List Kind) (k : Kind) → arrow_over (ks ++ js) k ≡ arrow_over ks (arrow_over js k)

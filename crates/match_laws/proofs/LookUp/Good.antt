@@ -6,12 +6,13 @@ use Rattle.omega_kinds.specs.declared.effect.Effect.TheVariants.{Pure, Impure}
 use Rattle.omega_kinds.specs.Name.{Name}
 use Rattle.omega_types.specs.Ty.{Ty}
 use Rattle.omega_types.specs.Binders.{extend, past, OfKinds}
-use Rattle.signatures.specs.Signatures.Sig.{Sig, Abs, SigRow, HasField, here, there}
+use Rattle.signatures.specs.Signatures.Sig.{Sig, Abs, SigRow, HasField}
 use Rattle.signatures.specs.Signatures.SigSubst.{raise_abs, sig_at, abs_at_under}
-use Rattle.signatures.specs.Signatures.Alike.{NormalSigForm, NormalAbsForm, NormalSig, NormalAbs, NormalSigRow}
+use Rattle.signatures.specs.Signatures.Alike.{NormalSigForm, NormalAbsForm, NormalSig, NormalAbs}
 use Rattle.signatures.specs.Explicit.WellFormed.{WellFormed, WellFormedRow, WellFormedAbs, ExplicitResults, Explicit, abs, in_str, in_more}
 use Rattle.sig_laws.proofs.Algebra.AlikeLaws.{form_sig-normal, form_abs-normal, normal_abs-rename}
 use Rattle.sig_laws.proofs.Formed.Conditions.{IsRight, RightResult, right-functor, left-functor, explicit-right, abs-body, meta-explicit, str-fields, str-results, row-field, results-field, param-raised, abs-raised, right-at, left-at}
+use Rattle.sig_laws.proofs.Algebra.PathLaws.{field-normal}
 use Rattle.omega_types.proofs.BinderLaws.{past-maps}
 
 abbrev pub GoodLeft : List Kind → Sig → Type 0
@@ -62,16 +63,11 @@ good-at g h f = (right-at g.0 h f, form_sig-normal f)
 pub good-raised : {ctx : List Kind} {x : Abs} (js : List Kind) → GoodAbs ctx x → GoodAbs (extend ctx js) (raise_abs js x)
 good-raised {ctx} {x} js g = (abs-raised js g.0, normal_abs-rename (past js) (past-maps js ctx) x g.1)
 
-row-normal : (ctx : List Kind) {fs : SigRow} {l : Name} {s : Sig} → NormalSigRow ctx fs → HasField fs l s → NormalSig ctx s
-row-normal ctx {fs = SigRow.End} n h = elim h [ ]
-row-normal ctx n here = n.0
-row-normal ctx n (there d h) = row-normal ctx n.1 h
-
 pub good-left_field : {ctx : List Kind} {fs : SigRow} {l : Name} {s : Sig} → GoodLeft ctx (Sig.Str fs) → HasField fs l s → GoodLeft ctx s
-good-left_field {ctx} g h = (row-field (str-fields g.0) h, row-normal ctx g.1 h)
+good-left_field {ctx} g h = (row-field (str-fields g.0) h, field-normal ctx g.1 h)
 
 pub good-right_field : {ctx : List Kind} {fs : SigRow} {l : Name} {s : Sig} → GoodRight ctx (Sig.Str fs) → HasField fs l s → GoodRight ctx s
-good-right_field {ctx} g h = ((row-field (str-fields g.0.0) h, results-field (str-results g.0.1) h), row-normal ctx g.1 h)
+good-right_field {ctx} g h = ((row-field (str-fields g.0.0) h, results-field (str-results g.0.1) h), field-normal ctx g.1 h)
 
 pub good-meta : {ctx : List Kind} {x : Abs} → GoodLeft ctx (Sig.Meta x) → GoodAbs ctx x
 good-meta g = (meta-explicit g.0, g.1)

@@ -6,15 +6,13 @@ use Rattle.std.proofs.lemmas.List.{length-append}
 use Rattle.omega_kinds.specs.Kind.{Kind}
 use Rattle.omega_kinds.specs.declared.effect.Effect.TheVariants.{Pure}
 use Rattle.omega_types.specs.Ty.{Ty}
-use Rattle.omega_types.specs.Conversion.{Conv}
-use Rattle.omega_types.specs.Binders.{extend, own, applied, lam_over, puts, OfKinds}
+use Rattle.omega_types.specs.Binders.{extend, lam_over, OfKinds}
 use Rattle.omega_terms.specs.Term.{Term}
 use Rattle.signatures.specs.Signatures.Sig.{Sig, Abs, HasField}
 use Rattle.signatures.specs.Signatures.SigSubst.{raise_abs, sig_at, sig_at_under, abs_at_under}
 use Rattle.signatures.specs.Signatures.Alike.{NormalSigForm, NormalAbsForm, ex}
 use Rattle.signatures.specs.Explicit.SigPath.{SigPath, Item, PartAt}
-use Rattle.signatures.specs.Explicit.RootPath.{Rooted, RootPath, root_path, LeastRoot, least, root_of}
-use Rattle.sig_laws.proofs.Formed.RootNumbers.{own_falls}
+use Rattle.signatures.specs.Explicit.RootPath.{RootPath, LeastRoot, least}
 use Rattle.signatures.specs.Matching.Subtyping.{Sub, SubResult, Match}
 use Rattle.sig_laws.proofs.Algebra.BinderLaws.{lam_over-append}
 use Rattle.sig_laws.proofs.Algebra.AlikeLaws.{form_sig-unique}
@@ -22,7 +20,7 @@ use Rattle.omega_types.proofs.BinderPuts.{NormalTypes, types-kinds}
 use Rattle.signatures.specs.Matching.LookUp.{Found, PutFirst, FoundAt, found_at, FoundAfter, Looked}
 use Rattle.match_laws.specs.RootSearch.{least_root}
 use Rattle.match_laws.proofs.OneMatch.Views.{match-view, fields-at, field-unique}
-use Rattle.match_laws.proofs.OneMatch.Agree.{carry, Agree, Agreed, agreed, same_params, type_shown}
+use Rattle.match_laws.proofs.OneMatch.Agree.{carry, Agree, type_shown, root-agreed}
 use Rattle.sig_laws.proofs.Formed.Conditions.{explicit-right, explicit-roots, match-kinds}
 use Rattle.match_laws.proofs.OneMatch.Unique.{append-one, length-below, match-unique}
 use Rattle.match_laws.proofs.LookUp.Roots.{least_root-exists, least-unique}
@@ -72,18 +70,6 @@ found-unique {ctx} (Found.result {js = js} {s = s} {r = r} {y = y} {p = p} m n f
     let e = match-unique m (good-right_param v).0 (good-param js w).0 q.0 q.1 q.4 in
     let d = form_sig-unique n (subst (λ us. NormalSigForm (extend ctx js) (sig_at_under js us s) q.2) (sym e.0) q.5) in
     ap (lam_over js) (found-unique f (good-body (good-left_result ctx js w (match-kinds m) (ex n))) (good-pure (good-right_result v)) q.3 (subst (λ z. Found (extend ctx js) z p r q.3) (sym d) q.6)) ∙ q.7
-
--- right sides with the same types before a variable agree along its root path
-
-pub root-agreed : {ctx ks : List Kind} {s r q : Sig} {p : SigPath} {ts us : List Ty} (before rest others : List Ty)
-    → ts ≡ before ++ rest → us ≡ before ++ others
-    → OfKinds ctx ts ks → OfKinds ctx us ks
-    → length before < length ks
-    → RootPath ctx ks s (length before) p
-    → NormalSigForm ctx (sig_at ts s) r → NormalSigForm ctx (sig_at us s) q
-    → (bs : List Kind) × (u : Ty) × (k : Kind) × Conv (extend (extend ctx ks) bs) u (applied bs (Ty.Var (own ks (length before)))) k × PartAt s p bs (Sig.Typ u k) × Agreed ctx (puts ts Ty.Var) (puts us Ty.Var) r q p bs u k
-root-agreed {ctx} {ks} {s} {r} {q} {p} {ts} {us} before rest others e g n m lt (root_path b (root_of (Rooted.at {bs = bs} {t = u} {k = k} a c) avoid)) nr nq =
-    (bs, u, k, c, a, agreed ctx (puts ts Ty.Var) (puts us Ty.Var) a (same_params before rest others e g n m lt (λ j le e. avoid (own ks j) (own_falls ks (length before) j le))) nr nq)
 
 pub agree-part : {r q : Sig} {p : SigPath} {bs : List Kind} {t u : Ty} {k : Kind} → Agree r q p bs t u k → PartAt r p bs (Sig.Typ t k)
 agree-part Agree.end = PartAt.end

@@ -26,7 +26,7 @@ use Rattle.signatures.specs.Explicit.SigPath.{SigPath, Item, ItemBefore, PathBef
 use Rattle.signatures.specs.Explicit.RootPath.{Rooted, ParamsAvoid, RootPath, root_path, LeastRoot, least, root_of}
 use Rattle.signatures.specs.Explicit.WellFormed.{BeforeAll, Rising, WellFormed, WellFormedRow}
 use Rattle.sig_laws.proofs.Algebra.BinderLaws.{extend-append, past-append, applied-append, past-length}
-use Rattle.sig_laws.proofs.Algebra.AlikeLaws.{normal_sig-form, normal_sig-self, form_sig-same}
+use Rattle.sig_laws.proofs.Algebra.AlikeLaws.{normal_sig-form, avoided}
 use Rattle.sig_laws.proofs.Algebra.EtaLaws.{applied-kinded}
 use Rattle.sig_laws.proofs.Algebra.Own.{split_index}
 use Rattle.sig_laws.specs.Decide.{dec_ty, NoneUpTo, dec_none, dec_mentions_sig}
@@ -166,12 +166,9 @@ searched-end {c} {o} {v} {w} {t} {k} {j} h n (no e) b = absent never
     never : (q : SigPath) → RootIn c o v w (Sig.Typ t k) q → ⊥
     never _ (RootIn.end m) = e (one_kind c o k j (conv-kinds m).1 h)
 
-kind_left-over : (ks : List Kind) (k : Kind) → kind_left ks (arrow_over ks k) ≡ k
+pub kind_left-over : (ks : List Kind) (k : Kind) → kind_left ks (arrow_over ks k) ≡ k
 kind_left-over [] k = refl
 kind_left-over (j ∷ ks) k = kind_left-over ks k
-
-avoided : {c : List Kind} {s : Sig} {i : ℕ} → NormalSig c s → Avoids c s i → MentionsSig i s → ⊥
-avoided {c} {s} {i} n (by_normal_form f h) m = h (subst (MentionsSig i) (sym (form_sig-same f ∙ normal_sig-self c s n)) m)
 
 searched-result : {c ks : List Kind} {o : Ty} {v : ℕ} {w : ℕ → ℕ} {s r : Sig} {j : Kind} {found_inside : Option SigPath} → HasKind c o j → NormalSig (extend c ks) s
     → (a : Dec (j ≡ arrow_over ks (kind_left ks j))) (b : Dec (NoneUpTo v (λ x. MentionsSig (past ks (w x)) s)))

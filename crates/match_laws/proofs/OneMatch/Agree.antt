@@ -16,11 +16,11 @@ use Rattle.omega_types.specs.Normalises.{NormalForm}
 use Rattle.omega_types.specs.Binders.{extend, past, unders, own, applied, lam_over, puts, OfKinds}
 use Rattle.omega_types.proofs.Preservation.{conv-kinds, conv-substitute, normal-kind}
 use Rattle.signatures.specs.Signatures.Sig.{Sig, Abs, SigRow, HasField}
-use Rattle.signatures.specs.Signatures.SigSubst.{substitute_sig}
+use Rattle.signatures.specs.Signatures.SigSubst.{substitute_sig, sig_at}
 use Rattle.signatures.specs.Signatures.Alike.{typ, str, fun, ex, NormalSigForm}
 use Rattle.signatures.specs.Signatures.SigMentions.{MentionsSig, Avoids, by_normal_form}
 use Rattle.signatures.specs.Explicit.SigPath.{SigPath, Item, PartAt, ParamOn}
-use Rattle.signatures.specs.Explicit.RootPath.{ParamsAvoid}
+use Rattle.signatures.specs.Explicit.RootPath.{ParamsAvoid, Rooted, RootPath, root_path, root_of}
 use Rattle.sig_laws.proofs.Algebra.BinderLaws.{extend-append, unders-append, puts-own, puts-before}
 use Rattle.sig_laws.proofs.Algebra.AlikeLaws.{conv_sig-sym, form-conv_sig, conv-form_sig, form_sig-unique, conv_sig-substitute, substitutes-convertible}
 use Rattle.sig_laws.proofs.Algebra.SigMention.{unders-agree, substitute_sig-agree}
@@ -29,6 +29,7 @@ use Rattle.sig_laws.proofs.Algebra.PathLaws.{field-substitute, field-alike}
 use Rattle.omega_types.proofs.BinderPuts.{NormalTypes, types-kinds, unders-substitutes}
 use Rattle.omega_types.proofs.BinderPuts.NormalTypes.{next}
 use Rattle.sig_laws.proofs.Algebra.Instances.{kinds-length, at-substitutes}
+use Rattle.sig_laws.proofs.Formed.RootNumbers.{own_falls}
 use Rattle.omega_types.proofs.BinderLaws.{applied-substitute}
 
 pub carry : {A B : Type 0} (P : A → B → Type 0) {a c : A} {b d : B} → a ≡ c → b ≡ d → P a b → P c d
@@ -159,3 +160,15 @@ type_shown {ctx} {ks} {tys} {t} {a} {u} {k} bs before rest e n c f =
 
     shown : puts tys Ty.Var (own ks (length before)) ≡ t
     shown = let l = len in ap (λ z. puts z Ty.Var (own ks (length before))) e ∙ puts-own before rest t Ty.Var (own ks (length before)) (omega arith)
+
+-- right sides with the same types before a variable agree along its root path
+
+pub root-agreed : {ctx ks : List Kind} {s r q : Sig} {p : SigPath} {ts us : List Ty} (before rest others : List Ty)
+    → ts ≡ before ++ rest → us ≡ before ++ others
+    → OfKinds ctx ts ks → OfKinds ctx us ks
+    → length before < length ks
+    → RootPath ctx ks s (length before) p
+    → NormalSigForm ctx (sig_at ts s) r → NormalSigForm ctx (sig_at us s) q
+    → (bs : List Kind) × (u : Ty) × (k : Kind) × Conv (extend (extend ctx ks) bs) u (applied bs (Ty.Var (own ks (length before)))) k × PartAt s p bs (Sig.Typ u k) × Agreed ctx (puts ts Ty.Var) (puts us Ty.Var) r q p bs u k
+root-agreed {ctx} {ks} {s} {r} {q} {p} {ts} {us} before rest others e g n m lt (root_path b (root_of (Rooted.at {bs = bs} {t = u} {k = k} a c) avoid)) nr nq =
+    (bs, u, k, c, a, agreed ctx (puts ts Ty.Var) (puts us Ty.Var) a (same_params before rest others e g n m lt (λ j le e. avoid (own ks j) (own_falls ks (length before) j le))) nr nq)

@@ -10,24 +10,22 @@ use Rattle.omega_kinds.specs.declared.effect.Effect.{Effect}
 use Rattle.omega_kinds.specs.declared.effect.Effect.TheVariants.{Pure}
 use Rattle.omega_kinds.specs.Name.{Name}
 use Rattle.omega_types.specs.Ty.{Ty}
-use Rattle.omega_types.specs.Conversion.{Conv}
-use Rattle.omega_types.specs.Binders.{extend, own, applied, lam_over, puts, raise}
+use Rattle.omega_types.specs.Binders.{extend, lam_over, raise}
 use Rattle.omega_terms.specs.Term.{Term, TermRow}
 use Rattle.omega_terms.specs.Coercions.{fields_part, functor_part, MatchPart, AbsPart}
 use Rattle.signatures.specs.Signatures.Sig.{Sig, Abs, SigRow, HasField, here, there}
 use Rattle.signatures.specs.Signatures.SigSubst.{sig_at, abs_at_under}
 use Rattle.signatures.specs.Signatures.Alike.{NormalSigForm, NormalAbsForm}
 use Rattle.signatures.specs.Signatures.Encoding.{enc, enc_abs}
-use Rattle.signatures.specs.Explicit.SigPath.{SigPath, PartAt}
-use Rattle.signatures.specs.Explicit.RootPath.{Rooted, RootPath, root_path, root_of}
-use Rattle.sig_laws.proofs.Formed.RootNumbers.{own_falls}
+use Rattle.signatures.specs.Explicit.SigPath.{SigPath}
+use Rattle.signatures.specs.Explicit.RootPath.{RootPath}
 use Rattle.signatures.specs.Explicit.WellFormed.{EachRooted, WellFormed, WellFormedRow, WellFormedAbs, ExplicitResultsRow, Explicit}
 use Rattle.signatures.specs.Matching.Subtyping.{Sub, SubFields, SubResult, SubAbs, Match}
 use Rattle.sig_laws.proofs.Algebra.AlikeLaws.{form_sig-unique, form_abs-unique}
 use Rattle.omega_types.proofs.BinderPuts.{NormalTypes, forms-types, types-kinds}
 use Rattle.sig_laws.proofs.Algebra.Instances.{kinds-length, guess-form}
 use Rattle.match_laws.proofs.OneMatch.Views.{sub-view, fields-view, result-view, abs-view, match-view, fields-at, field-unique, match_part-unique, abs_part-unique}
-use Rattle.match_laws.proofs.OneMatch.Agree.{carry, Agree, Agreed, agreed, same_params, type_shown}
+use Rattle.match_laws.proofs.OneMatch.Agree.{carry, Agree, type_shown, root-agreed}
 use Rattle.sig_laws.proofs.Formed.WellFormedLaws.{explicit-body}
 
 -- the types are found at the root paths, one after the other
@@ -35,17 +33,6 @@ use Rattle.sig_laws.proofs.Formed.WellFormedLaws.{explicit-body}
 pub append-one : (before rest : List Ty) (t : Ty) → before ++ (t ∷ rest) ≡ (before ++ (t ∷ [])) ++ rest
 append-one [] rest t = refl
 append-one (b ∷ before) rest t = ap (◌∷◌ b) (append-one before rest t)
-
--- what is at hand of a variable's root path on both sides
-pub first_agreed : {ctx ks : List Kind} {s r q : Sig} {p : SigPath} {ts us : List Ty} (before rest others : List Ty)
-    → ts ≡ before ++ rest → us ≡ before ++ others
-    → NormalTypes ctx ts ks → NormalTypes ctx us ks
-    → length before < length ks
-    → RootPath ctx ks s (length before) p
-    → NormalSigForm ctx (sig_at ts s) r → NormalSigForm ctx (sig_at us s) q
-    → (bs : List Kind) × (u : Ty) × (k : Kind) × Conv (extend (extend ctx ks) bs) u (applied bs (Ty.Var (own ks (length before)))) k × PartAt s p bs (Sig.Typ u k) × Agreed ctx (puts ts Ty.Var) (puts us Ty.Var) r q p bs u k
-first_agreed {ctx} {ks} {s} {r} {q} {p} {ts} {us} before rest others e g n m lt (root_path b (root_of (Rooted.at {bs = bs} {t = u} {k = k} a c) avoid)) nr nq =
-    (bs, u, k, c, a, agreed ctx (puts ts Ty.Var) (puts us Ty.Var) a (same_params before rest others e g (types-kinds n) (types-kinds m) lt (λ j le e. avoid (own ks j) (own_falls ks (length before) j le))) nr nq)
 
 pub first_same : {ctx ks : List Kind} {s r q : Sig} {p : SigPath} {ts us : List Ty} (before rest others : List Ty) (t u : Ty)
     → ts ≡ before ++ (t ∷ rest) → us ≡ before ++ (u ∷ others)
@@ -56,7 +43,7 @@ pub first_same : {ctx ks : List Kind} {s r q : Sig} {p : SigPath} {ts us : List 
     → ((p : SigPath) (bs : List Kind) (a b : Ty) (k : Kind) → Agree r q p bs a b k → a ≡ b)
     → t ≡ u
 first_same {p = p} before rest others t u e g n m lt root nr nq h =
-    let w = first_agreed before (t ∷ rest) (u ∷ others) e g n m lt root nr nq in
+    let w = root-agreed before (t ∷ rest) (u ∷ others) e g (types-kinds n) (types-kinds m) lt root nr nq in
     let z = w.5 in
     sym (type_shown w.0 before rest e n w.3 z.3) ∙ (ap (lam_over w.0) (h p w.0 z.0 z.1 w.2 z.2) ∙ type_shown w.0 before others g m w.3 z.4)
 

@@ -33,8 +33,8 @@ use Rattle.sig_laws.proofs.Algebra.EtaLaws.{lam_over-conv, applied-kinded, eta_o
 use Rattle.sig_laws.proofs.Algebra.Own.{split_index, unders-below}
 use Rattle.omega_types.proofs.BinderPuts.{NormalTypes, forms-types, types-kinds, unders-substitutes}
 use Rattle.sig_laws.proofs.Algebra.Instances.{puts-substitutes, puts-convertible, past-substitutes, kinds-length}
-use Rattle.sig_laws.proofs.Algebra.PathLaws.{field-alike, part-substitute, part-alike}
-use Rattle.explicit_laws.proofs.Paths.{one-field, same_name_of, same_rest_of}
+use Rattle.sig_laws.proofs.Algebra.PathLaws.{field-alike, part-substitute, part-alike, one-field}
+use Rattle.explicit_laws.proofs.Paths.{same_name_of, same_rest_of}
 use Rattle.explicit_laws.proofs.Moves.{Shows, shows, rooted-shows, shows-rooted, shows-substitute}
 use Rattle.explicit_laws.proofs.Positions.{own-below}
 use Rattle.norm_laws.proofs.Orders.Orders.{lookup-own, own-own}

@@ -24,12 +24,13 @@ use Rattle.sig_laws.proofs.Algebra.AlikeLaws.{conv_sig-gives, form_sig-unique}
 use Rattle.sig_laws.proofs.Algebra.BinderLaws.{extend-append, past-append}
 use Rattle.sig_laws.proofs.Algebra.EtaLaws.{applied-kinded}
 use Rattle.omega_kinds.proofs.NameLaws.{dec_name}
-use Rattle.explicit_laws.proofs.Paths.{one-field, one-part}
+use Rattle.explicit_laws.proofs.Paths.{one-part}
 use Rattle.explicit_laws.proofs.Liftings.{params-result}
 use Rattle.norm_laws.proofs.Orders.Aligned.{part-kind, str-kinds, param-kinds, result-kinds}
 use Rattle.norm_laws.proofs.Orders.Heads.{lookup-of}
 use Rattle.omega_types.proofs.BinderLaws.{applied-kind}
 use Rattle.sig_laws.specs.Decide.{dec_by, dec_ty, dec_mentions_sig}
+use Rattle.sig_laws.proofs.Algebra.PathLaws.{one-field}
 
 -- equality
 
@@ -73,14 +74,14 @@ find_field (SigRow.More m s rest) l = go (dec_name l m) (find_field rest l)
 
 -- the parameters on a path
 
-abbrev Enters : SigPath → Type 0
+abbrev pub Enters : SigPath → Type 0
 Enters [] = ⊥
 Enters (Item.Part l ∷ p) = Unit {0}
 Enters (Item.Arg ∷ p) = ⊥
 Enters (Item.Res ∷ p) = Unit {0}
 Enters (Item.Meta ∷ p) = ⊥
 
-param-enters : {s t : Sig} {p : SigPath} {ds ks : List Kind} → ParamOn s p ds ks t → Enters p
+pub param-enters : {s t : Sig} {p : SigPath} {ds ks : List Kind} → ParamOn s p ds ks t → Enters p
 param-enters ParamOn.here = tt
 param-enters (ParamOn.field h on) = tt
 param-enters (ParamOn.result on) = tt

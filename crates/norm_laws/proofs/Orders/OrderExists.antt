@@ -65,7 +65,7 @@ pub data LeastPath (s : Sig) (Q : SigPath → Type 0) : Type 0 where
 abbrev pub Known : Sig → (SigPath → Type 0) → Type 0
 Known s Q = (p : SigPath) (bs : List Kind) (t : Ty) (k : Kind) → PartAt s p bs (Sig.Typ t k) → Dec (Q p)
 
-before_all-field : (l m : Name) {q : Sig} {fs : SigRow} → BeforeAll l fs → HasField fs m q → NameBefore l m
+pub before_all-field : (l m : Name) {q : Sig} {fs : SigRow} → BeforeAll l fs → HasField fs m q → NameBefore l m
 before_all-field l m h here = h.0
 before_all-field l m h (there n g) = before_all-field l m h.1 g
 
@@ -74,12 +74,12 @@ field-split here = inl (refl, refl)
 field-split (there n h) = inr h
 
 -- an earlier path in a structure enters an earlier field or the same one
-before-cases : {l m : Name} {p o : SigPath} → PathBefore (Item.Part l ∷ p) (Item.Part m ∷ o) → NameBefore l m ⊎ ((l ≡ m) × PathBefore p o)
+pub before-cases : {l m : Name} {p o : SigPath} → PathBefore (Item.Part l ∷ p) (Item.Part m ∷ o) → NameBefore l m ⊎ ((l ≡ m) × PathBefore p o)
 before-cases (first (by_name h)) = inl h
 before-cases (later h) = inr (refl, h)
 
 -- where a path to a type can go
-abbrev Opens : Sig → Type 0
+abbrev pub Opens : Sig → Type 0
 Opens (Sig.Val t) = ⊥
 Opens (Sig.Meta x) = ⊥
 Opens (Sig.Typ t k) = Unit {0}
@@ -88,7 +88,7 @@ Opens (Sig.Fun Pure ks s (Abs.Ex [] r)) = Unit {0}
 Opens (Sig.Fun Pure ks s (Abs.Ex (k ∷ js) r)) = ⊥
 Opens (Sig.Fun Impure ks s x) = ⊥
 
-part-opens : {s : Sig} {p : SigPath} {bs : List Kind} {t : Ty} {k : Kind} → PartAt s p bs (Sig.Typ t k) → Opens s
+pub part-opens : {s : Sig} {p : SigPath} {bs : List Kind} {t : Ty} {k : Kind} → PartAt s p bs (Sig.Typ t k) → Opens s
 part-opens PartAt.end = tt
 part-opens (PartAt.field h x) = tt
 part-opens (PartAt.result x) = tt
@@ -111,7 +111,7 @@ data ResultPart (ks : List Kind) (r : Sig) (o : SigPath) : Type 0 where
 result-part : {ks bs : List Kind} {s r : Sig} {o : SigPath} {t : Ty} {k : Kind} → PartAt (Sig.Fun Pure ks s (Abs.Ex [] r)) o bs (Sig.Typ t k) → ResultPart ks r o
 result-part {t = t} {k = k} (PartAt.result {bs = bs} {p = p} x) = in_result p bs t k refl x
 
-before-result : {p o : SigPath} → PathBefore (Item.Res ∷ p) (Item.Res ∷ o) → PathBefore p o
+pub before-result : {p o : SigPath} → PathBefore (Item.Res ∷ p) (Item.Res ∷ o) → PathBefore p o
 before-result (later h) = h
 before-result (first h) = elim h [ ]
 
@@ -319,7 +319,7 @@ order_exists ctx ks s w r = take_rest ctx ks s w r (length ks) [] tt tt (omega a
 
 -- norm exists, and there is one
 
-root-each : {ctx ks : List Kind} {s t : Sig} → NormSig (extend ctx ks) s t → EachRooted ctx ks s → EachRooted ctx ks t
+pub root-each : {ctx ks : List Kind} {s t : Sig} → NormSig (extend ctx ks) s t → EachRooted ctx ks s → EachRooted ctx ks t
 root-each n r i lt = let q = r i lt in (q.0, root-norm n q.1)
 
 pub data NormOf (ctx : List Kind) (s : Sig) : Type 0 where

@@ -12,6 +12,7 @@ use Rattle.signatures.specs.Signatures.Sig.{Sig, Abs, SigRow}
 use Rattle.signatures.specs.Signatures.SigSubst.{rename_sig, rename_abs, rename_sig_row, substitute_sig, substitute_abs, substitute_sig_row}
 use Rattle.sig_laws.specs.NormalSig.{normal_sig, normal_abs, normal_sig_row}
 use Rattle.signatures.specs.Signatures.Alike.{Between, AlikeSig, AlikeAbs, AlikeRow, val, typ, meta, str, fun, ex, end, more, ConvBetween, ConvSig, ConvAbs, NormalSigForm, NormalAbsForm, NormalSig, NormalAbs, NormalSigRow}
+use Rattle.signatures.specs.Signatures.SigMentions.{MentionsSig, Avoids, by_normal_form}
 use Rattle.sig_laws.proofs.Algebra.BinderLaws.{unders-convertible}
 use Rattle.omega_types.proofs.BinderPuts.{form-is, lifts-maps}
 
@@ -169,6 +170,9 @@ same-conv_sig {ctx} {x} {y} c d e = conv_sig-trans (form-conv_sig (conv_sig-give
 
 pub normal_sig-self : (ctx : List Kind) (x : Sig) → NormalSig ctx x → normal_sig ctx x ≡ x
 normal_sig-self ctx x n = sym (form_sig-same (normal_sig-form ctx x n))
+
+pub avoided : {c : List Kind} {s : Sig} {i : ℕ} → NormalSig c s → Avoids c s i → MentionsSig i s → ⊥
+avoided {c} {s} {i} n (by_normal_form f h) m = h (subst (MentionsSig i) (sym (form_sig-same f ∙ normal_sig-self c s n)) m)
 
 pub normal_abs-self : (ctx : List Kind) (x : Abs) → NormalAbs ctx x → normal_abs ctx x ≡ x
 normal_abs-self ctx x n = sym (form_abs-same (normal_abs-form ctx x n))

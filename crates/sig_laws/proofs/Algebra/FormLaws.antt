@@ -1,15 +1,16 @@
 -- A signature has at most one normal form, and the context of an environment.
 use Rattle.std.specs.Prelude.{List, [], ◌∷◌, ◌≡◌}
-use Rattle.std.proofs.Math.Path.{refl}
+use Rattle.std.proofs.Math.Path.{refl, subst}
 use Rattle.omega_kinds.specs.Kind.{Kind}
 use Rattle.omega_types.specs.Ty.{Ty}
 use Rattle.omega_types.specs.Conversion.Conv.{c_sym, c_trans}
 use Rattle.omega_types.specs.Normalises.{NormalForm}
 use Rattle.omega_types.specs.Binders.{extend}
 use Rattle.omega_types.proofs.Readback.{unique_normal_forms}
-use Rattle.signatures.specs.Signatures.Sig.{Sig, Abs, SigRow}
+use Rattle.signatures.specs.Signatures.Sig.{Sig, Abs, SigRow, Module}
 use Rattle.signatures.specs.Signatures.Alike.{AlikeSig, AlikeAbs, AlikeRow}
 use Rattle.signatures.specs.Env.{Env, Entry, kinds, type_vars}
+use Rattle.sig_laws.specs.Good.{OkModule}
 
 pub one-form : {ctx : List Kind} {t n m : Ty} {k : Kind} → NormalForm ctx t k n → NormalForm ctx t k m → n ≡ m
 one-form {ctx} {t} {n} {m} {k} h g = unique_normal_forms ctx n m k h.0 g.0 (c_trans (c_sym h.1) g.1)
@@ -33,3 +34,7 @@ mutual
 pub kinds-type_vars : (g : Env) (ks : List Kind) → kinds (type_vars g ks) ≡ extend (kinds g) ks
 kinds-type_vars g [] = refl
 kinds-type_vars g (k ∷ ks) = kinds-type_vars (Entry.TypeVar k ∷ g) ks
+
+-- a module under the types of a signature
+pub module-under : (g : Env) (ks : List Kind) (M : Module) → OkModule (kinds (type_vars g ks)) M → OkModule (extend (kinds g) ks) M
+module-under g ks M h = subst (λ ctx. OkModule ctx M) (kinds-type_vars g ks) h

@@ -6,9 +6,9 @@ use Rattle.omega_kinds.specs.declared.effect.Effect.TheVariants.{Pure}
 use Rattle.omega_kinds.specs.Name.{Name}
 use Rattle.omega_types.specs.Ty.{Ty}
 use Rattle.omega_types.specs.Binders.{extend, unders}
-use Rattle.signatures.specs.Signatures.Sig.{Sig, Abs, SigRow, HasField, here, there}
+use Rattle.signatures.specs.Signatures.Sig.{Sig, Abs, SigRow, HasField, here, there, NoField}
 use Rattle.signatures.specs.Signatures.SigSubst.{substitute_sig, substitute_sig_row}
-use Rattle.signatures.specs.Signatures.Alike.{Between, AlikeSig, AlikeRow, str, fun, ex, end, more}
+use Rattle.signatures.specs.Signatures.Alike.{Between, AlikeSig, AlikeRow, str, fun, ex, end, more, NormalSig, NormalSigRow}
 use Rattle.signatures.specs.Explicit.SigPath.{SigPath, Item, PartAt, ParamOn}
 use Rattle.sig_laws.proofs.Algebra.BinderLaws.{extend-append, unders-append}
 
@@ -27,6 +27,21 @@ pub field-back : (f : ℕ → Ty) (fs : SigRow) {l : Name} {t : Sig} → HasFiel
 field-back f SigRow.End h = elim h [ ]
 field-back f (SigRow.More m s rest) here = (s, here, refl)
 field-back f (SigRow.More m s rest) (there n h) = let q = field-back f rest h in (q.0, there n q.1, q.2)
+
+pub one-field : {fs : SigRow} {l m : Name} {s t : Sig} → HasField fs l s → HasField fs m t → l ≡ m → s ≡ t
+one-field here here e = refl
+one-field here (there n h) e = absurd (n (sym e))
+one-field (there n h) here e = absurd (n e)
+one-field (there n h) (there m g) e = one-field h g e
+
+pub no-field : {l : Name} {s : Sig} (fs : SigRow) → NoField l fs → HasField fs l s → ⊥
+no-field SigRow.End n h = elim h [ ]
+no-field (SigRow.More m t rest) n here = n.0 refl
+no-field (SigRow.More m t rest) n (there e h) = no-field rest n.1 h
+
+pub field-normal : (ctx : List Kind) {fs : SigRow} {l : Name} {s : Sig} → NormalSigRow ctx fs → HasField fs l s → NormalSig ctx s
+field-normal ctx n here = n.0
+field-normal ctx n (there d h) = field-normal ctx n.1 h
 
 -- parts
 

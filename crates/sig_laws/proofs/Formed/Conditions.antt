@@ -16,6 +16,7 @@ use Rattle.signatures.specs.Explicit.WellFormed.{EachRooted, WellFormed, WellFor
 use Rattle.sig_laws.proofs.Algebra.AlikeLaws.{form-conv_sig, form-conv_abs}
 use Rattle.sig_laws.proofs.Formed.WellFormedLaws.{well_formed-substitute, well_formed-conv, well_formed_abs-substitute, well_formed_abs-conv, explicit_results-substitute, explicit_results-conv, explicit-rename}
 use Rattle.sig_laws.proofs.Algebra.Instances.{at-substitutes, under-at-substitutes}
+use Rattle.sig_laws.specs.Good.{OkSig, OkRow}
 use Rattle.omega_types.proofs.BinderLaws.{past-maps}
 
 -- a signature that stands on the right
@@ -55,6 +56,9 @@ str-fields (WellFormed.str r w) = w
 
 pub str-results : {ctx : List Kind} {fs : SigRow} → ExplicitResults ctx (Sig.Str fs) → ExplicitResultsRow ctx fs
 str-results (in_str r) = r
+
+pub structure-row : {ctx : List Kind} {fs : SigRow} → OkSig ctx (Sig.Str fs) → OkRow ctx fs
+structure-row h = (str-fields h.0, h.1)
 
 pub row-first : {ctx : List Kind} {l : Name} {s : Sig} {fs : SigRow} → WellFormedRow ctx (SigRow.More l s fs) → WellFormed ctx s × WellFormedRow ctx fs
 row-first (WellFormedRow.more s fs) = (s, fs)

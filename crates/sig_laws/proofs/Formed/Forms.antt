@@ -60,7 +60,7 @@ sig_dec = Sig-discrete dec_ty Kind-discrete effect_dec kinds_dec dec_name
 
 -- forms
 
-pair-same : {A B : Type 0} {a : A} {b : B} (p : A × B) → p.0 ≡ a → p.1 ≡ b → p ≡ (a, b)
+pub pair-same : {A B : Type 0} {a : A} {b : B} (p : A × B) → p.0 ≡ a → p.1 ≡ b → p ≡ (a, b)
 pair-same p x y = λ i. (x i, y i)
 
 pub kind-arrow : (k : Kind) → Perhaps (λ (p : Kind × Kind). k ≡ Kind.Arrow p.0 p.1)

@@ -5,11 +5,12 @@ use Rattle.omega_types.specs.Ty.{Ty}
 use Rattle.omega_terms.specs.Fields.{term_row}
 use Rattle.omega_terms.specs.Term.{Term}
 use Rattle.semantic_sigs.specs.declared.made.Typed.{Typed}
+use Rattle.semantic_sigs.proofs.PartSteps.{left-more}
 use Rattle.core_rules.specs.CoreWhy.{DuplicateField}
 use Rattle.core_rules.specs.ExpRules.{RecordGives, RecordRefuses}
 use Rattle.core_calls.specs.Records.{labelled, exp_fields}
 use Rattle.core_calls.proofs.Conclusions.{exit}
-use Rattle.core_calls.proofs.RecordSteps.{ExpsLeft, left-more, left-none, exps-begin, exps-next, exps-again, exps-end}
+use Rattle.core_calls.proofs.RecordSteps.{ExpsLeft, left-none, exps-begin, exps-next, exps-again, exps-end}
 use Rattle.core_calls.proofs.records.fields_exp.Goals as goal
 
 pub loop-field-init : goal.loop-field-init

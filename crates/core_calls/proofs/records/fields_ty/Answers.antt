@@ -5,11 +5,12 @@ use Rattle.omega_kinds.specs.View.{kind_tree}
 use Rattle.omega_types.specs.Fields.{row}
 use Rattle.omega_types.specs.Ty.{Ty}
 use Rattle.semantic_sigs.specs.declared.made.Kinded.{Kinded}
+use Rattle.semantic_sigs.proofs.PartSteps.{left-more}
 use Rattle.core_rules.specs.CoreWhy.{DuplicateField, KindDiffer}
 use Rattle.core_rules.specs.TypeRules.{RecordTypeGives, RecordTypeRefuses}
 use Rattle.core_calls.specs.Records.{labelled, type_fields}
 use Rattle.core_calls.proofs.Conclusions.{exit}
-use Rattle.core_calls.proofs.RecordSteps.{TypesLeft, left-more, left-none, types-begin, types-next, types-again, types-kind, types-end}
+use Rattle.core_calls.proofs.RecordSteps.{TypesLeft, left-none, types-begin, types-next, types-again, types-kind, types-end}
 use Rattle.core_calls.proofs.records.fields_ty.Goals as goal
 
 pub loop-field-init : goal.loop-field-init

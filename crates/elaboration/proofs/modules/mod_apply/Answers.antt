@@ -1,8 +1,8 @@
 use Rattle.premise_laws.proofs.Environments.{find-good}
 use Rattle.elab_rules.specs.Judgments.Meaning.ModMeans.{mod_apply}
+use Rattle.module_rules.proofs.Verdicts.{param-ok}
 use Rattle.elaboration.proofs.Given.{exit}
 use Rattle.elaboration.proofs.Refuse.Modules.{mod_apply-functor, mod_apply-no_functor, mod_apply-arg, mod_apply-match}
-use Rattle.elaboration.proofs.Ruled.{param-ok}
 use Rattle.elaboration.proofs.modules.mod_apply.Goals as goal
 
 pub returns-in_err-functor-clause-refused : goal.returns-in_err-functor-clause-refused

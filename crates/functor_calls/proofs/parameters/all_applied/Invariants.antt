@@ -1,5 +1,5 @@
 use Rattle.std.proofs.Common.{◌≡◌, ◌≤◌, ◌-◌, length}
-use Rattle.functor_calls.proofs.Loops.{spread}
+use Rattle.omega_types.proofs.BinderLaws.{spread}
 use Rattle.functor_calls.proofs.parameters.all_applied.Given as goal
 
 abbrev pub invariant-loop-left : goal.invariant-loop-left

@@ -1,4 +1,4 @@
-use Rattle.std.proofs.Common.{ap, ap₂, ◌∙◌, sym, subst, []}
+use Rattle.std.proofs.Common.{ap₂, ◌∙◌, sym, subst, []}
 use Rattle.omega_kinds.specs.declared.effect.Effect.TheVariants.{Pure}
 use Rattle.signatures.specs.Signatures.Sig.{Abs, made}
 use Rattle.module_rules.specs.ModRules.{ValueGives}

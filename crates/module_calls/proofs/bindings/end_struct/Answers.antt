@@ -1,4 +1,4 @@
-use Rattle.std.proofs.Common.{◌≡◌, [], map, ap, ap₂, subst, ◌∙◌, sym}
+use Rattle.std.proofs.Common.{◌≡◌, [], ap, subst, ◌∙◌, sym}
 use Rattle.std.proofs.lemmas.Result.{IfOk-weaker}
 use Rattle.omega_kinds.specs.declared.effect.Effect.TheVariants.{Pure}
 use Rattle.omega_terms.specs.Fields.{term_row}
@@ -16,9 +16,9 @@ use Rattle.module_calls.proofs.bindings.end_struct.Goals as goal
 
 pub loop-name-init : goal.loop-name-init
 loop-name-init c = record {
-  names = ap firsts c.new-parts.ensures;
-  labels = ap firsts c.new-terms.ensures;
-  found = subst (λ ps. Collected c.args.env.now [] (sig_row ps) (term_row c.new-terms.result)) (sym c.new-parts.ensures) (subst (λ ts. Collected c.args.env.now [] SigRow.End (term_row ts)) (sym c.new-terms.ensures) Collected.none);
+  names = ap firsts c.in_ok-parts.ensures;
+  labels = ap firsts c.in_ok-terms.ensures;
+  found = subst (λ ps. Collected c.args.env.now [] (sig_row ps) (term_row c.in_ok-terms.terms)) (sym c.in_ok-parts.ensures) (subst (λ ts. Collected c.args.env.now [] SigRow.End (term_row ts)) (sym c.in_ok-terms.ensures) Collected.none);
 }
 
 pub unreachable-requires : goal.unreachable-requires

@@ -1,4 +1,4 @@
-use Rattle.std.proofs.Common.{refl, sym, ap, subst, ◌∙◌, List}
+use Rattle.std.proofs.Common.{sym, ap, ◌∙◌}
 use Rattle.semantic_sigs.specs.View.{sig_of, body_of}
 use Rattle.module_calls.proofs.Made.{no-functor, applied-at}
 use Rattle.module_calls.proofs.functors.apply.Goals as goal

@@ -1,15 +1,9 @@
 use Rattle.std.proofs.Common.{◌≡◌, sym, ◌∙◌, ap}
-use Rattle.omega_kinds.specs.Kind.{Kind}
-use Rattle.omega_kinds.specs.View.{kind_tree}
-use Rattle.omega_types.specs.Ty.{Ty}
 use Rattle.signatures.specs.Signatures.Sig.{Sig, Abs}
-use Rattle.module_calls.specs.Shown.{MentionsHidden, IsOutside, SigMentionsHidden, SigIsOutside}
-use Rattle.std.proofs.Common.{length, subst, List}
+use Rattle.module_calls.specs.Shown.{SigMentionsHidden, SigIsOutside}
+use Rattle.std.proofs.Common.{length}
 use Rattle.omega_types.specs.Index.{bump}
-use Rattle.sig_laws.specs.Good.{OkModule}
-use Rattle.module_rules.specs.PathUse.{SigOfPath}
-use Rattle.semantic_sigs.specs.Made.{module_of}
-use Rattle.module_calls.proofs.Made.{sig-path, sig-escapes, sig-wrong, still-shown, sig-escapes-at, sig-path-at}
+use Rattle.module_calls.proofs.Made.{sig-wrong, still-shown, sig-escapes-at, sig-path-at}
 use Rattle.module_calls.proofs.Options.{none-case, some-case}
 use Rattle.module_calls.proofs.paths.path_sig.Goals as goal
 

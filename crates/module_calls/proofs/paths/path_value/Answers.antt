@@ -1,9 +1,7 @@
 use Rattle.std.proofs.Common.{◌≡◌, sym, ◌∙◌, ap}
-use Rattle.omega_kinds.specs.Kind.{Kind}
-use Rattle.omega_kinds.specs.View.{kind_tree}
 use Rattle.omega_types.specs.Ty.{Ty}
-use Rattle.signatures.specs.Signatures.Sig.{Sig, Abs}
-use Rattle.module_calls.specs.Shown.{MentionsHidden, IsOutside, SigMentionsHidden, SigIsOutside}
+use Rattle.signatures.specs.Signatures.Sig.{Sig}
+use Rattle.module_calls.specs.Shown.{MentionsHidden, IsOutside}
 use Rattle.std.proofs.Common.{length}
 use Rattle.module_calls.proofs.Made.{value-path, value-escapes, value-wrong}
 use Rattle.module_calls.proofs.Options.{none-case, some-case}

@@ -1,8 +1,9 @@
 use Rattle.std.proofs.lemmas.Bool.{eqb-true}
 use Rattle.std.proofs.lemmas.Result.{IfOk-weaker}
 use Rattle.std.proofs.Common.{◌≡◌, sym}
+use Rattle.semantic_sigs.proofs.MentionSteps.{no-kinds}
 use Rattle.module_calls.specs.Shown.{PackedAgain}
-use Rattle.module_calls.proofs.Packs.{no-kinds, packs-nothing}
+use Rattle.module_calls.proofs.Packs.{packs-nothing}
 use Rattle.module_calls.proofs.projecting.packed_again.Goals as goal
 
 pub returns-then-is_empty : goal.returns-then-is_empty

@@ -1,4 +1,4 @@
-use Rattle.std.proofs.Common.{[], ◌++◌, sym, ◌∙◌, append-nil, map}
+use Rattle.std.proofs.Common.{sym, ◌∙◌, append-nil}
 use Rattle.omega_kinds.specs.View.{kind_tree}
 use Rattle.module_calls.proofs.Own.{pushed-next, pushed-done}
 use Rattle.module_calls.proofs.sequences.both.Goals as goal

@@ -3,8 +3,9 @@ use Rattle.fing_text.specs.Writes.{Grew, Broke}
 use Rattle.fing_text.proofs.InARow.{grew-next, broke-next, grew-all}
 use Rattle.semantic_sigs.specs.Items.{item_of}
 use Rattle.semantic_sigs.specs.declared.path.Item.{Item as CodeItem}
+use Rattle.omega_write.proofs.Loops.{wrote-err}
 use Rattle.refusal_lines.specs.Line.{more_items_text}
-use Rattle.refusal_lines.proofs.Loops.{wrote-err, dotted_text, items-text}
+use Rattle.refusal_lines.proofs.Loops.{dotted_text, items-text}
 use Rattle.refusal_lines.proofs.path.write_more_items.Goals as goal
 
 pub loop-item-preserved : goal.loop-item-preserved

@@ -1,9 +1,10 @@
 use Rattle.std.proofs.Common.{ℕ, List, subst, sym}
 use Rattle.fing_text.specs.Writes.{Grew, Broke}
 use Rattle.fing_text.proofs.InARow.{broke-next, grew-all}
+use Rattle.omega_write.proofs.Loops.{wrote-err}
 use Rattle.refusal_lines.specs.declared.pieces.Piece.{Piece}
 use Rattle.refusal_lines.specs.Pieces.{piece_text, pieces_text, PieceInScope}
-use Rattle.refusal_lines.proofs.Loops.{wrote-err, pieces-text, scope-at}
+use Rattle.refusal_lines.proofs.Loops.{pieces-text, scope-at}
 use Rattle.refusal_lines.proofs.pieces.write_pieces.Goals as goal
 
 pub returns : goal.returns

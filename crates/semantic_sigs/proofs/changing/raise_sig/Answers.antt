@@ -5,4 +5,4 @@ use Rattle.semantic_sigs.proofs.changing.raise_sig.Goals as goal
 
 pub returns : goal.returns
 returns c =
-    subst (λ (u : Sig). IfOk c.change_sig.result (λ s. s ≡ u)) (sig-raised c.args.by c.args.from c.args.sig.now) c.change_sig.ensures
+    subst (λ (u : Sig). IfOk c.changed_sig.result (λ s. s ≡ u)) (sig-raised c.args.by c.args.from c.args.sig.now) c.changed_sig.ensures

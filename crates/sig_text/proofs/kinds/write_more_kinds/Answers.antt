@@ -3,8 +3,9 @@ use Rattle.fing_text.specs.Writes.{Grew, Broke}
 use Rattle.fing_text.proofs.InARow.{grew-next, broke-next, grew-all}
 use Rattle.omega_kinds.specs.View.{kind_tree}
 use Rattle.omega_kinds.specs.declared.kind.Kind.{Kind as SharedKind}
+use Rattle.omega_write.proofs.Loops.{wrote-err}
 use Rattle.sig_text.specs.SigText.{more_kinds_text}
-use Rattle.sig_text.proofs.Loops.{wrote-err, spaced_text, kinds-text}
+use Rattle.sig_text.proofs.Loops.{spaced_text, kinds-text}
 use Rattle.sig_text.proofs.kinds.write_more_kinds.Goals as goal
 
 pub loop-kind-preserved : goal.loop-kind-preserved

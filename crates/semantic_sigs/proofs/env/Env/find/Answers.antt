@@ -1,17 +1,31 @@
-use Rattle.std.proofs.Common.{◌+◌, ap, ◌∙◌, arith}
+use Rattle.std.proofs.Common.{rules, ◌+◌, ◌-◌, ◌<◌, ◌≤◌, [], get_or, length, take, sym, ap, ap₂, ◌∙◌, subst}
+use Rattle.std.proofs.lemmas.Result.{IfOk-weaker}
 use Rattle.signatures.specs.Env.{find}
-use Rattle.semantic_sigs.specs.Entries.{entries_of}
-use Rattle.semantic_sigs.proofs.EnvSteps.{find-start, find-next}
+use Rattle.semantic_sigs.specs.Entries.{here_first, seen}
+use Rattle.semantic_sigs.specs.Slots.{with_slots}
+use Rattle.semantic_sigs.proofs.EnvSteps.{find-missing, find-there, place-inside, terms-inside, types-inside}
 use Rattle.semantic_sigs.proofs.env.Env.find.Goals as goal
 
-pub loop-at-init : goal.loop-at-init
-loop-at-init c = record {
-  within = omega arith;
-  found = find-start c.as_slice-entries.result.now c.args.name.now;
-}
+pub returns-in_default : goal.returns-in_default
+returns-in_default c = sym (find-missing c.self.inside.slots.items c.self.inside.kinds.items c.self.inside.places c.self.inside.terms c.args.name.now c.self.invariant (sym c.in_default.ensures.value)) ∙ ap (λ g. find g c.args.name.now) c.self.view_is
 
-pub loop-at-preserved : goal.loop-at-preserved
-loop-at-preserved c = record {
-  within = omega (arith, c.loop-at.invariant.within);
-  found = find-next c.as_slice-entries.result.now c.loop-at.at c.loop-at.types c.loop-at.terms c.in_ok-types.types c.in_ok-terms.terms c.index-entries-at.result c.args.name.now c.is_named.result (find (entries_of c.as_slice-entries.result.now) c.args.name.now) c.loop-at-test.true c.loop-at.invariant.within c.index-entries-at.is c.is_named.ensures c.if-is_named.false (c.in_ok-types.ensures ∙ ap (λ n. c.loop-at.types + n) c.type_vars.ensures) (c.in_ok-terms.ensures ∙ ap (λ n. c.loop-at.terms + n) c.term_vars.ensures) c.loop-at.invariant.found;
-}
+pub bounds-slots-at : goal.bounds-slots-at
+bounds-slots-at c = subst (λ slots. c.in-Some.place.now < length slots) (sym c.as_slice-slots.ensures.value) (place-inside c.self.inside.slots.items c.self.inside.kinds.items c.self.inside.places c.self.inside.terms c.args.name.now c.in-Some.place.now c.self.invariant (sym c.in-Some.ensures.value))
+
+pub offset_bounds-slots-at : goal.offset_bounds-slots-at
+offset_bounds-slots-at c =
+    let inside : c.in-Some.place.now < length c.as_slice-slots.result.now = subst (λ slots. c.in-Some.place.now < length slots) (sym c.as_slice-slots.ensures.value) (place-inside c.self.inside.slots.items c.self.inside.kinds.items c.self.inside.places c.self.inside.terms c.args.name.now c.in-Some.place.now c.self.invariant (sym c.in-Some.ensures.value)) in
+    search rules
+
+pub found-requires : goal.found-requires
+found-requires c = subst (λ slots. c.in-Some.place.now < length slots) (sym c.as_slice-slots.ensures.value) (place-inside c.self.inside.slots.items c.self.inside.kinds.items c.self.inside.places c.self.inside.terms c.args.name.now c.in-Some.place.now c.self.invariant (sym c.in-Some.ensures.value))
+
+pub overflow_sub-types : goal.overflow_sub-types
+overflow_sub-types c = subst (λ n. c.index-slots-at.result.types ≤ n) (sym (ap length c.as_slice-kinds.ensures.value)) (types-inside c.self.inside.slots.items c.self.inside.kinds.items c.self.inside.places c.self.inside.terms c.args.name.now c.in-Some.place.now c.index-slots-at.result c.self.invariant (sym c.in-Some.ensures.value) (c.index-slots-at.is ∙ ap (λ slots. get_or slots c.in-Some.place.now c.index-slots-at.result) c.as_slice-slots.ensures.value))
+
+pub overflow_sub-terms : goal.overflow_sub-terms
+overflow_sub-terms c = terms-inside c.self.inside.slots.items c.self.inside.kinds.items c.self.inside.places c.self.inside.terms c.args.name.now c.in-Some.place.now c.index-slots-at.result c.self.invariant (sym c.in-Some.ensures.value) (c.index-slots-at.is ∙ ap (λ slots. get_or slots c.in-Some.place.now c.index-slots-at.result) c.as_slice-slots.ensures.value)
+
+pub returns : goal.returns
+returns c =
+    IfOk-weaker c.found.result _ _ (λ o h. h ∙ (ap₂ (λ n slots. seen (n - c.index-slots-at.result.types) (c.self.inside.terms - c.index-slots-at.result.terms) (here_first (with_slots [] (take (c.in-Some.place.now + 1) slots)))) (ap length c.as_slice-kinds.ensures.value) c.as_slice-slots.ensures.value ∙ (sym (find-there c.self.inside.slots.items c.self.inside.kinds.items c.self.inside.places c.self.inside.terms c.args.name.now c.in-Some.place.now c.index-slots-at.result c.self.invariant (sym c.in-Some.ensures.value) (c.index-slots-at.is ∙ ap (λ slots. get_or slots c.in-Some.place.now c.index-slots-at.result) c.as_slice-slots.ensures.value)) ∙ ap (λ g. find g c.args.name.now) c.self.view_is))) c.found.ensures

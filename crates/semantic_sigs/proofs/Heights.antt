@@ -1,0 +1,10 @@
+-- The height of one more field.
+use Rattle.std.proofs.Common.{◌≤◌, max, [], ◌∷◌, ◌++◌, arith}
+use Rattle.omega_kinds.specs.Name.{Name}
+use Rattle.signatures.specs.Signatures.Sig.{Sig}
+use Rattle.semantic_sigs.specs.Fields.{SigPairs}
+use Rattle.semantic_sigs.specs.Height.{sig_height, sig_pairs_height}
+
+pub sig_pairs_height-push : (xs : SigPairs) (x : Name × Sig) → sig_pairs_height (xs ++ x ∷ []) ≤ max (sig_pairs_height xs) (sig_height x.1)
+sig_pairs_height-push [] x = omega arith
+sig_pairs_height-push (y ∷ ys) x = omega (arith, sig_pairs_height-push ys x)
