@@ -59,9 +59,6 @@ fields-end env n items whole h i = ap (λ xs. named_fields env (sig_row xs)) (sy
 
 -- what was entered is left again
 
-dropped : {A : Type 0} (n : ℕ) (x : A) (xs ys : List A) → drop n ys ≡ x ∷ xs → drop (n + 1) ys ≡ xs
-dropped n x xs ys e = rw add-one (tail-drop n ys xs x e)
-
 pub left-type_vars : (g : Env) (ks : List Kind) → drop (length ks) (type_vars g ks) ≡ g
 left-type_vars g [] = refl
 left-type_vars g (k ∷ ks) = tail-drop (length ks) (type_vars (TypeVar k ∷ g) ks) g (TypeVar k) (left-type_vars (TypeVar k ∷ g) ks)

@@ -29,7 +29,7 @@ use Rattle.fing_syntax.specs.View.{decl_of, decls}
 use Rattle.fing_refusals.specs.Refusal.{ElabWhy}
 use Rattle.sig_rules.specs.SigRules.{AbstractGives, DeclarationsGive}
 use Rattle.sig_calls.specs.Plain.{AreApart}
-use Rattle.sig_calls.proofs.Lists.{kinds-length}
+use Rattle.semantic_sigs.proofs.MentionSteps.{length-trees}
 use Rattle.elab_rules.specs.Judgments.Meaning.{SigMeans, DeclMeans, DeclsMean, ModMeans}
 use Rattle.elab_rules.specs.Refusals.Task.{decls as decls_task}
 use Rattle.elab_laws.proofs.FieldLaws.{Apart, NoFields, no_fields-end, new-no_fields, no_fields-merge, no_fields-rename, with_names-no_fields}
@@ -86,7 +86,7 @@ pub left-under : (g : Env) (x : Abs) (l : Name) (items : List SharedKind) (ks : 
     → map kind_tree items ≡ ks → ks ≡ kinds_of x → n ≡ length items + 1
     → before ≡ with_module g (kinds_of x) l (body_of x) → after ≡ drop n before → after ≡ g
 left-under g x l items ks n before after ei ek en eb e =
-    let c : n ≡ length (kinds_of x) + 1 = en ∙ ap (λ m. m + 1) (sym (kinds-length items) ∙ ap length (ei ∙ ek)) in
+    let c : n ≡ length (kinds_of x) + 1 = en ∙ ap (λ m. m + 1) (sym (length-trees items) ∙ ap length (ei ∙ ek)) in
     e ∙ (ap (λ m. drop m before) c ∙ (ap (drop (length (kinds_of x) + 1)) eb ∙ left-module g (kinds_of x) l (body_of x)))
 
 pub left-decl : (g : Env) (ks : List Kind) (js : List Kind) (items : List SharedKind) (fields pairs : SigPairs) (before between after : Env)
@@ -95,7 +95,7 @@ pub left-decl : (g : Env) (ks : List Kind) (js : List Kind) (items : List Shared
     → between ≡ drop (length pairs) before → after ≡ drop (length items) between → after ≡ g
 left-decl g ks js items fields pairs before between after ep ei ej eb em e =
     let m : between ≡ type_vars g ks = em ∙ (ap (λ (zs : SigPairs). drop (length zs) before) ep ∙ (ap (drop (length fields)) eb ∙ left-fields (type_vars g ks) fields)) in
-    let c : length items ≡ length ks = sym (kinds-length items) ∙ ap length (ei ∙ ej) in
+    let c : length items ≡ length ks = sym (length-trees items) ∙ ap length (ei ∙ ej) in
     e ∙ (ap (λ n. drop n between) c ∙ (ap (drop (length ks)) m ∙ left-type_vars g ks))
 
 -- what calls give, by what the code knows

@@ -6,3 +6,4 @@ pub mod Compiled
 pub mod Ending
 pub mod Verdict
 pub mod Answer
+pub mod Page

@@ -7,6 +7,7 @@
 #![tactic(auto)]
 
 mod counting;
+mod pages;
 mod programs;
 mod refusing;
 mod running;

@@ -9,6 +9,7 @@ ghost use Rattle.fing_top.specs.Counts.{bind_count};
 ghost use Rattle.fing_top.specs.Reply.{Spells};
 ghost use Rattle.fing_words.specs.declared.command_line.CommandLine.TheVariants as command;
 
+use crate::pages::{put_elab, put_omega};
 use crate::refusing::{Refused, has_line, write_line};
 use crate::status::{Status, status_of};
 use fing_elab::elab;
@@ -20,10 +21,8 @@ use omega_checker::{Checked, check as typed};
 use omega_kinds::{Effect, Mem};
 use omega_scopes::{term_in_scope, ty_in_scope};
 use omega_terms::Term;
-use omega_write::write_omega;
 use semantic_sigs::{Abs, encode};
 use sig_scopes::abs_in_scope;
-use sig_text::write_elab;
 use std::alloc::Global;
 
 /// What a source is compiled into: how many bindings its program has, not counting those inside them, the program's effect
@@ -98,7 +97,7 @@ pub fn check<K: Sink>(
 {
     match compile(alloc, bytes) {
         Ok(found) if abs_in_scope(0, &found.sig) => {
-            let wrote = write_elab(sink, found.effect, &found.sig);
+            let wrote = put_elab(alloc, sink, found.effect, &found.sig);
             *confirmed = Some(found.checked);
             status_of(wrote, Status::Ok)
         }
@@ -122,7 +121,7 @@ pub fn emit<K: Sink>(
 {
     match compile(alloc, bytes) {
         Ok(found) if is_closed(&found.checked) => {
-            let wrote = write_omega(sink, found.checked.ty(), found.checked.term());
+            let wrote = put_omega(alloc, sink, found.checked.ty(), found.checked.term());
             *confirmed = Some(found.checked);
             status_of(wrote, Status::Ok)
         }

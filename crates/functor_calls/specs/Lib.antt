@@ -1,1 +1,2 @@
 pub mod LiftedVars
+pub mod Lifted

@@ -1,14 +1,15 @@
 // Lifted types, applied to the types that a functor's parameter hides.
-ghost use Rattle.std.specs.Prelude.{◌≡◌, ◌∷◌, [], length, IfOk};
+ghost use Rattle.std.specs.Prelude.{◌≡◌, ◌∷◌, [], length, IfOk, IfSome};
 ghost use Rattle.omega_kinds.specs.View.{kind_tree};
 ghost use Rattle.omega_types.specs.Binders.{applied, arrow_over as arrow_over_of, extend};
 ghost use Rattle.omega_types.specs.Index.{shift};
 ghost use Rattle.omega_types.specs.Scope.{scope_of};
 ghost use Rattle.omega_types.specs.Ty.{Var};
 ghost use Rattle.functor_calls.specs.LiftedVars.{lifted_vars as lifted_vars_of, lifted_var as lifted_var_of};
+ghost use Rattle.functor_calls.specs.Lifted.{IsLifted};
 
 use crate::operators::arrow_over;
-use omega_kinds::{Kind, Kinds, Mem};
+use omega_kinds::{Kind, Kinds, Mem, same_kind};
 use omega_types::{Ty, TyNode};
 use semantic_sigs::Witnesses;
 use std::alloc::Global;
@@ -23,15 +24,45 @@ pub(crate) fn lifted_vars(alloc: Global, kinds: &Kinds, hidden: &Kinds) -> Resul
     let outer = kinds.items().len() as u64;
     let mut types = Witnesses::new(alloc);
     let mut inner = hidden.items().len() as u64;
+    let mut before = None;
     for kind in hidden.items() {
         inner -= 1;
-        let ty = lifted_var(alloc, kinds, kind)?;
-        types.push(raise(alloc, &ty, inner, outer)?)?;
+        let own = variable_of(alloc, kinds, kind, before)?;
+        types.push(raise(alloc, &own.ty, inner, outer)?)?;
+        before = Some(own);
     }
     Ok(types)
 }
 
-// The same for one hidden type, under its lifted variable alone.
+// A lifted variable, applied to the variables of the parameter, in normal form: under itself alone. It is the same for
+// all hidden types of its kind.
+#[derive(Drop)]
+struct Lifted {
+    kind: Kind,
+    ty: NormalTy,
+}
+
+// The lifted variable of a kind: the one before, where it has that kind.
+fn variable_of(
+    alloc: Global,
+    kinds: &Kinds,
+    kind: &Kind,
+    before: Option<Lifted>,
+) -> Result<Lifted, Mem>
+    requires { IfSome before (λ own. IsLifted kinds.now own) }
+    ensures kind { IfOk result (λ own. kind_tree own.kind ≡ kind_tree kind.now) }
+    ensures lifted { IfOk result (IsLifted kinds.now) }
+{
+    match before {
+        Some(own) if same_kind(&own.kind, kind) => Ok(own),
+        _ => Ok(Lifted {
+            kind: kind.share()?,
+            ty: lifted_var(alloc, kinds, kind)?,
+        }),
+    }
+}
+
+// The lifted variable of a kind under itself alone.
 fn lifted_var(alloc: Global, kinds: &Kinds, kind: &Kind) -> Result<NormalTy, Mem>
     ensures { IfOk result (λ t. t ≡ lifted_var_of kinds.now (kind_tree kind.now)) }
 {

@@ -1,5 +1,5 @@
 -- The entries of the code's environments, and what one of them alone stands for.
-use Rattle.std.specs.Prelude.{ℕ, zero, List, [], ◌∷◌, Bool, false, Option, Some, None, map, reverse}
+use Rattle.std.specs.Prelude.{ℕ, zero, List, [], ◌∷◌, Bool, false, Option, Some, None}
 use Rattle.omega_kinds.specs.Name.{Name, same_name}
 use Rattle.omega_kinds.specs.View.{kind_tree}
 use Rattle.omega_types.specs.Index.{bump}
@@ -17,10 +17,6 @@ entry_of (entry.TypeVar k) = Entry.TypeVar (kind_tree k)
 entry_of (entry.Named x s) = Entry.Named x s
 entry_of (entry.Value x t) = Entry.Value x t
 entry_of (entry.TypeParam x) = Entry.TypeParam x
-
--- the last entry first
-abbrev pub entries_of : List CodeEntry → Env
-entries_of entries = reverse (map entry_of entries)
 
 abbrev pub is_named : Name → Entry → Bool
 is_named x (Entry.TypeVar k) = false

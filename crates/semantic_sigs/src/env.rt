@@ -96,7 +96,7 @@ impl Env {
         self.slots.reserve(1)?;
         let slots = self.slots.as_slice();
         let at = slots.len();
-        let hidden = note(&mut self.kinds, &mut self.places, &entry, at)?;
+        let hidden = note_entry(&mut self.kinds, &mut self.places, &entry, at)?;
         let kinds = self.kinds.as_slice();
         let types = kinds.len() as u64;
         self.terms = terms;
@@ -116,7 +116,7 @@ impl Env {
     {
         match self.slots.pop() {
             Some(slot) => {
-                forget(&mut self.kinds, &mut self.places, &slot.entry, slot.hidden);
+                forget_entry(&mut self.kinds, &mut self.places, &slot.entry, slot.hidden);
                 self.terms -= slot.entry.term_vars();
                 Some(slot.entry)
             }
@@ -154,7 +154,7 @@ impl Env {
 
 // One more entry for the kinds and the places of an environment, at a place: what it hides. `Err` is want of memory,
 // and both stay as they were.
-fn note(
+fn note_entry(
     kinds: &mut Vec<Kind>,
     places: &mut BTreeMap<Name, usize>,
     entry: &Entry,
@@ -169,14 +169,18 @@ fn note(
             kinds.push(kind.share()?)?;
             Ok(None)
         }
-        Entry::Named(name, _) => put(places, name, at),
-        Entry::Value(name, _) => put(places, name, at),
-        Entry::TypeParam(name) => put(places, name, at),
+        Entry::Named(name, _) => set_place(places, name, at),
+        Entry::Value(name, _) => set_place(places, name, at),
+        Entry::TypeParam(name) => set_place(places, name, at),
     }
 }
 
 // The place of the last entry of a name, in place of the one before, which it gives.
-fn put(places: &mut BTreeMap<Name, usize>, name: &Name, at: usize) -> Result<Option<usize>, Mem>
+fn set_place(
+    places: &mut BTreeMap<Name, usize>,
+    name: &Name,
+    at: usize,
+) -> Result<Option<usize>, Mem>
     ensures hidden { IfOk result (λ hidden. hidden ≡ get name_cmp places.old name.now) }
     ensures ok { OnOk result (Updates name_cmp places.old places.new name.now (Some at)) }
     ensures err { OnErr result (places.new.entries ≡ places.old.entries) }
@@ -185,7 +189,7 @@ fn put(places: &mut BTreeMap<Name, usize>, name: &Name, at: usize) -> Result<Opt
 }
 
 // The last entry is taken from the kinds and the places of an environment, and what it hid is seen again.
-fn forget(
+fn forget_entry(
     kinds: &mut Vec<Kind>,
     places: &mut BTreeMap<Name, usize>,
     entry: &Entry,
@@ -197,14 +201,14 @@ fn forget(
         Entry::TypeVar(_) => {
             let _kind = kinds.pop();
         }
-        Entry::Named(name, _) => put_back(places, name, hidden),
-        Entry::Value(name, _) => put_back(places, name, hidden),
-        Entry::TypeParam(name) => put_back(places, name, hidden),
+        Entry::Named(name, _) => restore_place(places, name, hidden),
+        Entry::Value(name, _) => restore_place(places, name, hidden),
+        Entry::TypeParam(name) => restore_place(places, name, hidden),
     }
 }
 
 // The place of a name that the map has becomes another one, or goes.
-fn put_back(places: &mut BTreeMap<Name, usize>, name: &Name, hidden: Option<usize>)
+fn restore_place(places: &mut BTreeMap<Name, usize>, name: &Name, hidden: Option<usize>)
     ensures { IsSome (get name_cmp places.old name.now) → Updates name_cmp places.old places.new name.now hidden }
 {
     match hidden {

@@ -24,7 +24,7 @@ use Rattle.sig_rules.specs.SigRules.{WhereRefuses}
 use Rattle.sig_rules.specs.SigWhy.{KindDiffer, NoPart, NotAbstract}
 use Rattle.sig_calls.specs.Hidden.{Fixed, IsOwn, NotOwn, PutFirst, after, before, kind_at}
 use Rattle.sig_calls.proofs.Putting.{put-under, raise-both}
-use Rattle.sig_calls.proofs.Lists.{kinds-length}
+use Rattle.semantic_sigs.proofs.MentionSteps.{length-trees}
 
 -- hidden types before a place, at it and after it
 
@@ -83,7 +83,7 @@ none-own ks q n bs j cs e o =
 -- the same, by what the code knows
 
 pub mapped : (kinds : List SharedKind) (p : ℕ) → p < length kinds → p < length (map kind_tree kinds)
-mapped kinds p lt = let l = kinds-length kinds in omega arith
+mapped kinds p lt = let l = length-trees kinds in omega arith
 
 pub when-none : {A : Type 0} (o : Option A) (P : Type 0) (Q : A → Type 0) → o ≡ None → MatchOption o P Q → P
 when-none o P Q e h = subst (λ r. MatchOption r P Q) e h
@@ -96,19 +96,19 @@ shown-is n q t k en eq = sym eq ∙ ap sig_of en
 
 pub own-found : (kinds : List SharedKind) (p : ℕ) (own : SharedKind) (q : Sig) → p < length kinds → own ≡ get_or kinds p own → q ≡ shown_at (kind_tree own) (length kinds - 1 - p) → (p < length kinds) × IsOwn (map kind_tree kinds) p q
 own-found kinds p own q lt eo e =
-    let l = kinds-length kinds in
+    let l = length-trees kinds in
     let lt' : p < length (map kind_tree kinds) = omega arith in
     (lt, is-own (map kind_tree kinds) p q (kind_tree own) lt' (kind_at-shared kinds p own lt eo) (e ∙ ap (λ m. shown_at (kind_tree own) (m - 1 - p)) (sym l)))
 
 pub own-passed : (kinds : List SharedKind) (p : ℕ) (own : SharedKind) (q : Sig) → p < length kinds → own ≡ get_or kinds p own → (q ≡ shown_at (kind_tree own) (length kinds - 1 - p) → ⊥) → ((r : ℕ) → r < p → IsOwn (map kind_tree kinds) r q → ⊥) → (r : ℕ) → r < p + 1 → IsOwn (map kind_tree kinds) r q → ⊥
 own-passed kinds p own q lt eo n before =
-    let l = kinds-length kinds in
+    let l = length-trees kinds in
     let lt' : p < length (map kind_tree kinds) = omega arith in
     below_more (λ r. IsOwn (map kind_tree kinds) r q → ⊥) p before (λ o. n (own-shows (map kind_tree kinds) p q (kind_tree own) lt' (kind_at-shared kinds p own lt eo) o ∙ ap (λ m. shown_at (kind_tree own) (m - 1 - p)) l))
 
 pub none-found : (kinds : List SharedKind) (q : Sig) (p : ℕ) → length kinds ≤ p → ((r : ℕ) → r < p → IsOwn (map kind_tree kinds) r q → ⊥) → NotOwn (map kind_tree kinds) q
 none-found kinds q p le h =
-    let l = kinds-length kinds in
+    let l = length-trees kinds in
     none-own (map kind_tree kinds) q (λ r lt. h r (omega (arith, lt)))
 
 -- it is fixed
@@ -147,7 +147,7 @@ pub fixed-found : (x : Abs) (s : Sig) (ks : List Kind) (kinds front from later :
     → left ≡ map kind_tree front ++ map kind_tree later → y ≡ Abs.Ex left n → Fixed x p u y
 fixed-found x s ks kinds front from later p u n left y lt ek ex es ef ed el f e ey =
     let whole : map kind_tree kinds ≡ kinds_of x = ek ∙ ex in
-    let len : length kinds ≡ length (kinds_of x) = sym (kinds-length kinds) ∙ ap length whole in
+    let len : length kinds ≡ length (kinds_of x) = sym (length-trees kinds) ∙ ap length whole in
     let d : map kind_tree from ≡ drop p (kinds_of x) = ap (map kind_tree) ed ∙ (map-drop p kinds ∙ ap (drop p) whole) in
     let a : map kind_tree later ≡ after (kinds_of x) p = ap (map kind_tree) el ∙ (map-drop (p + 1) kinds ∙ ap (drop (p + 1)) whole) in
     let b : map kind_tree front ≡ before (kinds_of x) p = ap (map kind_tree) ef ∙ (map-take p kinds ∙ ap (take p) whole) in

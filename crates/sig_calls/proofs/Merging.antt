@@ -23,7 +23,7 @@ use Rattle.sig_rules.specs.SigRules.{DeclarationsGive}
 use Rattle.explicit_laws.proofs.Fields.{before_all-before}
 use Rattle.sig_calls.specs.Plain.{AreApart}
 use Rattle.sig_calls.proofs.Putting.{past-bump}
-use Rattle.sig_calls.proofs.Lists.{kinds-length}
+use Rattle.semantic_sigs.proofs.MentionSteps.{length-trees}
 
 -- fields before a row
 
@@ -220,7 +220,7 @@ pub sequence-given : (x y z : Abs) (later : List SharedKind) (s t raised : Sig) 
     → kinds ≡ kinds_of x ++ kinds_of y → body ≡ Sig.Str (sig_row fields) → z ≡ Abs.Ex kinds body
     → (ks js : List Kind) (fs gs : SigRow) → x ≡ Abs.Ex ks (Sig.Str fs) → y ≡ Abs.Ex js (Sig.Str gs) → AreApart fs gs → DeclarationsGive x y z
 sequence-given x y z later s t raised fields kinds body el es er et f ek eb ez ks js fs gs ex ey a =
-    let n : length later ≡ length js = sym (kinds-length later) ∙ ap length (el ∙ ap kinds_of ey) in
+    let n : length later ≡ length js = sym (length-trees later) ∙ ap length (el ∙ ap kinds_of ey) in
     let up : raised ≡ Sig.Str (raise_sig_row js fs) = er ∙ (ap₂ (λ m u. rename_sig (bump m 0) u) n (es ∙ ap body_of ex) ∙ ap (λ r. rename_sig r (Sig.Str fs)) (sym (past-bump js))) in
     let m : sig_row fields ≡ merge (raise_sig_row js fs) gs = f (raise_sig_row js fs) gs up (et ∙ ap body_of ey) (apart-renamed (past js) fs gs a) in
     let k : kinds ≡ ks ++ js = ek ∙ ap₂ ◌++◌ (ap kinds_of ex) (ap kinds_of ey) in

@@ -25,7 +25,7 @@ use Rattle.sig_laws.proofs.Algebra.SigAlgebra.{substitute-rename_sig}
 use Rattle.semantic_sigs.specs.View.{body_of, kinds_of}
 use Rattle.semantic_sigs.proofs.PartSteps.{left-more}
 use Rattle.sig_calls.specs.Hidden.{PutFirst}
-use Rattle.sig_calls.proofs.Lists.{kinds-length}
+use Rattle.semantic_sigs.proofs.MentionSteps.{length-trees}
 
 -- an eta-long variable from elsewhere
 
@@ -131,7 +131,7 @@ pub put-first-by : (kinds : List SharedKind) (s n : Sig) (t raised : Ty) (x : Ab
     → PutFirst (map kind_tree kinds) s t n
 put-first-by [] s n t raised x ts items lt ex er et ei f = absurd (omega arith)
 put-first-by (k ∷ kinds) s n t raised x ts items lt ex er et ei f =
-    let l = sym (kinds-length (k ∷ kinds)) in
+    let l = sym (length-trees (k ∷ kinds)) in
     put-first (map kind_tree (k ∷ kinds)) s n t x items (map kind_tree kinds)
     (ex ∙ ap (λ m. Abs.Ex (map kind_tree (k ∷ kinds)) (rename_sig (bump (m - 1) m) s)) l)
     (kind_tree k) refl (ei ∙ (et ∙ ap (λ u. u ∷ vars (map kind_tree kinds)) er)) f
@@ -139,7 +139,7 @@ put-first-by (k ∷ kinds) s n t raised x ts items lt ex er et ei f =
 own-index : (later : List SharedKind) (i n : ℕ) → n + i ≡ length later → past (map kind_tree (drop (i + 1) later)) 0 ≡ n - 1
 own-index later i n e =
     let a = past-length (map kind_tree (drop (i + 1) later)) 0 in
-    let b = kinds-length (drop (i + 1) later) in
+    let b = length-trees (drop (i + 1) later) in
     let d = length-drop (i + 1) later in
     omega arith
 

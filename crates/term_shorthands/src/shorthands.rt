@@ -6,7 +6,7 @@ ghost use Rattle.omega_terms.specs.Shorthands.{insts as insts_of, ty_lam_over as
 ghost use Rattle.omega_terms.specs.Term.{Var};
 ghost use Rattle.term_shorthands.specs.Packed.{opened, opened_times, pack_up as pack_up_of, Fills};
 
-use omega_kinds::{Kinds, Label, Mem};
+use omega_kinds::{Extent, Kinds, Label, Mem, NOTHING};
 use omega_terms::{Term, TermFields, TermNode};
 use omega_types::{Ty, TyNode};
 use std::alloc::Global;
@@ -68,17 +68,24 @@ pub fn pack_up(alloc: Global, types: &[NormalTy], term: &Term, to: &Ty) -> Resul
     ensures value { IfOk result (λ e. e ≡ pack_up_of types.now term.now to.now) }
     ensures packs { IfOk result (λ e. (ctx : List KindTree) → Fills ctx types.now to.now → Packs ctx types.now term.now to.now e) }
 {
-    pack_all(alloc, types, term, to)
+    pack_all(alloc, types, term, to, NOTHING)
 }
 
-// All the types hidden.
+// All the types hidden. `around` is the extent of the types of the packs around it: memory is refused as soon as these
+// alone would be too large.
 #[cycle(pack)]
-fn pack_all(alloc: Global, types: &[NormalTy], term: &Term, to: &Ty) -> Result<Term, Mem>
+fn pack_all(
+    alloc: Global,
+    types: &[NormalTy],
+    term: &Term,
+    to: &Ty,
+    around: Extent,
+) -> Result<Term, Mem>
     ensures { IfOk result (λ e. e ≡ pack_up_of types.now term.now to.now) }
 {
     match types {
         [] => term.share(),
-        [hidden, rest @ ..] => pack_one(alloc, hidden, rest, term, to),
+        [hidden, rest @ ..] => pack_one(alloc, hidden, rest, term, to, around),
     }
 }
 
@@ -90,6 +97,7 @@ fn pack_one(
     rest: &[NormalTy],
     term: &Term,
     to: &Ty,
+    around: Extent,
 ) -> Result<Term, Mem>
     ensures { IfOk result (λ e. e ≡ pack_up_of (hidden.now ∷ rest.now) term.now to.now) }
 {
@@ -98,9 +106,10 @@ fn pack_one(
             let packed = if rest.is_empty() {
                 term.share()?
             } else {
+                let around = around.beside(to.extent()).over(0)?;
                 let body = as_normal(body.share()?);
                 let inner = hsubst(alloc, &body, 0, hidden, kind)?;
-                pack_all(alloc, rest, term, plain(&inner))?
+                pack_all(alloc, rest, term, plain(&inner), around)?
             };
             Term::make(
                 alloc,

@@ -10,8 +10,8 @@ pub returns-in-Ok : goal.returns-in-Ok
 returns-in-Ok g c =
     let found = c.in-Ok.found in
     let compiled = c.in-Ok.ensures.compiled in
-    wrote_reply command.Emit c.args.bytes.now status.Ok _ _ _ _ c.write_omega-wrote.result c.status_of.result tt
-    (told TellsTerm c.args.bytes.now found status.Ok _ compiled (refl, ap₂ omega_text (c.ty.ensures.ty ∙ compiled.ty) c.term.ensures.term)) refl c.write_omega-wrote.ensures c.status_of.ensures
+    wrote_reply command.Emit c.args.bytes.now status.Ok _ _ _ _ c.put_omega-wrote.result c.status_of.result tt
+    (told TellsTerm c.args.bytes.now found status.Ok _ compiled (refl, ap₂ omega_text (c.ty.ensures.ty ∙ compiled.ty) c.term.ensures.term)) refl c.put_omega-wrote.ensures c.status_of.ensures
 
 pub returns-in-Err : goal.returns-in-Err
 returns-in-Err g c =

@@ -1,5 +1,5 @@
 use Rattle.omega_kinds.specs.View.{kind_tree}
-use Rattle.semantic_sigs.proofs.EnvSteps.{found-type, found-module, found-value, found-param}
+use Rattle.semantic_sigs.proofs.FoundSteps.{found-type, found-module, found-value, found-param}
 use Rattle.semantic_sigs.proofs.env.found.Goals as goal
 
 pub returns-in-TypeVar : goal.returns-in-TypeVar

@@ -3,7 +3,7 @@ use Rattle.std.proofs.lemmas.Result.{IfOk-weaker}
 use Rattle.signatures.specs.Env.{first_kind}
 use Rattle.semantic_sigs.specs.Entries.{entry_of}
 use Rattle.semantic_sigs.specs.Slots.{with_slots}
-use Rattle.semantic_sigs.proofs.EnvSteps.{before-place, first-other}
+use Rattle.semantic_sigs.proofs.FoundSteps.{before-place, first-other}
 use Rattle.semantic_sigs.proofs.env.kind_before.Goals as goal
 
 pub returns-in-TypeVar : goal.returns-in-TypeVar

@@ -3,7 +3,7 @@ use Rattle.std.proofs.lemmas.Result.{IfOk-weaker}
 use Rattle.signatures.specs.Env.{find}
 use Rattle.semantic_sigs.specs.Entries.{here_first, seen}
 use Rattle.semantic_sigs.specs.Slots.{with_slots}
-use Rattle.semantic_sigs.proofs.EnvSteps.{find-missing, find-there, place-inside, terms-inside, types-inside}
+use Rattle.semantic_sigs.proofs.FoundSteps.{find-missing, find-there, place-inside, terms-inside, types-inside}
 use Rattle.semantic_sigs.proofs.env.Env.find.Goals as goal
 
 pub returns-in_default : goal.returns-in_default

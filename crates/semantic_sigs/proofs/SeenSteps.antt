@@ -1,0 +1,116 @@
+-- What a name stands for, seen past more variables.
+use Rattle.std.specs.Prelude.{ℕ, zero, suc, ◌+◌, ◌-◌, ◌<◌, ◌≤◌, ◌≡◌, List, [], ◌∷◌, ◌++◌, ◌↔◌, Bool, true, false, cond, Option, Some, None, IsSome, length, map, reverse, take}
+use Rattle.std.specs.BTreeMap.{BTreeMap, Updates, get, is_at}
+use Rattle.std.specs.Map.{lookup}
+use Rattle.std.specs.Option.{option_to_list}
+use Rattle.std.specs.Ordering.{is_eq}
+use Rattle.std.specs.declared.cmp.Ordering.{Ordering}
+use Rattle.std.specs.declared.cmp.Ordering.TheVariants.{Less, Equal, Greater}
+use Rattle.std.proofs.Common.{get_or, arith, subst}
+use Rattle.std.proofs.lemmas.Bool.{false≢true}
+use Rattle.std.proofs.lemmas.Cmp.{nat_list_cmp_total, tied_itself}
+use Rattle.std.proofs.lemmas.List.{length-map, length-reverse, map-append, reverse-append}
+use Rattle.std.proofs.lemmas.Map.Lookups.{exact_bytes}
+use Rattle.std.proofs.Math.Path.{refl, sym, ◌∙◌, ap, ap₂, fun_ext}
+use Rattle.omega_kinds.specs.Kind.{Kind}
+use Rattle.omega_kinds.specs.View.{kind_tree}
+use Rattle.omega_kinds.specs.declared.kind.Kind.{Kind as SharedKind}
+use Rattle.omega_kinds.specs.declared.label.Label.{Label}
+use Rattle.omega_kinds.specs.LabelOrder.{name_cmp}
+use Rattle.omega_kinds.proofs.NameLaws.{same_name-true, same_name-itself}
+use Rattle.omega_kinds.specs.Name.{Name, same_name}
+use Rattle.omega_types.specs.Ty.{Ty, lift}
+use Rattle.omega_types.specs.EtaLong.{eta}
+use Rattle.omega_types.specs.Scope.{scope_of}
+use Rattle.omega_types.specs.Index.{bump, shift}
+use Rattle.omega_types.specs.Substitution.{rename}
+use Rattle.omega_types.proofs.Algebra.{rename-weaken}
+use Rattle.omega_terms.specs.Term.{Term}
+use Rattle.omega_terms.specs.TermSubst.{ren_term, same_index}
+use Rattle.omega_terms.specs.PartTerms.{one_field, type_term, value_term}
+use Rattle.omega_terms.specs.Bound.{type_bound, term_bound}
+use Rattle.omega_terms.proofs.OneIndex.{ren_term-same}
+use Rattle.signatures.specs.Signatures.Sig.{Sig}
+use Rattle.signatures.specs.Signatures.SigSubst.{rename_sig}
+use Rattle.signatures.specs.Env.{Entry, Env, find, kinds, past_type, past_term, type_param, first_kind}
+use Rattle.sig_laws.proofs.Algebra.SigAlgebra.{rename-rename_sig, rename_sig-id}
+use Rattle.semantic_sigs.specs.declared.env.Entry.{Entry as CodeEntry}
+use Rattle.semantic_sigs.specs.declared.env.Entry.TheVariants as entry
+use Rattle.semantic_sigs.specs.declared.env.Slot.{Slot}
+use Rattle.semantic_sigs.specs.Entries.{entry_of, is_named, type_vars, term_vars, here, here_first, seen}
+use Rattle.semantic_sigs.specs.Slots.{with_slots, type_count, term_count, place_of, hidden_by, IsSlot, AreSlots, Keeps, IsKept}
+use Rattle.semantic_sigs.proofs.TermAlgebra.{ren-ren_term}
+
+-- what is found, past one variable more
+
+more-types : (t : ℕ) → (λ i. bump t 0 (suc i)) ≡ bump (t + 1) 0
+more-types t = fun_ext go
+  where
+    go : (i : ℕ) → t + suc i ≡ t + 1 + i
+    go i = omega arith
+
+seen-type : (t n : ℕ) (o : Option (Sig × Term)) → seen t n (past_type o) ≡ seen (t + 1) n o
+seen-type t n None = refl
+seen-type t n (Some r) =
+    ap₂ (λ s e. Some (s, e)) (rename-rename_sig (bump t 0) suc r.0 ∙ ap (λ f. rename_sig f r.0) (more-types t)) (ren-ren_term (bump t 0) suc (bump n 0) same_index r.1 ∙ ap (λ f. ren_term f (bump n 0) r.1) (more-types t))
+
+seen-term : (t n : ℕ) (o : Option (Sig × Term)) → seen t n (past_term o) ≡ seen t (n + 1) o
+seen-term t n None = refl
+seen-term t n (Some r) =
+    ap (λ e. Some (rename_sig (bump t 0) r.0, e)) (ren-ren_term (bump t 0) same_index (bump n 0) suc r.1 ∙ ap (λ f. ren_term (bump t 0) f r.1) (more-types n))
+
+no-bump : bump 0 0 ≡ (λ i. i)
+no-bump = fun_ext go
+  where
+    go : (i : ℕ) → 0 + i ≡ i
+    go i = omega arith
+
+bump-none : (m : ℕ) → bump 0 m ≡ bump 0 0
+bump-none zero = refl
+bump-none (suc m) = ap lift (bump-none m) ∙ fun_ext go
+  where
+    go : (i : ℕ) → lift (bump 0 0) i ≡ 0 + i
+    go zero = refl
+    go (suc i) = omega arith
+
+-- nothing is past the end
+pub seen-none : (o : Option (Sig × Term)) → seen 0 0 o ≡ o
+seen-none None = refl
+seen-none (Some r) = ap₂ (λ s e. Some (s, e)) (ap (λ f. rename_sig f r.0) no-bump ∙ rename_sig-id r.0) (ren-none r.1)
+  where
+    ren-none : (e : Term) → ren_term (bump 0 0) (bump 0 0) e ≡ e
+    ren-none e = sym (ap₂ (λ q r. ren_term q r e) (bump-none (type_bound e)) (bump-none (term_bound e))) ∙ ren_term-same 0 0 (type_bound e) (term_bound e) e (omega arith) (omega arith)
+
+-- one entry
+pub found-if : {A : Type 0} (b : Bool) (x y : A) → b ≡ true → cond b x y ≡ x
+found-if true x y e = refl
+found-if false x y e = cc
+
+pub past-if : {A : Type 0} (b : Bool) (x y : A) → b ≡ false → cond b x y ≡ y
+past-if true x y e = cc
+past-if false x y e = refl
+
+pub find-named : (e : Entry) (g : Env) (x : Name) → is_named x e ≡ true → find (e ∷ g) x ≡ here e g
+find-named (Entry.TypeVar k) g x h = cc
+find-named (Entry.Named y s) g x h = found-if (same_name x y) (Some (s, Term.Var zero)) (past_term (find g x)) h
+find-named (Entry.Value y t) g x h = found-if (same_name x y) _ (past_term (find g x)) h
+find-named (Entry.TypeParam y) g x h = found-if (same_name x y) (Some (type_param (first_kind g))) (find g x) h
+
+pub same-counts : (t n : ℕ) (o : Option (Sig × Term)) → seen t n o ≡ seen (t + 0) (n + 0) o
+same-counts t n o = ap₂ (λ i j. seen i j o) (plus t) (plus n)
+  where
+    plus : (n : ℕ) → n ≡ n + 0
+    plus n = omega arith
+
+pub find-other : (t n : ℕ) (e : Entry) (g : Env) (x : Name) → is_named x e ≡ false → seen t n (find (e ∷ g) x) ≡ seen (t + type_vars e) (n + term_vars e) (find g x)
+find-other t n (Entry.TypeVar k) g x h = seen-type t n (find g x) ∙ ap (λ j. seen (t + 1) j (find g x)) (omega arith)
+find-other t n (Entry.Named y s) g x h = ap (seen t n) (past-if (same_name x y) (Some (s, Term.Var zero)) (past_term (find g x)) h) ∙ (seen-term t n (find g x) ∙ ap (λ i. seen i (n + 1) (find g x)) (omega arith))
+find-other t n (Entry.Value y u) g x h = ap (seen t n) (past-if (same_name x y) _ (past_term (find g x)) h) ∙ (seen-term t n (find g x) ∙ ap (λ i. seen i (n + 1) (find g x)) (omega arith))
+find-other t n (Entry.TypeParam y) g x h = ap (seen t n) (past-if (same_name x y) (Some (type_param (first_kind g))) (find g x) h) ∙ same-counts t n (find g x)
+
+-- a type parameter
+pub seen-param : (t n : ℕ) (k : Kind) → seen t n (Some (type_param k)) ≡ Some (Sig.Typ (shift t 0 (eta k (Ty.Var zero))) k, type_term (shift t 0 (eta k (Ty.Var zero))) k)
+seen-param t n k = ap (λ u. Some (Sig.Typ (shift t 0 (eta k (Ty.Var zero))) k, u)) (type_term-renamed (bump t 0) (bump n 0) (eta k (Ty.Var zero)) k)
+  where
+    type_term-renamed : (q r : ℕ → ℕ) (a : Ty) (k : Kind) → ren_term q r (type_term a k) ≡ type_term (rename q a) k
+    type_term-renamed q r a k = ap (λ u. one_field Label.Typ (Term.TyLam (Kind.Arrow k Kind.Star) (Term.Lam (Ty.Apply (Ty.Var zero) u) (Term.Var zero)))) (rename-weaken q a)
