@@ -16,8 +16,8 @@ use semantic_sigs::Abs;
 use sig_text::write_elab;
 use std::alloc::Global;
 
-// The most bytes that a page holds.
-const PAGE: usize = 16777216;
+// The most bytes that a page holds: 256 MiB.
+const PAGE: usize = 268435456;
 
 // A sink in memory that grows with what is written, and fails where it would hold more than a page, or finds no memory.
 #[derive(Drop)]

@@ -71,11 +71,14 @@ pub(crate) fn compile(alloc: Global, bytes: &[u8]) -> Result<Compiled, Refused>
     ensures refused { IfErr result (IsRefused bytes.now) }
 {
     let program = parsed(alloc, bytes)?;
+    let bindings = bind_total(&program);
     let found = elab(alloc, &program)?;
+    // Its memory serves the checker.
+    drop(program);
     let whole = found.whole;
     let checked = confirm(alloc, &found.sig, whole)?;
     Ok(Compiled {
-        bindings: bind_total(&program),
+        bindings,
         effect: found.effect,
         sig: found.sig,
         checked,

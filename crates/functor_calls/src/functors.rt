@@ -24,7 +24,7 @@ pub fn pure_functor(alloc: Global, param: &Abs, body: Module) -> Result<Module, 
 {
     let kinds = param.kinds();
     let result = one_field(alloc, Label::App, body.term)?;
-    let from = encode_sig(alloc, param.body())?;
+    let from = encode_sig(param.body())?;
     let function = Term::make(alloc, TermNode::Lam(from, result))?;
     Ok(Module {
         effect: Effect::Pure,

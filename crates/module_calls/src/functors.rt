@@ -47,7 +47,7 @@ fn generative_term(alloc: Global, param: &Abs, body: &Module) -> Result<Term, Me
 {
     let packed = packed_term(alloc, body)?;
     let result = one_field(alloc, Label::Gen, packed)?;
-    let from = encode_sig(alloc, param.body())?;
+    let from = encode_sig(param.body())?;
     let function = Term::make(alloc, TermNode::Lam(from, result))?;
     let term = ty_lam_over(alloc, param.kinds(), function)?;
     Ok(term)

@@ -95,7 +95,7 @@ fn field_lets(alloc: Global, fields: &SigFields, body: Term) -> Result<Term, Mem
         let whole = variable(alloc, left as u64)?;
         let name = field.0.share()?;
         let part = Term::make(alloc, TermNode::Get(whole, Label::Name(name)))?;
-        let from = encode_sig(alloc, &field.1)?;
+        let from = encode_sig(&field.1)?;
         term = let_in(alloc, &from, part, term)?;
     }
     Ok(term)
@@ -158,7 +158,7 @@ fn bound_term(alloc: Global, first: &Module, rest: &Term) -> Result<Term, Mem>
         × (e ≡ let_in_of (enc n) first.now.term c)) }
 {
     let at = instantiate(alloc, &first.sig, first.types.items())?;
-    let from = encode_sig(alloc, &at)?;
+    let from = encode_sig(&at)?;
     let body = instance(alloc, rest, first.types.items())?;
     let term = first.term.share()?;
     let bound = let_in(alloc, &from, term, body)?;

@@ -24,10 +24,10 @@ use Rattle.omega_terms.proofs.NormalTyping.{shift-at}
 use Rattle.omega_terms.proofs.TypingLaws.{good-none, good-more, good-shift, type-kind}
 use Rattle.omega_laws.specs.Synthesis.{Synth, SynthFields}
 use Rattle.omega_laws.proofs.Synthesised.{sound, exact, synth-normal, synth_cast, revar, same_cons, same_refl, nf_nf, nf_kind, nf_shifted, all_body}
-use Rattle.omega_checker.specs.Found.{and_then, normal_at, put_normal, call_type, inst_type, get_type, if_same, pack_type, lowered, of_package, if_type, op_type, fix_type, more_type, is_new, labels_differ, synth_in, synth_row}
+use Rattle.omega_checker.specs.Found.{and_then, normal_at, put_normal, call_type, let_type, inst_type, get_type, if_same, pack_type, lowered, of_package, if_type, op_type, fix_type, more_type, is_new, labels_differ, synth_in, synth_row}
 use Rattle.omega_checker.specs.SameTy.{same_ty}
 use Rattle.omega_checker.proofs.Trees.{truths, both-true, true-both, same_ty-yes, same_ty-self, label-yes, label-self, no}
-use Rattle.omega_checker.proofs.Inverted.{some-same, if-yes, and_then-yes, map-yes, normal_at-yes, normal_at-of, call-yes, inst-yes, part_at-of, get-yes, pack-yes, package-yes, lowered-yes, if_type-yes, op-yes, fix-yes, more-yes, get-at}
+use Rattle.omega_checker.proofs.Inverted.{some-same, if-yes, and_then-yes, map-yes, normal_at-yes, normal_at-of, call-yes, let-cases, inst-yes, part_at-of, get-yes, pack-yes, package-yes, lowered-yes, if_type-yes, op-yes, fix-yes, more-yes, get-at}
 
 -- ---- normal types in the context
 
@@ -89,6 +89,17 @@ mutual
       let m = ap (normal ctx) (sym q.1) ∙ nf_nf q.0 in
       let i = found-sound e ctx (p.0 ∷ vars) r.0 (good-more k g) (normal-more (m ∙ q.1) f) r.1 in
       synth_cast (ap (λ u. Ty.Arrow u r.0) q.1 ∙ r.2) (Synth.lam q.0 (revar (a ∷ vars) (good-more k g) (good-more q.0 g) (same_cons m (same_refl ctx vars)) i))
+  found-sound (Term.Call (Term.Lam b e) a) ctx vars t g f h =
+      let-cases (normal_at ctx b Kind.Star) b (λ n. synth_in ctx (n ∷ vars) e) (synth_in ctx vars a) t h
+      (λ u p s q.
+      let i = found-sound a ctx vars u g f p in
+      let n = synth-normal g i in
+      let k = type-kind g (sound g i) in
+      let j = found-sound e ctx (u ∷ vars) t (good-more k g) (normal-more n f) q in
+      Synth.call (subst (λ w. Synth ctx vars (Term.Lam w e) (Ty.Arrow u t)) (sym s) (synth_cast (ap (λ w. Ty.Arrow w t) n) (Synth.lam k j))) i)
+      (λ u p q.
+      let r = call-yes (synth_in ctx vars (Term.Lam b e)) (Some u) t q in
+      Synth.call (found-sound (Term.Lam b e) ctx vars (Ty.Arrow r.0 t) g f r.1) (found-sound a ctx vars r.0 g f (p ∙ r.2)))
   found-sound (Term.Call d a) ctx vars t g f h =
       let p = call-yes (synth_in ctx vars d) (synth_in ctx vars a) t h in
       Synth.call (found-sound d ctx vars (Ty.Arrow p.0 t) g f p.1) (found-sound a ctx vars p.0 g f p.2)
@@ -161,6 +172,24 @@ at-normal ctx (At.there h) = at-normal ctx h
 when-same : (t : Ty) (o : Option Ty) → (if same_ty t t then o else None) ≡ o
 when-same t o = ap (λ b. if b then o else None) (same_ty-self t)
 
+either-way : {o p r : Option Ty} (b : Truth) → o ≡ r → p ≡ r → (if b then o else p) ≡ r
+either-way true e f = e
+either-way false e f = f
+
+arrow-parts : {a b c d : Ty} → Ty.Arrow a b ≡ Ty.Arrow c d → (a ≡ c) × (b ≡ d)
+arrow-parts p = (cc, cc)
+
+-- a function and its argument, whether it is called at once or not
+call-found : (ctx : List Kind) (vars : List Ty) (d a : Term) (t u : Ty) → synth_in ctx vars d ≡ Some (Ty.Arrow t u) → synth_in ctx vars a ≡ Some t → synth_in ctx vars (Term.Call d a) ≡ Some u
+call-found ctx vars (Term.Lam b e) a t u p q =
+    let x = and_then-yes (normal_at ctx b Kind.Star) (λ n. option_map (Ty.Arrow n) (synth_in ctx (n ∷ vars) e)) (Ty.Arrow t u) p in
+    let y = map-yes (Ty.Arrow x.0) (synth_in ctx (x.0 ∷ vars) e) (Ty.Arrow t u) x.2 in
+    let parts = arrow-parts y.2 in
+    ap (let_type (normal_at ctx b Kind.Star) b (λ n. synth_in ctx (n ∷ vars) e)) q ∙
+    either-way (same_ty b t) (ap (λ n. synth_in ctx (n ∷ vars) e) (sym parts.0) ∙ (y.1 ∙ ap Some parts.1))
+    (ap (λ o. call_type o (Some t)) p ∙ when-same t (Some u))
+call-found ctx vars d a t u p q = ap₂ call_type p q ∙ when-same t (Some u)
+
 put-found : {ctx : List Kind} {k : Kind} {t b : Ty} → HasKind ctx t k → HasKind (k ∷ ctx) b Kind.Star → normal (k ∷ ctx) b ≡ b → put_normal k b (normal_at ctx t k) ≡ Some (normal ctx (instantiate b t))
 put-found {k = k} {b = b} h i e = ap (put_normal k b) (normal_at-of h) ∙ ap Some (filled h i e)
 
@@ -215,7 +244,7 @@ mutual
   complete g Synth.text = refl
   complete {ctx} {vars} g (Synth.lam {t = t} {e = e} k h) =
       ap (λ o. and_then o (λ n. option_map (Ty.Arrow n) (synth_in ctx (n ∷ map (normal ctx) vars) e))) (normal_at-of k) ∙ ap (option_map (Ty.Arrow (normal ctx t))) (complete (good-more k g) h)
-  complete g (Synth.call {t = t} {u = u} h i) = ap₂ call_type (complete g h) (complete g i) ∙ when-same t (Some u)
+  complete {ctx} {vars} g (Synth.call {t = t} {u = u} {f = d} {a = a} h i) = call-found ctx (map (normal ctx) vars) d a t u (complete g h) (complete g i)
   complete {ctx} {vars} g (Synth.ty_lam {k = k} {e = e} h) =
       ap (option_map (Ty.All k)) (ap (λ vs. synth_in (k ∷ ctx) vs e) (normals-shift vars k g) ∙ complete (good-shift vars k g) h)
   complete {ctx} g (Synth.inst {t = t} h k) =

@@ -18,7 +18,7 @@ use Rattle.type_normal.proofs.MentionedBelow.{mentioned-complete}
 use Rattle.type_normal.proofs.SinkSteps.{raised-back}
 use Rattle.omega_terms.specs.declared.op.Op.{Op}
 use Rattle.omega_terms.specs.Typing.{At, HasPart, result_type}
-use Rattle.omega_checker.specs.Found.{and_then, if_kind, normal_at, put_normal, called, call_type, instantiated, inst_type, part_at, part_of, get_type, if_same, packed, pack_type, lowered, of_package, if_type, op_type, fix_type, more_type}
+use Rattle.omega_checker.specs.Found.{and_then, if_kind, normal_at, put_normal, called, call_type, let_type, instantiated, inst_type, part_at, part_of, get_type, if_same, packed, pack_type, lowered, of_package, if_type, op_type, fix_type, more_type}
 use Rattle.omega_checker.specs.SameTy.{same_ty}
 use Rattle.omega_checker.proofs.Trees.{both-true, kind_eq-yes, kind_eq-self, same_ty-yes, label-yes, label-self, no}
 
@@ -72,6 +72,16 @@ pub call-yes : (o p : Option Ty) (u : Ty) → call_type o p ≡ Some u → (a : 
 call-yes None p u e = none-some e
 call-yes (Some f) None u e = none-some e
 call-yes (Some f) (Some a) u e = (a, ap Some (called-yes f a u e), refl)
+
+-- what a function that is called at once was typed by: an argument of exactly the type that is written, or a call
+pub let-cases : {A : Type 0} (n : Option Ty) (t : Ty) (body : Ty → Option Ty) (o : Option Ty) (r : Ty) → let_type n t body o ≡ Some r → ((u : Ty) → o ≡ Some u → t ≡ u → body u ≡ Some r → A)
+    → ((u : Ty) → o ≡ Some u → call_type (and_then n (λ m. option_map (Ty.Arrow m) (body m))) (Some u) ≡ Some r → A) → A
+let-cases n t body None r e f g = none-some e
+let-cases {A = A} n t body (Some u) r e f g = split (same_ty t u) refl e
+  where
+    split : (b : Truth) → same_ty t u ≡ b → (if b then body u else call_type (and_then n (λ m. option_map (Ty.Arrow m) (body m))) (Some u)) ≡ Some r → A
+    split true s h = f u refl (same_ty-yes t u s) h
+    split false s h = g u refl h
 
 instantiated-yes : (ctx : List Kind) (s t v : Ty) → instantiated ctx s t ≡ Some v → (k : Kind) × (b : Ty) × (s ≡ Ty.All k b) × HasKind ctx t k × (hsubst k zero (normal ctx t) b ≡ v)
 instantiated-yes ctx (Ty.All k b) t v e = let p = filled-yes ctx k b t v e in (k, b, refl, p.0, p.1)

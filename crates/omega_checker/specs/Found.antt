@@ -44,6 +44,12 @@ call_type None o = None
 call_type (Some f) None = None
 call_type (Some f) (Some a) = called f a
 
+-- the type of a function's body, from that of the argument which the function is called with at once. An argument of
+-- exactly the type that is written there is enough: types that are found are normal
+abbrev pub let_type : Option Ty → Ty → (Ty → Option Ty) → Option Ty → Option Ty
+let_type from t body None = None
+let_type from t body (Some u) = if same_ty t u then body u else call_type (and_then from (λ n. option_map (Ty.Arrow n) (body n))) (Some u)
+
 abbrev pub instantiated : List Kind → Ty → Ty → Option Ty
 instantiated ctx (Ty.All k b) t = put_normal k b (normal_at ctx t k)
 instantiated ctx _ t = None
@@ -124,6 +130,7 @@ abbrev mutual
   synth_in ctx vars (Term.Bool b) = Some Ty.Bool
   synth_in ctx vars (Term.Text s) = Some Ty.Text
   synth_in ctx vars (Term.Lam t e) = and_then (normal_at ctx t Kind.Star) (λ n. option_map (Ty.Arrow n) (synth_in ctx (n ∷ vars) e))
+  synth_in ctx vars (Term.Call (Term.Lam t e) a) = let_type (normal_at ctx t Kind.Star) t (λ n. synth_in ctx (n ∷ vars) e) (synth_in ctx vars a)
   synth_in ctx vars (Term.Call f a) = call_type (synth_in ctx vars f) (synth_in ctx vars a)
   synth_in ctx vars (Term.TyLam k e) = option_map (Ty.All k) (synth_in (k ∷ ctx) (shift_all vars) e)
   synth_in ctx vars (Term.Inst e t) = inst_type ctx (synth_in ctx vars e) t

@@ -11,10 +11,11 @@ ghost use Rattle.omega_types.specs.Ty.{Ty as TyTree};
 ghost use Rattle.omega_types.specs.View.{ty_of};
 ghost use Rattle.type_normal.specs.Mentioned.{is_mentioned};
 ghost use Rattle.omega_terms.specs.Typing.{shift_all, result_type};
-ghost use Rattle.omega_checker.specs.Found.{normal_at as normal_at_of, put_normal as put_normal_of, call_type, inst_type, part_at as part_at_of, get_type, if_same as if_same_of, pack_type, lowered as lowered_of, if_type, op_type, fix_type};
+ghost use Rattle.omega_checker.specs.Found.{normal_at as normal_at_of, put_normal as put_normal_of, call_type, inst_type, part_at as part_at_of, get_type, pack_type, lowered as lowered_of, if_type, op_type, fix_type};
 ghost use Rattle.omega_checker.specs.SameTy.{same_ty};
 
 use crate::normality::is_normal;
+use crate::putting::is_put;
 use omega_kinds::{Kind, Label, Mem, compare, same_kind};
 use omega_terms::Op;
 use omega_types::{Ty, TyFields, TyNode, kind_of};
@@ -188,22 +189,6 @@ pub(crate) fn field_type(whole: Option<NormalTy>, label: &Label) -> Result<Optio
     Ok(None)
 }
 
-// The type, where the two others agree.
-fn if_same(ty: NormalTy, wanted: Option<NormalTy>, found: Option<NormalTy>) -> Option<NormalTy>
-    ensures { result ≡ if_same_of ty wanted found }
-{
-    match (wanted, found) {
-        (Some(wanted), Some(found)) => {
-            if agree(&wanted, &found) {
-                Some(ty)
-            } else {
-                None
-            }
-        }
-        _ => None,
-    }
-}
-
 /// The type of a package: the target, where the body has the type that it asks for.
 pub(crate) fn packed(
     alloc: Global,
@@ -214,13 +199,15 @@ pub(crate) fn packed(
 ) -> Result<Option<NormalTy>, Mem>
     ensures { IfOk result (λ o. o ≡ pack_type (scope_of ctx.now) hidden.now target body) }
 {
-    let Some(target) = target else {
+    let (Some(target), Some(body)) = (target, body) else {
         return Ok(None);
     };
     if let TyNode::Ex(kind, inner) = plain(&target).node() {
-        let hidden = normal_at(alloc, ctx, hidden, kind)?;
-        let wanted = put_normal(alloc, kind, inner, hidden)?;
-        return Ok(if_same(target.share()?, wanted, body));
+        if let Some(hidden) = normal_at(alloc, ctx, hidden, kind)? {
+            if is_put(alloc, kind, inner, &hidden, &body)? {
+                return Ok(Some(target.share()?));
+            }
+        }
     }
     Ok(None)
 }

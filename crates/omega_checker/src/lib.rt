@@ -7,6 +7,7 @@
 pub mod checked;
 mod forms;
 mod normality;
+mod putting;
 mod synthesis;
 
 pub use checked::{Checked, check};

@@ -1,5 +1,5 @@
 // The normal type of a term.
-ghost use Rattle.std.specs.Prelude.{◌≡◌, ◌∷◌, [], IfOk, OnOk, reverse, if◌then◌else◌, None};
+ghost use Rattle.std.specs.Prelude.{◌≡◌, ◌∷◌, [], IfOk, OnOk, reverse, if◌then◌else◌, None, Some};
 ghost use Rattle.std.specs.Option.{option_map};
 ghost use Rattle.omega_kinds.specs.View.{kind_tree};
 ghost use Rattle.omega_types.specs.Scope.{scope_of};
@@ -7,11 +7,11 @@ ghost use Rattle.omega_types.specs.Ty.{Ty as TyTree};
 ghost use Rattle.omega_terms.specs.Fields.{term_row};
 ghost use Rattle.omega_terms.specs.Term.{Term as TermTree};
 ghost use Rattle.omega_terms.specs.Typing.{shift_all};
-ghost use Rattle.omega_checker.specs.Found.{synth_in, synth_row, and_then, of_package, lowered as lowered_of, fix_type, labels_differ};
+ghost use Rattle.omega_checker.specs.Found.{synth_in, synth_row, and_then, call_type, of_package, lowered as lowered_of, fix_type, labels_differ};
 
 use crate::forms::{
-    arrow, called, chosen, computed, field_type, fixed, instantiated, lowered, make, normal_at,
-    packed, part, raised, variable,
+    agree, arrow, called, chosen, computed, field_type, fixed, instantiated, lowered, make,
+    normal_at, packed, part, raised, variable,
 };
 use omega_kinds::{Kind, Mem};
 use omega_terms::{Op, Term, TermFields, TermNode};
@@ -89,9 +89,55 @@ fn synth_call(
     ensures vars { OnOk result (vars.new.items ≡ vars.old.items) }
     ensures found { IfOk result (λ o. o ≡ synth_in (scope_of kinds.old.items) (reverse vars.old.items) (TermTree.Call function.now arg.now)) }
 {
+    let Some(found) = synth(alloc, kinds, vars, arg)? else {
+        return Ok(None);
+    };
+    match function.node() {
+        TermNode::Lam(ty, body) => {
+            if agree(&part(ty)?, &found) {
+                synth_bound(alloc, kinds, vars, found, body)
+            } else {
+                synth_applied(alloc, kinds, vars, function, found)
+            }
+        }
+        _ => synth_applied(alloc, kinds, vars, function, found),
+    }
+}
+
+// The type of a function at an argument of this type.
+#[cycle(synth)]
+fn synth_applied(
+    alloc: Global,
+    kinds: &mut Vec<Kind>,
+    vars: &mut Vec<NormalTy>,
+    function: &Term,
+    arg: NormalTy,
+) -> Result<Option<NormalTy>, Mem>
+    ensures kinds { OnOk result (scope_of kinds.new.items ≡ scope_of kinds.old.items) }
+    ensures vars { OnOk result (vars.new.items ≡ vars.old.items) }
+    ensures found { IfOk result (λ o. o ≡ call_type (synth_in (scope_of kinds.old.items) (reverse vars.old.items) function.now) (Some arg)) }
+{
     let function = synth(alloc, kinds, vars, function)?;
-    let arg = synth(alloc, kinds, vars, arg)?;
-    called(function, arg)
+    called(function, Some(arg))
+}
+
+// The type of a term under one more variable of this type.
+#[cycle(synth)]
+fn synth_bound(
+    alloc: Global,
+    kinds: &mut Vec<Kind>,
+    vars: &mut Vec<NormalTy>,
+    ty: NormalTy,
+    body: &Term,
+) -> Result<Option<NormalTy>, Mem>
+    ensures kinds { OnOk result (scope_of kinds.new.items ≡ scope_of kinds.old.items) }
+    ensures vars { OnOk result (vars.new.items ≡ vars.old.items) }
+    ensures found { IfOk result (λ o. o ≡ synth_in (scope_of kinds.old.items) (ty ∷ reverse vars.old.items) body.now) }
+{
+    vars.push(ty)?;
+    let found = synth(alloc, kinds, vars, body)?;
+    vars.pop();
+    Ok(found)
 }
 
 // The type of a package.
@@ -171,9 +217,7 @@ fn synth_function(
     let Some(from) = from else {
         return Ok(None);
     };
-    vars.push(from.share()?)?;
-    let to = synth(alloc, kinds, vars, body)?;
-    vars.pop();
+    let to = synth_bound(alloc, kinds, vars, from.share()?, body)?;
     match to {
         Some(to) => Ok(Some(arrow(alloc, &from, &to)?)),
         None => Ok(None),

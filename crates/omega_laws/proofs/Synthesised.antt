@@ -74,9 +74,6 @@ each_part f (HasPart.there d p) = HasPart.there d (each_part f p)
 pub shift_one : (s t : Ty) → shift s ≡ shift t → s ≡ t
 shift_one s t p = sym (put_shift Ty.Int s) ∙ (ap (put Ty.Int) p ∙ put_shift Ty.Int t)
 
-arrow_left : {a b c d : Ty} → Ty.Arrow a b ≡ Ty.Arrow c d → a ≡ c
-arrow_left p = cc
-
 pub arrow_right : {a b c d : Ty} → Ty.Arrow a b ≡ Ty.Arrow c d → b ≡ d
 arrow_right p = cc
 

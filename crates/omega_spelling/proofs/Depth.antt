@@ -143,9 +143,6 @@ two-shows front a b da db q sa sb o c rest e =
     deepest : (o c da db m : ℕ) → o + 1 ≤ c + 4000 → (0 < da → o + 1 + da ≤ c + 4000) → (0 < db → o + 1 + m + db ≤ c + m + 4000) → o + (max da db + 1) ≤ c + 4000
     deepest o c da db m x y z = grind arith
 
-shows-as : (text text' : List ℕ) (d : ℕ) (rest : List ℕ) (o c : ℕ) → text ++ rest ≡ text' → deep_from Outside o c (text ++ rest) ≡ false → deep_from Outside o c text' ≡ false
-shows-as text text' d rest o c e f = subst (λ (w : List ℕ). deep_from Outside o c w ≡ false) e f
-
 pub kind-shows : (k : Kind) → Shows (kind_text k) (kind_deep k)
 kind-shows Star = quiet-shows (codes "*") refl
 kind-shows (ArrowKind a b) = λ o c rest e.

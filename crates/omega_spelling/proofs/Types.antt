@@ -237,9 +237,6 @@ node-takes d n reads bytes r0 x rest opened e =
     step (codes "@ ") r0 _ None (x, rest) e5 (λ r p is. pair-takes Apply d n (codes "(@ ") bytes r x rest (λ a b. refl) (λ a b f g. ((f.0, g.0), omega (arith, f.1, g.1))) reads (opened ∙ ap (λ (w : List ℕ). 40 ∷ w) p) is)
     (none-some (x, rest)))))))
 
-more-deep : (d n : ℕ) (t : Ty) → TyFits d n t → TyFits (suc d) n t
-more-deep d n t f = (f.0, omega (arith, f.1))
-
 ty-again : (d n : ℕ) → AllReads d → (x : Ty) (rest : List ℕ) → TyFits (suc d) n x → Ends rest → ty_at (suc d) n (ty_text n x ++ rest) ≡ Some (x, rest)
 unfolding ty_at node_at leaf_at strip ◌then◌
 ty-again d n reads (Var i) rest ok ends = var-again n i rest ok.0.0 ok.0.1 ends

@@ -44,9 +44,6 @@ tied-under {to = to} {to' = to'} {s = s} j j' h _ _ (there {k = k} {i = i} x) (t
 
 -- a type that is normal in both contexts has one kind and one normal form with the types put in
 
-coinc-lam-neutral : {ctx : List Kind} {k l : Kind} {b : Ty} {A : Type 0} → Neutral ctx (Ty.Lam k b) l → A
-coinc-lam-neutral n = elim n [ ]
-
 mutual
   pub coinc : {from from' to to' : List Kind} {s : ℕ → Ty} {t : Ty} {k l : Kind} → Tied from from' to to' s → Normal from t k → Normal from' t l → (k ≡ l) × (form_at to s t ≡ form_at to' s t)
   coinc h (n_lam {k = k} b) (n_lam c) = let r = coinc (tied-under k k h) b c in (ap (Kind.Arrow k) r.0, ap (Ty.Lam k) r.1)

@@ -1,6 +1,7 @@
 -- The entry at the place of a name, and what it stands for.
-use Rattle.std.specs.Prelude.{ℕ, zero, suc, ◌+◌, ◌-◌, ◌<◌, ◌≤◌, ◌≡◌, List, [], ◌∷◌, ◌++◌, ◌↔◌, Bool, true, false, cond, Option, Some, None, IsSome, length, map, reverse, take}
-use Rattle.std.specs.BTreeMap.{BTreeMap, Updates, get, is_at}
+use Rattle.std.specs.Prelude.{ℕ, zero, suc, ◌+◌, ◌-◌, ◌<◌, ◌≤◌, ◌≡◌, ◌==◌, List, [], ◌∷◌, ◌++◌, ◌↔◌, Bool, true, false, cond, Option, Some, None, IsSome, length, map, reverse, take}
+use Rattle.std.specs.HashMap.{HashMap, Updates, get}
+use Rattle.std.specs.Cmp.Lexicographic.{pointwise}
 use Rattle.std.specs.Map.{lookup}
 use Rattle.std.specs.Option.{option_to_list}
 use Rattle.std.specs.Ordering.{is_eq}
@@ -16,7 +17,6 @@ use Rattle.omega_kinds.specs.Kind.{Kind}
 use Rattle.omega_kinds.specs.View.{kind_tree}
 use Rattle.omega_kinds.specs.declared.kind.Kind.{Kind as SharedKind}
 use Rattle.omega_kinds.specs.declared.label.Label.{Label}
-use Rattle.omega_kinds.specs.LabelOrder.{name_cmp}
 use Rattle.omega_kinds.proofs.NameLaws.{same_name-true, same_name-itself}
 use Rattle.omega_kinds.specs.Name.{Name, same_name}
 use Rattle.omega_types.specs.Ty.{Ty, lift}
@@ -118,21 +118,21 @@ found-at slots (suc n) x at d le h = go (λ q. found-at slots n x at d (omega (a
         subst (λ i. Found slots (suc n) x i) (sym (length-taken slots n (omega (arith, le))) ∙ (sym (length-slots (take n slots)) ∙ some-of (length (with_slots [] (take n slots))) at (sym (found-if (is_named x (entry_of (get_or slots n d).entry)) _ _ q) ∙ place))) (found-here slots n x (entry_of (get_or slots n d).entry) (with_slots [] (take n slots)) whole q)
     go ih false q = found-outside slots n x at (entry_of (get_or slots n d).entry) whole q (ih (sym (past-if (is_named x (entry_of (get_or slots n d).entry)) _ _ q) ∙ place))
 
-found-all : (slots : List Slot) (list : List SharedKind) (places : BTreeMap Name ℕ) (terms : ℕ) (x : Name) (at : ℕ) (d : Slot) → IsKept slots list places terms → get name_cmp places x ≡ Some at → Found slots (length slots) x at
+found-all : {S : Type 0} → (slots : List Slot) (list : List SharedKind) (places : HashMap Name ℕ S) (terms : ℕ) (x : Name) (at : ℕ) (d : Slot) → IsKept slots list places terms → get (pointwise ◌==◌) places x ≡ Some at → Found slots (length slots) x at
 found-all slots list places terms x at d kept h = found-at slots (length slots) x at d (omega arith) (ap (λ all. place_of (with_slots [] all) x) (take-all slots) ∙ (sym (kept.1.1 x) ∙ h))
 
 some-slot : (slots : List Slot) (x : Name) (at : ℕ) → place_of (with_slots [] slots) x ≡ Some at → Slot
 some-slot [] x at h = absurd (not-some at h)
 some-slot (s ∷ slots) x at h = s
 
-pub place-inside : (slots : List Slot) (list : List SharedKind) (places : BTreeMap Name ℕ) (terms : ℕ) (x : Name) (at : ℕ) → IsKept slots list places terms → get name_cmp places x ≡ Some at → at < length slots
+pub place-inside : {S : Type 0} → (slots : List Slot) (list : List SharedKind) (places : HashMap Name ℕ S) (terms : ℕ) (x : Name) (at : ℕ) → IsKept slots list places terms → get (pointwise ◌==◌) places x ≡ Some at → at < length slots
 place-inside slots list places terms x at kept h = (found-all slots list places terms x at (some-slot slots x at (sym (kept.1.1 x) ∙ h)) kept h).0
 
 -- the numbers past the slot at the place of a name
 abbrev Past : List Slot → List SharedKind → ℕ → Name → ℕ → Slot → Type 0
 Past slots list terms x at d = (d.types ≤ length list) × (d.terms ≤ terms) × (find (with_slots [] slots) x ≡ seen (length list - d.types) (terms - d.terms) (here_first (with_slots [] (take (at + 1) slots))))
 
-past : (slots : List Slot) (list : List SharedKind) (places : BTreeMap Name ℕ) (terms : ℕ) (x : Name) (at : ℕ) (d : Slot) → IsKept slots list places terms → get name_cmp places x ≡ Some at → d ≡ get_or slots at d → Past slots list terms x at d
+past : {S : Type 0} → (slots : List Slot) (list : List SharedKind) (places : HashMap Name ℕ S) (terms : ℕ) (x : Name) (at : ℕ) (d : Slot) → IsKept slots list places terms → get (pointwise ◌==◌) places x ≡ Some at → d ≡ get_or slots at d → Past slots list terms x at d
 past slots list places terms x at d kept h ed = go (found-all slots list places terms x at d kept h)
   where
     go : Found slots (length slots) x at → Past slots list terms x at d
@@ -153,13 +153,13 @@ past slots list places terms x at d kept h ed = go (found-all slots list places 
         all-terms : terms ≡ count + d.terms
         all-terms = kept.2 ∙ (sym (ap (λ all. term_count (with_slots [] all)) (take-all slots)) ∙ (em ∙ ap (λ n. count + n) (ap term_count there ∙ sym one.2)))
 
-pub types-inside : (slots : List Slot) (list : List SharedKind) (places : BTreeMap Name ℕ) (terms : ℕ) (x : Name) (at : ℕ) (d : Slot) → IsKept slots list places terms → get name_cmp places x ≡ Some at → d ≡ get_or slots at d → d.types ≤ length list
+pub types-inside : {S : Type 0} → (slots : List Slot) (list : List SharedKind) (places : HashMap Name ℕ S) (terms : ℕ) (x : Name) (at : ℕ) (d : Slot) → IsKept slots list places terms → get (pointwise ◌==◌) places x ≡ Some at → d ≡ get_or slots at d → d.types ≤ length list
 types-inside slots list places terms x at d kept h ed = (past slots list places terms x at d kept h ed).0
 
-pub terms-inside : (slots : List Slot) (list : List SharedKind) (places : BTreeMap Name ℕ) (terms : ℕ) (x : Name) (at : ℕ) (d : Slot) → IsKept slots list places terms → get name_cmp places x ≡ Some at → d ≡ get_or slots at d → d.terms ≤ terms
+pub terms-inside : {S : Type 0} → (slots : List Slot) (list : List SharedKind) (places : HashMap Name ℕ S) (terms : ℕ) (x : Name) (at : ℕ) (d : Slot) → IsKept slots list places terms → get (pointwise ◌==◌) places x ≡ Some at → d ≡ get_or slots at d → d.terms ≤ terms
 terms-inside slots list places terms x at d kept h ed = (past slots list places terms x at d kept h ed).1
 
-pub find-there : (slots : List Slot) (list : List SharedKind) (places : BTreeMap Name ℕ) (terms : ℕ) (x : Name) (at : ℕ) (d : Slot) → IsKept slots list places terms → get name_cmp places x ≡ Some at → d ≡ get_or slots at d
+pub find-there : {S : Type 0} → (slots : List Slot) (list : List SharedKind) (places : HashMap Name ℕ S) (terms : ℕ) (x : Name) (at : ℕ) (d : Slot) → IsKept slots list places terms → get (pointwise ◌==◌) places x ≡ Some at → d ≡ get_or slots at d
     → find (with_slots [] slots) x ≡ seen (length list - d.types) (terms - d.terms) (here_first (with_slots [] (take (at + 1) slots)))
 find-there slots list places terms x at d kept h ed = (past slots list places terms x at d kept h ed).2
 
@@ -171,7 +171,7 @@ find-none (e ∷ g) x h = go (λ q. find-none g x q) (is_named x e) refl
     go ih true q = absurd (not-some (length g) (sym h ∙ found-if (is_named x e) (Some (length g)) (place_of g x) q))
     go ih false q = sym (seen-none (find (e ∷ g) x)) ∙ (find-other 0 0 e g x q ∙ ap (λ o. seen (0 + type_vars e) (0 + term_vars e) o) (ih (sym (past-if (is_named x e) (Some (length g)) (place_of g x) q) ∙ h)))
 
-pub find-missing : (slots : List Slot) (list : List SharedKind) (places : BTreeMap Name ℕ) (terms : ℕ) (x : Name) → IsKept slots list places terms → get name_cmp places x ≡ None → find (with_slots [] slots) x ≡ None
+pub find-missing : {S : Type 0} → (slots : List Slot) (list : List SharedKind) (places : HashMap Name ℕ S) (terms : ℕ) (x : Name) → IsKept slots list places terms → get (pointwise ◌==◌) places x ≡ None → find (with_slots [] slots) x ≡ None
 find-missing slots list places terms x kept h = find-none (with_slots [] slots) x (sym (kept.1.1 x) ∙ h)
 
 -- the entry at a place is a type parameter

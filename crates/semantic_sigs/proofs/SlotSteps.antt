@@ -1,6 +1,8 @@
 -- Slots of an environment, and what is kept beside them: one entry more, and one less.
-use Rattle.std.specs.Prelude.{ℕ, zero, suc, ◌+◌, ◌-◌, ◌<◌, ◌≤◌, ◌≡◌, List, [], ◌∷◌, ◌++◌, ◌↔◌, Bool, true, false, cond, Option, Some, None, IsSome, length, map, reverse, take}
-use Rattle.std.specs.BTreeMap.{BTreeMap, Updates, get, is_at}
+use Rattle.std.specs.Prelude.{ℕ, zero, suc, ◌+◌, ◌-◌, ◌<◌, ◌≤◌, ◌≡◌, ◌==◌, List, [], ◌∷◌, ◌++◌, ◌↔◌, Bool, true, false, cond, Option, Some, None, IsSome, length, map, reverse, take}
+use Rattle.std.specs.HashMap.{HashMap, Updates, get}
+use Rattle.std.specs.Bool.{one_answer}
+use Rattle.std.specs.Cmp.Lexicographic.{pointwise, bytes_decides}
 use Rattle.std.specs.Map.{lookup}
 use Rattle.std.specs.Option.{option_to_list}
 use Rattle.std.specs.Ordering.{is_eq}
@@ -16,7 +18,6 @@ use Rattle.omega_kinds.specs.Kind.{Kind}
 use Rattle.omega_kinds.specs.View.{kind_tree}
 use Rattle.omega_kinds.specs.declared.kind.Kind.{Kind as SharedKind}
 use Rattle.omega_kinds.specs.declared.label.Label.{Label}
-use Rattle.omega_kinds.specs.LabelOrder.{name_cmp}
 use Rattle.omega_kinds.proofs.NameLaws.{same_name-true, same_name-itself}
 use Rattle.omega_kinds.specs.Name.{Name, same_name}
 use Rattle.omega_types.specs.Ty.{Ty, lift}
@@ -92,19 +93,11 @@ slot-at g [] n d lt all = absurd (omega (arith, lt))
 slot-at g (s ∷ slots) zero d lt all = all.0
 slot-at g (s ∷ slots) (suc n) d lt all = slot-at (entry_of s.entry ∷ g) slots n d (omega (arith, lt)) all.1
 
--- names and their order
+-- names
 
-pub equal-name : (y x : Name) → is_eq (name_cmp y x) ≡ same_name x y
-equal-name y x = go (same_name x y) refl
-  where
-    other : same_name x y ≡ false → (o : Ordering) → name_cmp y x ≡ o → is_eq (name_cmp y x) ≡ false
-    other ne Less e = ap is_eq e
-    other ne Equal e = absurd (false≢true (sym ne ∙ (ap (same_name x) (exact_bytes y x e) ∙ same_name-itself x)))
-    other ne Greater e = ap is_eq e
-
-    go : (b : Bool) → same_name x y ≡ b → is_eq (name_cmp y x) ≡ same_name x y
-    go true e = ap (λ z. is_eq (name_cmp y z)) (same_name-true x y e) ∙ (ap is_eq (tied_itself nat_list_cmp_total y) ∙ sym e)
-    go false e = other e (name_cmp y x) refl ∙ sym e
+pub equal-name : (y x : Name) → pointwise ◌==◌ y x ≡ same_name x y
+equal-name y x =
+    one_answer (pointwise ◌==◌ y x) (same_name x y) (bytes_decides y x) (λ h. sym (same_name-true x y h), λ e. ap (same_name x) e ∙ same_name-itself x)
 
 -- what is kept
 
@@ -114,14 +107,14 @@ scope-last scope k = ap reverse (map-append kind_tree scope (k ∷ [])) ∙ reve
 pub length-scope : (scope : List SharedKind) → length (scope_of scope) ≡ length scope
 length-scope scope = length-reverse (map kind_tree scope) ∙ length-map scope kind_tree
 
-pub keeps-type : (old new : List SharedKind) (before after : BTreeMap Name ℕ) (k : SharedKind) (g : Env) → new ≡ old ++ k ∷ [] → after.entries ≡ before.entries → Keeps old before g → Keeps new after (Entry.TypeVar (kind_tree k) ∷ g)
-keeps-type old new before after k g en em h = (ap scope_of en ∙ (scope-last old k ∙ ap (λ ks. kind_tree k ∷ ks) h.0), λ x. ap (lookup (is_at (name_cmp x))) em ∙ h.1 x)
+pub keeps-type : {S : Type 0} → (old new : List SharedKind) (before after : HashMap Name ℕ S) (k : SharedKind) (g : Env) → new ≡ old ++ k ∷ [] → after.entries ≡ before.entries → Keeps old before g → Keeps new after (Entry.TypeVar (kind_tree k) ∷ g)
+keeps-type old new before after k g en em h = (ap scope_of en ∙ (scope-last old k ∙ ap (λ ks. kind_tree k ∷ ks) h.0), λ x. ap (lookup (pointwise ◌==◌ x)) em ∙ h.1 x)
 
-pub keeps-name : (list new : List SharedKind) (before after : BTreeMap Name ℕ) (y : Name) (at : ℕ) (e : Entry) (g : Env) → ((x : Name) → is_named x e ≡ same_name x y) → kinds (e ∷ g) ≡ kinds g → new ≡ list
-    → Updates name_cmp before after y (Some at) → length g ≡ at → Keeps list before g → Keeps new after (e ∷ g)
+pub keeps-name : {S : Type 0} → (list new : List SharedKind) (before after : HashMap Name ℕ S) (y : Name) (at : ℕ) (e : Entry) (g : Env) → ((x : Name) → is_named x e ≡ same_name x y) → kinds (e ∷ g) ≡ kinds g → new ≡ list
+    → Updates (pointwise ◌==◌) before after y (Some at) → length g ≡ at → Keeps list before g → Keeps new after (e ∷ g)
 keeps-name list new before after y at e g named same en u lg h = (ap scope_of en ∙ (h.0 ∙ sym same), λ x. u.0 x ∙ go x)
   where
-    go : (x : Name) → cond (is_at (name_cmp y) x) (Some at) (get name_cmp before x) ≡ cond (is_named x e) (Some (length g)) (place_of g x)
+    go : (x : Name) → cond (pointwise ◌==◌ y x) (Some at) (get (pointwise ◌==◌) before x) ≡ cond (is_named x e) (Some (length g)) (place_of g x)
     go x = ap₂ (λ b o. cond b (Some at) o) (equal-name y x ∙ sym (named x)) (h.1 x) ∙ ap (λ n. cond (is_named x e) (Some n) (place_of g x)) (sym lg)
 
 pub kinds-less : (old new : List SharedKind) (r : Option SharedKind) (k : Kind) (ks : List Kind) → old ≡ new ++ option_to_list r → (IsSome r ↔ (0 < length old)) → scope_of old ≡ k ∷ ks → scope_of new ≡ ks
@@ -135,21 +128,21 @@ kinds-less [] new None k ks eo variant h = absurd (empty h)
     empty e = cc
 kinds-less (o ∷ os) new None k ks eo variant h = absurd (false≢true (variant.1 (omega arith)))
 
-pub back-type : (old new : List SharedKind) (before after : BTreeMap Name ℕ) (r : Option SharedKind) (k : Kind) (g : Env) → old ≡ new ++ option_to_list r → (IsSome r ↔ (0 < length old)) → after.entries ≡ before.entries → Keeps old before (Entry.TypeVar k ∷ g) → Keeps new after g
-back-type old new before after r k g eo variant em h = (kinds-less old new r k (kinds g) eo variant h.0, λ x. ap (lookup (is_at (name_cmp x))) em ∙ h.1 x)
+pub back-type : {S : Type 0} → (old new : List SharedKind) (before after : HashMap Name ℕ S) (r : Option SharedKind) (k : Kind) (g : Env) → old ≡ new ++ option_to_list r → (IsSome r ↔ (0 < length old)) → after.entries ≡ before.entries → Keeps old before (Entry.TypeVar k ∷ g) → Keeps new after g
+back-type old new before after r k g eo variant em h = (kinds-less old new r k (kinds g) eo variant h.0, λ x. ap (lookup (pointwise ◌==◌ x)) em ∙ h.1 x)
 
 is-some : {A : Type 0} (o : Option A) (x : A) → o ≡ Some x → IsSome o
 is-some (Some y) x e = refl
 is-some None x e = cc
 
-pub back-name : (list new : List SharedKind) (before after : BTreeMap Name ℕ) (y : Name) (hidden : Option ℕ) (e : Entry) (g : Env) → ((x : Name) → is_named x e ≡ same_name x y) → kinds (e ∷ g) ≡ kinds g → new ≡ list → hidden ≡ place_of g y
-    → (IsSome (get name_cmp before y) → Updates name_cmp before after y hidden) → Keeps list before (e ∷ g) → Keeps new after g
-back-name list new before after y hidden e g named same en eh u h = (ap scope_of en ∙ (h.0 ∙ same), λ x. update.0 x ∙ (ap (λ b. cond b hidden (get name_cmp before x)) (equal-name y x) ∙ go x (same_name x y) refl))
+pub back-name : {S : Type 0} → (list new : List SharedKind) (before after : HashMap Name ℕ S) (y : Name) (hidden : Option ℕ) (e : Entry) (g : Env) → ((x : Name) → is_named x e ≡ same_name x y) → kinds (e ∷ g) ≡ kinds g → new ≡ list → hidden ≡ place_of g y
+    → (IsSome (get (pointwise ◌==◌) before y) → Updates (pointwise ◌==◌) before after y hidden) → Keeps list before (e ∷ g) → Keeps new after g
+back-name list new before after y hidden e g named same en eh u h = (ap scope_of en ∙ (h.0 ∙ same), λ x. update.0 x ∙ (ap (λ b. cond b hidden (get (pointwise ◌==◌) before x)) (equal-name y x) ∙ go x (same_name x y) refl))
   where
-    update : Updates name_cmp before after y hidden
-    update = u (is-some (get name_cmp before y) (length g) (h.1 y ∙ found-if (is_named y e) (Some (length g)) (place_of g y) (named y ∙ same_name-itself y)))
+    update : Updates (pointwise ◌==◌) before after y hidden
+    update = u (is-some (get (pointwise ◌==◌) before y) (length g) (h.1 y ∙ found-if (is_named y e) (Some (length g)) (place_of g y) (named y ∙ same_name-itself y)))
 
-    go : (x : Name) (b : Bool) → same_name x y ≡ b → cond b hidden (get name_cmp before x) ≡ place_of g x
+    go : (x : Name) (b : Bool) → same_name x y ≡ b → cond b hidden (get (pointwise ◌==◌) before x) ≡ place_of g x
     go x true q = eh ∙ ap (place_of g) (sym (same_name-true x y q))
     go x false q = h.1 x ∙ past-if (is_named x e) (Some (length g)) (place_of g x) (named x ∙ q)
 
@@ -166,24 +159,24 @@ is-value e y t same = subst (λ e. IsOf (entry_of e) y) (sym same) (λ x. refl, 
 pub is-type : (e : CodeEntry) (y : Name) → e ≡ entry.TypeParam y → IsOf (entry_of e) y
 is-type e y same = subst (λ e. IsOf (entry_of e) y) (sym same) (λ x. refl, λ g. refl, λ g. refl)
 
-pub noted : (list : List SharedKind) (before after : BTreeMap Name ℕ) (y : Name) (at : ℕ) (e : Entry) → IsOf e y → Updates name_cmp before after y (Some at) → (g : Env) → length g ≡ at → Keeps list before g → Keeps list after (e ∷ g)
+pub noted : {S : Type 0} → (list : List SharedKind) (before after : HashMap Name ℕ S) (y : Name) (at : ℕ) (e : Entry) → IsOf e y → Updates (pointwise ◌==◌) before after y (Some at) → (g : Env) → length g ≡ at → Keeps list before g → Keeps list after (e ∷ g)
 noted list before after y at e n u g lg h = keeps-name list list before after y at e g n.0 (n.1 g) refl u lg h
 
-pub hidden-is : (list : List SharedKind) (before : BTreeMap Name ℕ) (y : Name) (hidden : Option ℕ) (e : Entry) → IsOf e y → hidden ≡ get name_cmp before y → (g : Env) → Keeps list before g → hidden ≡ hidden_by e g
+pub hidden-is : {S : Type 0} → (list : List SharedKind) (before : HashMap Name ℕ S) (y : Name) (hidden : Option ℕ) (e : Entry) → IsOf e y → hidden ≡ get (pointwise ◌==◌) before y → (g : Env) → Keeps list before g → hidden ≡ hidden_by e g
 hidden-is list before y hidden e n eh g h = eh ∙ (h.1 y ∙ sym (n.2 g))
 
-pub forgotten : (list : List SharedKind) (before after : BTreeMap Name ℕ) (y : Name) (hidden : Option ℕ) (e : Entry) → IsOf e y → (IsSome (get name_cmp before y) → Updates name_cmp before after y hidden) → (g : Env) → hidden ≡ hidden_by e g → Keeps list before (e ∷ g) → Keeps list after g
+pub forgotten : {S : Type 0} → (list : List SharedKind) (before after : HashMap Name ℕ S) (y : Name) (hidden : Option ℕ) (e : Entry) → IsOf e y → (IsSome (get (pointwise ◌==◌) before y) → Updates (pointwise ◌==◌) before after y hidden) → (g : Env) → hidden ≡ hidden_by e g → Keeps list before (e ∷ g) → Keeps list after g
 forgotten list before after y hidden e n u g eh h = back-name list list before after y hidden e g n.0 (n.1 g) refl (eh ∙ n.2 g) u h
 
-pub kept-same : (slots same : List Slot) (list again : List SharedKind) (before after : BTreeMap Name ℕ) (terms : ℕ) → same ≡ slots → again ≡ list → after.entries ≡ before.entries → IsKept slots list before terms → IsKept same again after terms
-kept-same slots same list again before after terms es el em kept = subst (λ all. IsKept all again after terms) (sym es) (kept.0, (ap scope_of el ∙ kept.1.0, λ x. ap (lookup (is_at (name_cmp x))) em ∙ kept.1.1 x), kept.2)
+pub kept-same : {S : Type 0} → (slots same : List Slot) (list again : List SharedKind) (before after : HashMap Name ℕ S) (terms : ℕ) → same ≡ slots → again ≡ list → after.entries ≡ before.entries → IsKept slots list before terms → IsKept same again after terms
+kept-same slots same list again before after terms es el em kept = subst (λ all. IsKept all again after terms) (sym es) (kept.0, (ap scope_of el ∙ kept.1.0, λ x. ap (lookup (pointwise ◌==◌ x)) em ∙ kept.1.1 x), kept.2)
 
 -- one entry more, and one less
 
 plus-turned : (m n : ℕ) → m + n ≡ n + m
 plus-turned m n = omega arith
 
-pub pushed : (slots more : List Slot) (slot : Slot) (list new : List SharedKind) (before after : BTreeMap Name ℕ) (terms : ℕ) → more ≡ slots ++ slot ∷ [] → IsKept slots list before terms → ((g : Env) → length g ≡ length slots → Keeps list before g → Keeps new after (entry_of slot.entry ∷ g))
+pub pushed : {S : Type 0} → (slots more : List Slot) (slot : Slot) (list new : List SharedKind) (before after : HashMap Name ℕ S) (terms : ℕ) → more ≡ slots ++ slot ∷ [] → IsKept slots list before terms → ((g : Env) → length g ≡ length slots → Keeps list before g → Keeps new after (entry_of slot.entry ∷ g))
     → ((g : Env) → Keeps list before g → slot.hidden ≡ hidden_by (entry_of slot.entry) g) → slot.types ≡ length new → slot.terms ≡ terms + term_vars (entry_of slot.entry) → IsKept more new after slot.terms
 pushed slots more slot list new before after terms em kept ok hidden types count = subst (λ all. IsKept all new after slot.terms) (sym em) (slots-last [] slots slot kept.0 (hidden g kept.1, types-are, terms-are), subst (λ h. Keeps new after h) (sym whole) next, terms-are ∙ sym (ap term_count whole))
   where
@@ -205,10 +198,10 @@ pushed slots more slot list new before after terms em kept ok hidden types count
 last-count : (less : List Slot) (slot : Slot) (slots : List Slot) (terms : ℕ) → slots ≡ less ++ slot ∷ [] → terms ≡ term_count (with_slots [] slots) → terms ≡ term_vars (entry_of slot.entry) + term_count (with_slots [] less)
 last-count less slot slots terms es et = et ∙ (ap (λ all. term_count (with_slots [] all)) es ∙ ap term_count (with-last [] less slot))
 
-pub terms-left : (less : List Slot) (slot : Slot) (slots : List Slot) (list : List SharedKind) (places : BTreeMap Name ℕ) (terms : ℕ) → slots ≡ less ++ slot ∷ [] → IsKept slots list places terms → term_vars (entry_of slot.entry) ≤ terms
+pub terms-left : {S : Type 0} → (less : List Slot) (slot : Slot) (slots : List Slot) (list : List SharedKind) (places : HashMap Name ℕ S) (terms : ℕ) → slots ≡ less ++ slot ∷ [] → IsKept slots list places terms → term_vars (entry_of slot.entry) ≤ terms
 terms-left less slot slots list places terms es kept = let e = last-count less slot slots terms es kept.2 in omega (arith, e)
 
-pub popped : (slots less : List Slot) (slot : Slot) (list new : List SharedKind) (before after : BTreeMap Name ℕ) (terms fewer : ℕ) → slots ≡ less ++ slot ∷ [] → IsKept slots list before terms
+pub popped : {S : Type 0} → (slots less : List Slot) (slot : Slot) (list new : List SharedKind) (before after : HashMap Name ℕ S) (terms fewer : ℕ) → slots ≡ less ++ slot ∷ [] → IsKept slots list before terms
     → ((g : Env) → slot.hidden ≡ hidden_by (entry_of slot.entry) g → Keeps list before (entry_of slot.entry ∷ g) → Keeps new after g) → fewer ≡ terms - term_vars (entry_of slot.entry) → IsKept less new after fewer
 popped slots less slot list new before after terms fewer es kept ok ef = (parts.0, ok g parts.1.0 (subst (λ h. Keeps list before h) (ap (with_slots []) es ∙ with-last [] less slot) kept.1), fewer-is)
   where

@@ -1,7 +1,7 @@
 -- What the code's environments keep beside their entries, so that no name is looked for entry by entry.
-use Rattle.std.specs.Prelude.{◌≡◌, ℕ, ◌+◌, List, [], ◌∷◌, cond, Option, None, Some, length}
-use Rattle.std.specs.BTreeMap.{BTreeMap, get}
-use Rattle.omega_kinds.specs.LabelOrder.{name_cmp}
+use Rattle.std.specs.Prelude.{◌≡◌, ℕ, ◌+◌, ◌==◌, List, [], ◌∷◌, cond, Option, None, Some, length}
+use Rattle.std.specs.HashMap.{HashMap, get}
+use Rattle.std.specs.Cmp.Lexicographic.{pointwise}
 use Rattle.omega_kinds.specs.Name.{Name}
 use Rattle.omega_kinds.specs.declared.kind.Kind.{Kind as SharedKind}
 use Rattle.omega_types.specs.Scope.{scope_of}
@@ -44,9 +44,9 @@ AreSlots g [] = Unit {0}
 AreSlots g (slot ∷ slots) = IsSlot g slot × AreSlots (entry_of slot.entry ∷ g) slots
 
 -- the kinds are those of an environment, and the map has the place of the last entry of each name
-abbrev pub Keeps : List SharedKind → BTreeMap Name ℕ → Env → Type 0
-Keeps list places g = (scope_of list ≡ kinds g) × ((x : Name) → get name_cmp places x ≡ place_of g x)
+abbrev pub Keeps : {S : Type 0} → List SharedKind → HashMap Name ℕ S → Env → Type 0
+Keeps list places g = (scope_of list ≡ kinds g) × ((x : Name) → get (pointwise ◌==◌) places x ≡ place_of g x)
 
 -- all that is kept of the entries of slots
-abbrev pub IsKept : List Slot → List SharedKind → BTreeMap Name ℕ → ℕ → Type 0
+abbrev pub IsKept : {S : Type 0} → List Slot → List SharedKind → HashMap Name ℕ S → ℕ → Type 0
 IsKept slots list places terms = AreSlots [] slots × Keeps list places (with_slots [] slots) × (terms ≡ term_count (with_slots [] slots))

@@ -7,6 +7,7 @@ ghost use Rattle.omega_types.specs.Fields.{row};
 ghost use Rattle.omega_terms.specs.Coercions.{result_label as label_of};
 ghost use Rattle.signatures.specs.Signatures.Encoding.{enc, enc_abs, enc_row, one_part as one_part_of, shown_type as shown_type_of};
 ghost use Rattle.semantic_sigs.specs.Fields.{sig_row};
+ghost use Rattle.semantic_sigs.specs.View.{sig_of};
 
 use crate::part_terms::at_predicate;
 use crate::tree::{Abs, Sig, SigFields, SigNode};
@@ -20,21 +21,26 @@ use type_normal::plain;
 ///
 /// Rossberg, Russo and Dreyer, "F-ing modules", section 4, figure of the encoding; the labels round the results of
 /// functors are this project's own.
-#[cycle(encode)]
 pub fn encode(alloc: Global, abs: &Abs) -> Result<Ty, Mem>
     ensures { IfOk result (λ t. t ≡ enc_abs abs.now) }
 {
-    let body = encode_sig(alloc, abs.body())?;
+    let body = encode_sig(abs.body())?;
     quantify(alloc, Quantifier::Some, abs.kinds(), body)
 }
 
-/// The encoding of a signature. A signature part is encoded once, and its type shared.
-/// `Err` is want of memory, also where an index would pass the last number.
-#[cycle(encode)]
-pub fn encode_sig(alloc: Global, sig: &Sig) -> Result<Ty, Mem>
+/// The encoding of a signature, which is kept with it and shared. Takes one step. `Err` is want of memory.
+pub fn encode_sig(sig: &Sig) -> Result<Ty, Mem>
     ensures { IfOk result (λ t. t ≡ enc sig.now) }
 {
-    match sig.node() {
+    sig.encoding().share()
+}
+
+/// The encoding of the signature that a node makes, from those that its parts keep. A signature part is encoded once,
+/// and its type shared. `Err` is want of memory, also where an index would pass the last number.
+pub(crate) fn encode_node(alloc: Global, node: &SigNode) -> Result<Ty, Mem>
+    ensures { IfOk result (λ t. t ≡ enc (sig_of node.now)) }
+{
+    match node {
         SigNode::Val(ty) => one_part(alloc, Label::Val, plain(ty).share()?),
         SigNode::Typ(ty, kind) => one_part(alloc, Label::Typ, shown_type(alloc, plain(ty), kind)?),
         SigNode::Meta(abs) => {
@@ -52,7 +58,7 @@ pub fn encode_sig(alloc: Global, sig: &Sig) -> Result<Ty, Mem>
             param,
             result,
         } => {
-            let from = encode_sig(alloc, param)?;
+            let from = encode_sig(param)?;
             let to = one_part(alloc, result_label(*effect), encode(alloc, result)?)?;
             let body = Ty::make(alloc, TyNode::Arrow(from, to))?;
             quantify(alloc, Quantifier::All, kinds, body)
@@ -61,14 +67,13 @@ pub fn encode_sig(alloc: Global, sig: &Sig) -> Result<Ty, Mem>
 }
 
 // The encodings of fields, each under its name.
-#[cycle(encode)]
 #[tactic(auto, using(crate::proofs::EncodeSteps::encode_steps))]
 fn encode_fields(alloc: Global, fields: &SigFields) -> Result<TyFields, Mem>
     ensures { IfOk result (λ f. row f ≡ enc_row (sig_row fields.now)) }
 {
     let mut encoded = TyFields::with_capacity(alloc, fields.items().len())?;
     for field in fields.items() {
-        let part = encode_sig(alloc, &field.1)?;
+        let part = encode_sig(&field.1)?;
         encoded.push((Label::Name(field.0.share()?), part))?;
     }
     Ok(encoded)

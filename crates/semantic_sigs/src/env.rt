@@ -1,7 +1,7 @@
 // Environments of elaboration.
-ghost use Rattle.std.specs.Prelude.{◌≡◌, ◌+◌, ◌<◌, ◌∷◌, [], IfOk, IsSome, Some, OnOk, OnErr, MatchOption, length, take};
-ghost use Rattle.std.specs.BTreeMap.{Updates, get};
-ghost use Rattle.omega_kinds.specs.LabelOrder.{name_cmp};
+ghost use Rattle.std.specs.Prelude.{◌≡◌, ◌==◌, ◌+◌, ◌<◌, ◌∷◌, [], IfOk, IsSome, Some, OnOk, OnErr, MatchOption, length, take};
+ghost use Rattle.std.specs.HashMap.{Updates, get};
+ghost use Rattle.std.specs.Cmp.Lexicographic.{pointwise};
 ghost use Rattle.omega_kinds.specs.View.{kind_tree};
 ghost use Rattle.omega_types.specs.EtaLong.{eta as eta_of};
 ghost use Rattle.omega_types.specs.Index.{shift};
@@ -21,7 +21,7 @@ use omega_kinds::{Kind, Mem, Name};
 use omega_terms::{Term, TermNode};
 use omega_types::{Ty, TyNode};
 use std::alloc::Global;
-use std::collections::BTreeMap;
+use std::collections::HashMap;
 use std::marker::Model;
 use type_normal::{NormalTy, normal, plain, raise};
 
@@ -55,7 +55,7 @@ struct Slot {
 pub struct Env {
     slots: Vec<Slot>,
     kinds: Vec<Kind>,
-    places: BTreeMap<Name, usize>,
+    places: HashMap<Name, usize>,
     terms: u64,
 }
 
@@ -82,7 +82,7 @@ impl Env {
         Env {
             slots: Vec::new(alloc),
             kinds: Vec::new(alloc),
-            places: BTreeMap::new(alloc),
+            places: HashMap::new(alloc),
             terms: 0,
         }
     }
@@ -156,7 +156,7 @@ impl Env {
 // and both stay as they were.
 fn note_entry(
     kinds: &mut Vec<Kind>,
-    places: &mut BTreeMap<Name, usize>,
+    places: &mut HashMap<Name, usize>,
     entry: &Entry,
     at: usize,
 ) -> Result<Option<usize>, Mem>
@@ -177,12 +177,12 @@ fn note_entry(
 
 // The place of the last entry of a name, in place of the one before, which it gives.
 fn set_place(
-    places: &mut BTreeMap<Name, usize>,
+    places: &mut HashMap<Name, usize>,
     name: &Name,
     at: usize,
 ) -> Result<Option<usize>, Mem>
-    ensures hidden { IfOk result (λ hidden. hidden ≡ get name_cmp places.old name.now) }
-    ensures ok { OnOk result (Updates name_cmp places.old places.new name.now (Some at)) }
+    ensures hidden { IfOk result (λ hidden. hidden ≡ get (pointwise ◌==◌) places.old name.now) }
+    ensures ok { OnOk result (Updates (pointwise ◌==◌) places.old places.new name.now (Some at)) }
     ensures err { OnErr result (places.new.entries ≡ places.old.entries) }
 {
     Ok(places.insert(name.share()?, at)?)
@@ -191,7 +191,7 @@ fn set_place(
 // The last entry is taken from the kinds and the places of an environment, and what it hid is seen again.
 fn forget_entry(
     kinds: &mut Vec<Kind>,
-    places: &mut BTreeMap<Name, usize>,
+    places: &mut HashMap<Name, usize>,
     entry: &Entry,
     hidden: Option<usize>,
 )
@@ -208,8 +208,8 @@ fn forget_entry(
 }
 
 // The place of a name that the map has becomes another one, or goes.
-fn restore_place(places: &mut BTreeMap<Name, usize>, name: &Name, hidden: Option<usize>)
-    ensures { IsSome (get name_cmp places.old name.now) → Updates name_cmp places.old places.new name.now hidden }
+fn restore_place(places: &mut HashMap<Name, usize>, name: &Name, hidden: Option<usize>)
+    ensures { IsSome (get (pointwise ◌==◌) places.old name.now) → Updates (pointwise ◌==◌) places.old places.new name.now hidden }
 {
     match hidden {
         Some(at) => {

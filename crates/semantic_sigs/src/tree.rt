@@ -1,13 +1,16 @@
 // Semantic signatures, whose parts are shared.
 ghost use Rattle.std.specs.Prelude.{◌≡◌, ◌≤◌, ◌+◌, ◌++◌, ◌∷◌, [], IfOk, OnOk, OnErr, slice_get};
 ghost use Rattle.std.specs.Option.{option_copied};
+ghost use Rattle.signatures.specs.Signatures.Encoding.{enc};
 ghost use Rattle.signatures.specs.Signatures.Sig.{Ex};
 ghost use Rattle.semantic_sigs.specs.Bound.{bound_sig, bound_abs, bound_sig_pairs};
 ghost use Rattle.semantic_sigs.specs.Fields.{Rises, MayFollow};
 ghost use Rattle.semantic_sigs.specs.Height.{sig_height, abs_height};
 ghost use Rattle.semantic_sigs.specs.View.{sig_of, kinds_of, body_of};
 
+use crate::encoding::encode_node;
 use omega_kinds::{Effect, Extent, Kind, Kinds, Mem, NOTHING, Name};
+use omega_types::Ty;
 use std::alloc::Global;
 use std::marker::Model;
 use std::rc::Rc;
@@ -29,11 +32,12 @@ pub struct Sig {
     made: Rc<Made>,
 }
 
-// A node with its extent, in which each form counts `LEVELS`, and those of types and kinds one.
+// A node with its extent, in which each form counts `LEVELS`, and those of types and kinds one, and with its encoding.
 #[cycle(sig)]
 #[derive(Drop)]
 struct Made {
     extent: Extent,
+    encoding: Ty,
     node: SigNode,
 }
 
@@ -101,10 +105,11 @@ impl Model for Sig {
     ghost use Rattle.semantic_sigs.specs.Bound.{bound_sig as bound_of_sig};
     ghost use Rattle.semantic_sigs.specs.Height.{sig_height};
     ghost use Rattle.semantic_sigs.specs.View.{sig_of};
+    ghost use Rattle.signatures.specs.Signatures.Encoding.{enc as enc_of};
 
     ghost view = { λ s. sig_of s.made.value.node };
 
-    ghost invariant = { λ s. (s.bound ≡ bound_of_sig (sig_of s.made.value.node)) × (sig_height (sig_of s.made.value.node) ≤ s.made.value.extent.height) × (s.made.value.extent.height ≤ 4096) };
+    ghost invariant = { λ s. (s.bound ≡ bound_of_sig (sig_of s.made.value.node)) × (sig_height (sig_of s.made.value.node) ≤ s.made.value.extent.height) × (s.made.value.extent.height ≤ 4096) × (s.made.value.encoding ≡ enc_of (sig_of s.made.value.node)) };
 
     ghost use Rattle.semantic_sigs.specs.Falls.{made_falls};
 
@@ -170,9 +175,15 @@ impl Sig {
     {
         let bound = node.bound();
         let extent = node.parts().over(LEVELS)?;
+        let encoding = encode_node(alloc, &node)?;
+        let made = Made {
+            extent,
+            encoding,
+            node,
+        };
         Ok(Sig {
             bound,
-            made: Rc::new(alloc, Made { extent, node })?,
+            made: Rc::new(alloc, made)?,
         })
     }
 
@@ -197,6 +208,13 @@ impl Sig {
         ensures high { result.height ≤ 4096 }
     {
         self.made.extent
+    }
+
+    /// The encoding of the signature as a type. Takes one step.
+    pub fn encoding(&self) -> &Ty
+        ensures { result.now ≡ enc self.now }
+    {
+        &self.made.encoding
     }
 
     /// The same signature, with its parts shared. `Err` is want of memory.

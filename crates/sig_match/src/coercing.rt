@@ -25,7 +25,7 @@ pub(crate) fn functor_coercion(
 ) -> Result<Term, Mem>
     ensures { IfOk result (λ e. e ≡ functor_part_of from.now left.now.effect right.now.effect right.now.kinds.now (enc right.now.param.now) inner.now.types inner.now.coercion outer.now) }
 {
-    let param = encode_sig(alloc, right.param)?;
+    let param = encode_sig(right.param)?;
     functor_part(
         alloc,
         from,

@@ -31,7 +31,7 @@ pub(crate) fn key_of(alloc: Global, depth: u64, left: &Sig, right: &Abs) -> Resu
 {
     Ok(Key {
         depth,
-        left: as_normal(encode_sig(alloc, left)?),
+        left: as_normal(encode_sig(left)?),
         right: as_normal(encode(alloc, right)?),
     })
 }

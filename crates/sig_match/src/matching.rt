@@ -315,7 +315,7 @@ fn sub_sig(
     requires made { AllHold made.now }
     ensures { EachSub depth left.now right.now result }
 {
-    let from = encode_sig(alloc, left)?;
+    let from = encode_sig(left)?;
     match left.node() {
         SigNode::Val(ty) => sub_value(alloc, depth, &from, ty, right),
         SigNode::Typ(ty, kind) => sub_type(alloc, depth, &from, ty, kind, right),

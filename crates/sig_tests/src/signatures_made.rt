@@ -46,8 +46,8 @@ fn hiding(alloc: Global) -> Result<Abs, Mem> {
 }
 
 fn is(alloc: Global, found: &Sig, expected: &Sig) -> Result<bool, Mem> {
-    let found = as_normal(encode_sig(alloc, found)?);
-    Ok(same(&found, &as_normal(encode_sig(alloc, expected)?)))
+    let found = as_normal(encode_sig(found)?);
+    Ok(same(&found, &as_normal(encode_sig(expected)?)))
 }
 
 fn is_abs(alloc: Global, found: &Abs, expected: &Abs) -> Result<bool, Mem> {

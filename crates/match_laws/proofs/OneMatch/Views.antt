@@ -84,16 +84,7 @@ field-unique {fs} {l} {s} {t} g h = go g l refl h
     go (there n g) m e here = absurd (n (sym e))
     go (there n g) m e (there q h) = go g m e h
 
--- packing is a function
-
-abbrev PacksView : List Kind → List Ty → Term → Ty → Term → Type 0
-PacksView ctx [] e u d = d ≡ e
-PacksView ctx (t ∷ ts) e (Ty.Ex k body) d = (n : Ty) × (c : Term) × NormalForm ctx (instantiate body t) Kind.Star n × Packs ctx ts e n c × (d ≡ Term.Pack t c (Ty.Ex k body))
-PacksView ctx _ e u d = ⊥
-
-packs-view : {ctx : List Kind} {ts : List Ty} {e d : Term} {u : Ty} → Packs ctx ts e u d → PacksView ctx ts e u d
-packs-view Packs.none = refl
-packs-view (Packs.next {n = n} {d = d} f p) = (n, d, f, p, refl)
+-- the function of a match, and of a match of abstracted signatures, is the only one
 
 pub match_part-unique : {ctx : List Kind} {from to : Ty} {ts : List Ty} {f g : Term} → MatchPart ctx from ts f to g → (h : Term) → MatchPart ctx from ts f to h → g ≡ h
 match_part-unique {ctx} {from} {to} {ts} {f} (MatchPart.made {e = e} p) _ (MatchPart.made {e = d} q) = ap (Term.Lam from) (packs-same p q)

@@ -223,9 +223,6 @@ common {ctx} h (at {bs = bs} {t = t} {k = k} x c) (shows {bs = cs} {t = w} {k = 
 fixed-forms : (ctx ks js : List Kind) (guess ts : List Ty) → NormalForms (extend ctx js) guess ks ts → Fixed ctx ks js (puts guess (λ n. Ty.Var (past js n))) → Fixed ctx ks js (puts ts (λ n. Ty.Var (past js n)))
 fixed-forms ctx ks js guess ts n (fixed e c) = fixed e (λ i k x. c_trans (c_sym (puts-convertible ctx (λ n. Ty.Var (past js n)) (λ n. Ty.Var (past js n)) n (substitutes-convertible (past-substitutes js ctx)) i k x)) (c i k x))
 
-fixed-kinds : {ctx ks js : List Kind} {f : ℕ → Ty} → Fixed ctx ks js f → ks ≡ js
-fixed-kinds (fixed e c) = e
-
 -- a match of aligned parameters finds the variables themselves, where parts at one path agree
 fixed-by : (ctx ks js : List Kind) (s t r : Sig) (guess ts : List Ty) → OfKinds (extend ctx js) guess ks → NormalForms (extend ctx js) guess ks ts → NormalSigForm (extend ctx js) (sig_at guess (rename_sig (lifts ks (past js)) s)) r
     → Joined ctx ks s ctx js t

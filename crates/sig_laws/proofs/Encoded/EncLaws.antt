@@ -19,10 +19,6 @@ use Rattle.signatures.specs.Signatures.Encoding.{enc, enc_abs, enc_row, one_part
 use Rattle.signatures.specs.Explicit.WellFormed.{WellFormed, WellFormedRow, WellFormedAbs, Explicit, Rising}
 use Rattle.sig_laws.proofs.Encoded.EncodingLaws.{before_all-fresh}
 
--- a name before all others is none of them
-before-differs : (l m : Name) → IsTrue (name_before l m) → Label.Name l ≢ Label.Name m
-before-differs l m h e = irreflexive (Label.Name l) (subst (λ n. name_before l n ≡ true) (sym (ap spelling e)) h)
-
 shown-kind : {ctx : List Kind} {t : Ty} {k : Kind} → HasKind ctx t k → HasKind ctx (shown_type t k) Kind.Star
 shown-kind {ctx} {t} {k} h =
     let u : HasKind (Kind.Arrow k Kind.Star ∷ ctx) (Ty.Apply (Ty.Var 0) (rename suc t)) Kind.Star = k_apply (k_var here) (kind-rename suc (maps-suc (Kind.Arrow k Kind.Star) ctx) h) in

@@ -10,5 +10,5 @@ returns-in_err-found-clause-refused c =
 
 pub returns-clause-compiled : goal.returns-clause-compiled
 returns-clause-compiled c =
-    is_compiled c.args.bytes.now c.in_ok-program.program c.bind_total.result c.in_ok-found.found c.in_ok-checked.checked
-    c.in_ok-program.ensures.spelled c.bind_total.ensures c.in_ok-found.ensures.means c.in_ok-checked.ensures
+    is_compiled c.args.bytes.now c.in_ok-program.program c.bind_total-bindings.result c.in_ok-found.found c.in_ok-checked.checked
+    c.in_ok-program.ensures.spelled c.bind_total-bindings.ensures c.in_ok-found.ensures.means c.in_ok-checked.ensures

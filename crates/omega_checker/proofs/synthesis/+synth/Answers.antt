@@ -3,6 +3,9 @@ use Rattle.omega_types.specs.Scope.{scope_of}
 use Rattle.omega_terms.specs.Fields.{term_row}
 use Rattle.omega_terms.proofs.OneIndex.{left-smaller}
 use Rattle.omega_checker.specs.Found.{synth_in, synth_row}
+use Rattle.std.proofs.lemmas.Result.{IfOk-weaker, on_ok_weaker}
+use Rattle.omega_terms.specs.View.{term_of}
+use Rattle.omega_checker.proofs.CallSteps.{without-argument, plain-call, let-call, let-differs, no-function}
 use Rattle.omega_checker.proofs.FieldLoop.{found-more, found-none, found-all, labels-more, next-follows, none-is, record-type}
 use Rattle.omega_checker.proofs.synthesis.+synth.Goals as goal
 
@@ -35,3 +38,24 @@ pub synth_fields-returns-clause-found : goal.synth_fields-returns-clause-found
 synth_fields-returns-clause-found t c =
     let whole = found-all (scope_of c.args.kinds.now.items) (reverse c.args.vars.now.items) c.loop-field.field-index c.items-field-items.result.now c.loop-field.types _ c.loop-field.invariant.found c.loop-field-test.false in
     ap Some c.in_ok-make.ensures ∙ record-type _ _ c.items-field-items.result.now c.args.fields.now c.items-field-items.ensures.rising c.items-field-items.ensures.value (whole ∙ ap (λ f. synth_row (scope_of c.args.kinds.now.items) (reverse c.args.vars.now.items) (term_row f)) c.items-field-items.ensures.value)
+
+pub synth_call-returns-in_default-clause-found : goal.synth_call-returns-in_default-clause-found
+synth_call-returns-in_default-clause-found t c =
+    without-argument (scope_of c.args.kinds.now.items) (reverse c.args.vars.now.items) c.args.function.now c.args.arg.now (none-is c.in_ok-found.field-0 c.in_default.not-Some ∙ c.in_ok-found.ensures.found)
+
+pub synth_call-returns-then-agree-clause-found : goal.synth_call-returns-then-agree-clause-found
+synth_call-returns-then-agree-clause-found t c =
+    IfOk-weaker c.synth_bound.result _ _ (λ o h. let-call (scope_of c.args.kinds.now.items) _ c.args.vars.now.items _ c.args.function.now c.args.arg.now _ _ c.in-Some.found _ o (sym c.node.ensures ∙ ap term_of c.in-Lam.is) c.in_ok-found.ensures.kinds c.in_ok-found.ensures.vars (sym c.in-Some.is ∙ c.in_ok-found.ensures.found) c.in_ok-part-in-Lam.ensures (sym c.agree-in-Lam.ensures ∙ c.if-agree.true) h) c.synth_bound.ensures.found
+
+pub synth_call-returns-else-agree-clause-found : goal.synth_call-returns-else-agree-clause-found
+synth_call-returns-else-agree-clause-found t c =
+    IfOk-weaker c.synth_applied.result _ _ (λ o h. let-differs (scope_of c.args.kinds.now.items) _ c.args.vars.now.items _ c.args.function.now c.args.arg.now _ _ c.in-Some.found _ o (sym c.node.ensures ∙ ap term_of c.in-Lam.is) c.in_ok-found.ensures.kinds c.in_ok-found.ensures.vars (sym c.in-Some.is ∙ c.in_ok-found.ensures.found) c.in_ok-part-in-Lam.ensures (sym c.agree-in-Lam.ensures ∙ c.if-agree.false) h) c.synth_applied.ensures.found
+
+pub synth_call-returns-in_default-node : goal.synth_call-returns-in_default-node
+synth_call-returns-in_default-node t c =
+    let called = c.synth_applied-in_default-node in
+    record {
+      kinds = on_ok_weaker called.result (λ e. e ∙ c.in_ok-found.ensures.kinds) called.ensures.kinds;
+      vars = on_ok_weaker called.result (λ e. e ∙ c.in_ok-found.ensures.vars) called.ensures.vars;
+      found = IfOk-weaker called.result _ _ (λ o h. plain-call (scope_of c.args.kinds.now.items) _ c.args.vars.now.items _ c.args.function.now c.args.arg.now c.in-Some.found o (no-function c.node.result.now c.args.function.now c.node.ensures c.in_default-node.not-Lam) c.in_ok-found.ensures.kinds c.in_ok-found.ensures.vars (sym c.in-Some.is ∙ c.in_ok-found.ensures.found) h) called.ensures.found;
+    }

@@ -8,34 +8,40 @@ use Rattle.omega_checker.proofs.FieldLoop.{row_after}
 use Rattle.omega_checker.proofs.synthesis.+synth.Given as goal
 
 abbrev pub decreases-synth : goal.decreases-synth
-decreases-synth l = 2 * term_size l.term.now
+decreases-synth l = 3 * term_size l.term.now
 
 abbrev pub decreases-synth_call : goal.decreases-synth_call
-decreases-synth_call l = 2 * (term_size l.function.now + term_size l.arg.now) + 1
+decreases-synth_call l = 3 * (term_size l.function.now + term_size l.arg.now) + 2
+
+abbrev pub decreases-synth_applied : goal.decreases-synth_applied
+decreases-synth_applied l = 3 * term_size l.function.now + 1
 
 abbrev pub decreases-synth_package : goal.decreases-synth_package
-decreases-synth_package l = 2 * term_size l.body.now + 1
+decreases-synth_package l = 3 * term_size l.body.now + 1
 
 abbrev pub decreases-synth_choice : goal.decreases-synth_choice
-decreases-synth_choice l = 2 * (term_size l.test.now + term_size l.yes.now + term_size l.no.now) + 1
+decreases-synth_choice l = 3 * (term_size l.test.now + term_size l.yes.now + term_size l.no.now) + 1
 
 abbrev pub decreases-synth_arith : goal.decreases-synth_arith
-decreases-synth_arith l = 2 * (term_size l.left.now + term_size l.right.now) + 1
+decreases-synth_arith l = 3 * (term_size l.left.now + term_size l.right.now) + 1
 
 abbrev pub decreases-synth_function : goal.decreases-synth_function
-decreases-synth_function l = 2 * term_size l.body.now + 1
+decreases-synth_function l = 3 * term_size l.body.now + 2
+
+abbrev pub decreases-synth_bound : goal.decreases-synth_bound
+decreases-synth_bound l = 3 * term_size l.body.now + 1
 
 abbrev pub decreases-synth_type_function : goal.decreases-synth_type_function
-decreases-synth_type_function l = 2 * term_size l.body.now + 1
+decreases-synth_type_function l = 3 * term_size l.body.now + 1
 
 abbrev pub decreases-synth_opened : goal.decreases-synth_opened
-decreases-synth_opened l = 2 * term_size l.body.now + 1
+decreases-synth_opened l = 3 * term_size l.body.now + 1
 
 abbrev pub decreases-synth_fix : goal.decreases-synth_fix
-decreases-synth_fix l = 2 * term_size l.body.now + 1
+decreases-synth_fix l = 3 * term_size l.body.now + 1
 
 abbrev pub decreases-synth_fields : goal.decreases-synth_fields
-decreases-synth_fields l = 2 * pairs_size l.fields.now + 1
+decreases-synth_fields l = 3 * pairs_size l.fields.now + 1
 
 abbrev pub invariant-synth_fields-loop-field : goal.invariant-synth_fields-loop-field
 invariant-synth_fields-loop-field l =
