@@ -1,7 +1,7 @@
 // Applicative functors: the hidden types of a pure body are lifted over the parameter.
 // Specifications and their laws only; the calls that follow them stand in a crate of their own above.
 // Stands on signatures and premise_laws.
-// Proved: the rule has exactly one conclusion.
+// Proved: the rule has exactly one conclusion (`pure_functors`).
 #![tactic(auto)]
 
 ghost use Rattle.applicative_functors.specs.OneOutcome.{OnePureFunctor};

@@ -1,7 +1,6 @@
 -- The coercions to signatures that hide types are those of the rules.
-use Rattle.std.specs.Prelude.{ℕ, zero, List, [], ◌∷◌, ◌≡◌, length}
+use Rattle.std.specs.Prelude.{ℕ, zero, List, [], ◌∷◌, ◌≡◌}
 use Rattle.std.proofs.Math.Path.{sym, ◌∙◌, ap, subst}
-use Rattle.omega_kinds.specs.Kind.{Kind}
 use Rattle.omega_types.specs.Ty.{Ty}
 use Rattle.omega_types.specs.Binders.{extend, raise, ex_over}
 use Rattle.omega_types.proofs.BinderPuts.{forms-kinds}
@@ -9,9 +8,15 @@ use Rattle.omega_terms.specs.Term.{Term}
 use Rattle.omega_terms.specs.Typing.{HasType}
 use Rattle.omega_terms.specs.Coercions.{MatchPart, AbsPart}
 use Rattle.omega_terms.proofs.CoercionRows.{match_part_typed, abs_part_typed}
-use Rattle.term_shorthands.specs.Packed.{pack_up, opened, Fills}
+use Rattle.term_shorthands.specs.Packed.{pack_up, opened}
 use Rattle.term_shorthands.proofs.PackSteps.{packs_filled, opens_opened}
 use Rattle.coercion_terms.specs.Rows.{IsMatchPart, IsAbsPart, HasMatchType, HasAbsType}
+
+pub match-exact : (from : Ty) (ts : List Ty) (f : Term) (to : Ty) (body e : Term) → body ≡ pack_up ts (Term.Call f (Term.Var zero)) to → e ≡ Term.Lam from body → e ≡ Term.Lam from (pack_up ts (Term.Call f (Term.Var zero)) to)
+match-exact from ts f to body e eb ee = ee ∙ ap (Term.Lam from) eb
+
+pub abs-exact : (from : Ty) (count : ℕ) (ts : List Ty) (f : Term) (to : Ty) (body whole e : Term) → body ≡ pack_up ts (Term.Call f (Term.Var zero)) to → whole ≡ opened count (Term.Var zero) from body → e ≡ Term.Lam from whole → e ≡ Term.Lam from (opened count (Term.Var zero) from (pack_up ts (Term.Call f (Term.Var zero)) to))
+abs-exact from count ts f to body whole e eb ew ee = ee ∙ ap (Term.Lam from) (ew ∙ ap (opened count (Term.Var zero) from) eb)
 
 pub match-made : (from : Ty) (ts : List Ty) (f : Term) (to : Ty) (body e : Term) → body ≡ pack_up ts (Term.Call f (Term.Var zero)) to → e ≡ Term.Lam from body → IsMatchPart from ts f to e
 match-made from ts f to body e eb ee ctx fills =

@@ -1,7 +1,7 @@
 // The coercions to signatures that hide types.
 ghost use Rattle.std.specs.Prelude.{◌≡◌, IfOk};
-ghost use Rattle.omega_terms.specs.Term.{Call, Var};
-ghost use Rattle.term_shorthands.specs.Packed.{pack_up as pack_up_of};
+ghost use Rattle.omega_terms.specs.Term.{Call, Lam, Var};
+ghost use Rattle.term_shorthands.specs.Packed.{opened, pack_up as pack_up_of};
 ghost use Rattle.coercion_terms.specs.Rows.{HasAbsType, HasMatchType, IsAbsPart, IsMatchPart};
 
 use omega_kinds::Mem;
@@ -13,7 +13,7 @@ use type_normal::NormalTy;
 
 /// The coercion of a signature that hides nothing, whose encoding is `from`, to one that hides types, whose encoding
 /// `to` begins with one `some` for each of `types`, the outermost for the first. `inner` coerces to the right side's
-/// body at `types`. `Err` is want of memory.
+/// body at `types`. A `to` that begins with fewer `some` is packed no further than these. `Err` is want of memory.
 pub fn match_part(
     alloc: Global,
     from: &Ty,
@@ -21,6 +21,7 @@ pub fn match_part(
     inner: &Term,
     to: &Ty,
 ) -> Result<Term, Mem>
+    ensures exact { IfOk result (λ e. e ≡ Lam from.now (pack_up_of types.now (Call inner.now (Var 0)) to.now)) }
     ensures value { IfOk result (λ e. IsMatchPart from.now types.now inner.now to.now e) }
     ensures typed { IfOk result (λ e. HasMatchType from.now types.now inner.now to.now e) }
 {
@@ -29,7 +30,8 @@ pub fn match_part(
 }
 
 /// The coercion of a signature that hides so many types, at least one, whose encoding is `from`. Under these `types`,
-/// `inner` and `to` stand, as in the coercion of a signature that hides nothing. `Err` is want of memory.
+/// `inner` and `to` stand, as in the coercion of a signature that hides nothing, and `to` may begin with fewer `some` as
+/// there. For a `count` of 0 it is a `let` at the type `from`. `Err` is want of memory.
 pub fn abs_part(
     alloc: Global,
     from: &Ty,
@@ -38,6 +40,7 @@ pub fn abs_part(
     inner: &Term,
     to: &Ty,
 ) -> Result<Term, Mem>
+    ensures exact { IfOk result (λ e. e ≡ Lam from.now (opened count (Var 0) from.now (pack_up_of types.now (Call inner.now (Var 0)) to.now))) }
     ensures value { IfOk result (λ e. IsAbsPart from.now count types.now inner.now to.now e) }
     ensures typed { IfOk result (λ e. HasAbsType from.now count types.now inner.now to.now e) }
 {

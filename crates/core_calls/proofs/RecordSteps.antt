@@ -1,5 +1,5 @@
 -- The fields of a record one after the other.
-use Rattle.std.proofs.Common.{◌≡◌, ◌≢◌, ℕ, ◌+◌, ◌≤◌, List, [], ◌∷◌, ◌++◌, true, false, Option, Some, None, is_some, length, drop, refl, sym, ap, ap₂, ◌∙◌, subst, append_assoc}
+use Rattle.std.proofs.Common.{◌≡◌, ◌≢◌, ℕ, ◌+◌, ◌≤◌, List, [], ◌∷◌, ◌++◌, true, false, Option, Some, None, is_some, length, drop, refl, sym, ap, ◌∙◌, subst}
 use Rattle.std.proofs.lemmas.Bool.{false≢true}
 use Rattle.std.proofs.lemmas.List.{drop_all}
 use Rattle.std.specs.BTreeMap.{insert_entry}
@@ -85,10 +85,6 @@ labelled-rows : (es : List (Name × Ty)) → type_rows (λ t. t) es ≡ row (lab
 labelled-rows [] = refl
 labelled-rows (x ∷ es) = ap (Row.More (Label.Name x.0) x.1) (labelled-rows es)
 
-values-all : (xs : List (Name × Ty)) → of_values xs ++ [] ≡ of_values xs
-values-all [] = refl
-values-all (x ∷ xs) = ap (λ ys. field_ty x.0 x.1 Kind.Star ∷ ys) (values-all xs)
-
 pub types-end : (whole : List (Name × Kinded)) (es : List (Name × Ty)) → TypesLeft whole [] es → RecordTypeGives [] (type_fields whole) (row (labelled (λ t. t) es))
 types-end whole es (xs, before, s, e) =
     let given = types-give [] Row.End s RecordTypeGives.no_fields in
@@ -160,7 +156,3 @@ follows-first (y ∷ z ∷ done) x rest r = follows-first (z ∷ done) x rest r.
 pub entry-follows : {A T : Type 0} (f : A → T) (done : List (Label × T)) (all left rest : List (Name × A)) (x : Name × A) (l : Label) → IsStrictlySortedBy name_cmp (keys_of all) → done ++ labelled f left ≡ labelled f all → left ≡ x ∷ rest → l ≡ Label.Name x.0 → MayFollow done l
 entry-follows f done all left rest x l sorted e first is =
     subst (MayFollow done) (sym is) (follows-first done (Label.Name x.0, f x.1) (labelled f rest) (subst Rises (sym (sym (ap (λ ys. done ++ labelled f ys) first) ∙ e)) (labels-rise f all sorted)))
-
-pub entry-more : {A T : Type 0} (f : A → T) (done after : List (Label × T)) (all left rest : List (Name × A)) (x : Name × A) (l : Label) (t : T) → done ++ labelled f left ≡ labelled f all → left ≡ x ∷ rest → l ≡ Label.Name x.0 → t ≡ f x.1 → after ≡ done ++ (l, t) ∷ [] → after ++ labelled f rest ≡ labelled f all
-entry-more f done after all left rest x l t e is il it im =
-    ap (λ ys. ys ++ labelled f rest) im ∙ (append_assoc done ((l, t) ∷ []) (labelled f rest) ∙ (ap₂ (λ k u. done ++ ((k, u) ∷ labelled f rest)) il it ∙ (sym (ap (λ ys. done ++ labelled f ys) is) ∙ e)))

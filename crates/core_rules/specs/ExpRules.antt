@@ -1,5 +1,6 @@
 -- The rules of expressions, one relation for the conclusion of each, and one for its refusals, over premises that are
--- already elaborated: normal types with their terms. A rule's conditions are tried in order.
+-- already elaborated: normal types with their terms (Rossberg, Russo, Dreyer, F-ing modules, section 4, over a core language
+-- that is own). A rule's conditions are tried in order.
 use Rattle.std.specs.Prelude.{ℤ, Bool as Truth, List, [], ◌∷◌, ◌≢◌}
 use Rattle.omega_kinds.specs.Kind.{Kind}
 use Rattle.omega_kinds.specs.declared.label.Label.{Label}

@@ -1,5 +1,6 @@
 -- The rules of types, one relation for the conclusion of each, and one for its refusals, over premises that are already
--- elaborated: normal types with their kinds. A rule's conditions are tried in order.
+-- elaborated: normal types with their kinds (Rossberg, Russo, Dreyer, F-ing modules, section 4, over a core language that
+-- is own). A rule's conditions are tried in order.
 use Rattle.std.specs.Prelude.{List, [], ◌∷◌, ◌≢◌}
 use Rattle.omega_kinds.specs.Kind.{Kind}
 use Rattle.omega_kinds.specs.declared.label.Label.{Label}

@@ -1,4 +1,6 @@
 pub mod Answered
+pub mod GoodMatches
+pub mod GoodRefusals
 pub mod Places
 pub mod Rules
 pub mod Theorems

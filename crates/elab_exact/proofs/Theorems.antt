@@ -1,24 +1,23 @@
 -- The theorems, from the one on tasks.
-use Rattle.std.specs.Prelude.{ℕ, [], ◌≡◌, ◌⊎◌}
+use Rattle.std.specs.Prelude.{[], ◌≡◌, ◌⊎◌}
 use Rattle.std.proofs.Common.{inl, inr}
 use Rattle.std.proofs.Math.Path.{refl, sym, subst, ap, ◌∙◌}
 use Rattle.omega_terms.specs.Term.{Term}
 use Rattle.signatures.specs.Signatures.Sig.{Module}
 use Rattle.signatures.specs.Packing.{Packed}
 use Rattle.fing_syntax.specs.Phrase.{Binds}
-use Rattle.fing_refusals.specs.Refusal.{Refusal}
-use Rattle.elab_rules.specs.Judgments.Program.{ProgramMeans, ProgramRefused}
+use Rattle.elab_rules.specs.Judgments.Program.{ProgramMeans}
 use Rattle.elab_rules.specs.Judgments.Meaning.{BindsMean}
 use Rattle.signatures.specs.Verdict.{Verdict, holds, refuses, One}
 use Rattle.elab_rules.specs.Refusals.Task.{Means, a_type, type_args, type_fields, an_exp, operands, args, fields, a_sig, a_decl, decls, a_mod, a_bind, binds}
-use Rattle.elab_exact.specs.Claims.{Exactly, EachAnswered, OutcomesEqual, Exclusive, RefusalsEqual, Total, Ok, Err, Mem, AnswersExact, StepsSayTheRules, ProgramExactly, EachProgram, SourceRefusal, Lexed, Parsed, Elaborated, SourceMeans, SourceRefused, EachSource}
+use Rattle.elab_exact.specs.Claims.{Exactly, EachAnswered, OutcomesEqual, Exclusive, RefusalsEqual, Total, Ok, Err, Mem, AnswersExact, StepsSayTheRules, ProgramExactly, EachProgram}
 use Rattle.elab_laws.proofs.Kept.{binds_ok}
-use Rattle.elab_exact.proofs.Rules.Generic.{bind, carried, runs-sound}
+use Rattle.elab_exact.proofs.Rules.Generic.{runs-sound}
 use Rattle.elab_exact.proofs.Rules.Complete.{means-runs}
 use Rattle.elab_exact.proofs.Rules.Correct.{steps-sound}
 use Rattle.elab_rules.specs.Refusals.Steps.{steps}
 use Rattle.premise_laws.proofs.Determined.{packed-one}
-use Rattle.elab_exact.proofs.Answered.{mapped, type-one, type_args-one, type_fields-one, exp-one, operands-one, args-one, fields-one, sig-one, decl-one, decls-one, mod-one, bind-one, binds-one}
+use Rattle.elab_exact.proofs.Answered.{type-one, type_args-one, type_fields-one, exp-one, operands-one, args-one, fields-one, sig-one, decl-one, decls-one, mod-one, bind-one, binds-one}
 
 pub each-answered : EachAnswered
 each-answered g (a_type a) h f = type-one g h a
@@ -97,32 +96,3 @@ each-program bs = go (binds-one [] tt [] (tt, tt) bs)
             let e = only o.0 v.0 in
             let d = w.2 o.1 (subst (λ N. Packed [] N o.1) e v.1) in
             λ i. (e i, d i)
-
--- sources
-
-pub each-source : EachSource
-each-source S T L Tokens NoToken Tree NoTree lex parse s =
-    carried to from to_refused from_refused
-    (bind (mapped Lexed (lex s)) (λ ts h. bind (mapped Parsed (parse ts)) (λ bs k. mapped Elaborated (each-program bs))))
-  where
-    Inner : T → Module × Term → Type 0
-    Inner ts o = (bs : Binds) × Tree ts bs × ProgramMeans bs o.0 o.1
-
-    Refusal_at : T → SourceRefusal L → Type 0
-    Refusal_at ts r = ((n : ℕ) × NoTree ts n × (r ≡ Parsed n)) ⊎ ((bs : Binds) × Tree ts bs × ((q : Refusal) × ProgramRefused bs q × (r ≡ Elaborated q)))
-
-    to : (o : Module × Term) → (ts : T) × Tokens s ts × Inner ts o → SourceMeans Tokens Tree s o.0 o.1
-    to o p = SourceMeans.source p.1 p.2.1 p.2.2
-
-    from : (o : Module × Term) → SourceMeans Tokens Tree s o.0 o.1 → (ts : T) × Tokens s ts × Inner ts o
-    from o (SourceMeans.source {ts = ts} {bs = bs} a b c) = (ts, a, (bs, b, c))
-
-    to_refused : (r : SourceRefusal L) → ((l : L) × NoToken s l × (r ≡ Lexed l)) ⊎ ((ts : T) × Tokens s ts × Refusal_at ts r) → SourceRefused Tokens NoToken Tree NoTree s r
-    to_refused r (inl q) = subst (SourceRefused Tokens NoToken Tree NoTree s) (sym q.2) (SourceRefused.lexed q.1)
-    to_refused r (inr (ts, h, inl q)) = subst (SourceRefused Tokens NoToken Tree NoTree s) (sym q.2) (SourceRefused.parsed h q.1)
-    to_refused r (inr (ts, h, inr q)) = subst (SourceRefused Tokens NoToken Tree NoTree s) (sym q.2.2) (SourceRefused.elaborated h q.1 q.2.1)
-
-    from_refused : (r : SourceRefusal L) → SourceRefused Tokens NoToken Tree NoTree s r → ((l : L) × NoToken s l × (r ≡ Lexed l)) ⊎ ((ts : T) × Tokens s ts × Refusal_at ts r)
-    from_refused r (SourceRefused.lexed {l = l} n) = inl (l, n, refl)
-    from_refused r (SourceRefused.parsed {ts = ts} {n = n} h k) = inr (ts, h, inl (n, k, refl))
-    from_refused r (SourceRefused.elaborated {ts = ts} {bs = bs} {r = q} h k p) = inr (ts, h, inr (bs, k, (q, p, refl)))

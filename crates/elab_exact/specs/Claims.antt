@@ -1,5 +1,5 @@
 -- The theorems.
-use Rattle.std.specs.Prelude.{ℕ, ◌≡◌, ◌⊎◌}
+use Rattle.std.specs.Prelude.{◌≡◌, ◌⊎◌}
 use Rattle.omega_kinds.specs.Kind.{Kind}
 use Rattle.omega_types.specs.Kinding.{HasKind}
 use Rattle.omega_terms.specs.Term.{Term}
@@ -7,6 +7,7 @@ use Rattle.signatures.specs.Signatures.Sig.{Module}
 use Rattle.signatures.specs.Env.{Env, kinds}
 use Rattle.fing_syntax.specs.Phrase.{Binds}
 use Rattle.fing_refusals.specs.Refusal.{Refusal}
+use Rattle.fing_refusals.specs.Good.{GoodRefusal}
 use Rattle.elab_rules.specs.Judgments.Program.{ProgramMeans, ProgramRefused}
 use Rattle.signatures.specs.Verdict.{Verdict}
 use Rattle.elab_rules.specs.Refusals.Task.{Task, Result, Means, type_args, args, binds}
@@ -70,23 +71,6 @@ ProgramExactly bs = Verdict (λ (o : Module × Term). ProgramMeans bs o.0 o.1) (
 abbrev pub EachProgram : Type 0
 EachProgram = (bs : Binds) → ProgramExactly bs
 
--- Sources, over any relations of tokens and trees: a source has tokens or a first place that is no token, tokens have a
--- tree or a first place that fits none.
-pub data SourceRefusal (L : Type 0) : Type 0 where
-  Lexed : L → SourceRefusal L
-  Parsed : (number : ℕ) → SourceRefusal L
-  Elaborated : Refusal → SourceRefusal L
-
-pub data SourceMeans {S T : Type 0} (Tokens : S → T → Type 0) (Tree : T → Binds → Type 0) (source : S) (m : Module) (whole : Term) : Type 0 where
-  source : {ts : T} {bs : Binds} → Tokens source ts → Tree ts bs → ProgramMeans bs m whole → SourceMeans Tokens Tree source m whole
-
-pub data SourceRefused {S T L : Type 0} (Tokens : S → T → Type 0) (NoToken : S → L → Type 0) (Tree : T → Binds → Type 0) (NoTree : T → ℕ → Type 0) (source : S) : SourceRefusal L → Type 0 where
-  lexed : {l : L} → NoToken source l → SourceRefused Tokens NoToken Tree NoTree source (Lexed l)
-  parsed : {ts : T} {n : ℕ} → Tokens source ts → NoTree ts n → SourceRefused Tokens NoToken Tree NoTree source (Parsed n)
-  elaborated : {ts : T} {bs : Binds} {r : Refusal} → Tokens source ts → Tree ts bs → ProgramRefused bs r → SourceRefused Tokens NoToken Tree NoTree source (Elaborated r)
-
-abbrev pub EachSource : Type 1
-EachSource = (S T L : Type 0) (Tokens : S → T → Type 0) (NoToken : S → L → Type 0) (Tree : T → Binds → Type 0) (NoTree : T → ℕ → Type 0)
-    → ((s : S) → Verdict (Tokens s) (NoToken s))
-    → ((ts : T) → Verdict (Tree ts) (NoTree ts))
-    → (s : S) → Verdict (λ (o : Module × Term). SourceMeans Tokens Tree s o.0 o.1) (SourceRefused Tokens NoToken Tree NoTree s)
+-- the types that a program's refusal tells are normal, where as many type variables are in scope as it tells
+abbrev pub RefusalsAreGood : Type 0
+RefusalsAreGood = (bs : Binds) (r : Refusal) → ProgramRefused bs r → GoodRefusal r

@@ -81,9 +81,6 @@ applicative_sig = Abs.Ex (operator ∷ []) (Sig.Str (SigRow.More A (one_type u T
 abbrev pub one_term : Name → Term → Term
 one_term l e = Term.Fields (TermRow.More (Label.Name l) e TermRow.End)
 
-abbrev pub two_terms : Name → Term → TermRow → Term
-two_terms l e rest = Term.Fields (TermRow.More (Label.Name l) e rest)
-
 -- the term of a structure of one type
 abbrev pub one_type_term : Name → Ty → Term
 one_type_term l a = let_in (enc (Sig.Typ a Kind.Star)) (type_term a Kind.Star) (one_term l (Term.Var 0))

@@ -15,9 +15,9 @@ use Rattle.signatures.specs.Matching.MatchRefusal.{Why}
 use Rattle.fing_refusals.specs.Refusal.{Refuse, ElabWhy}
 use Rattle.elab_rules.specs.Judgments.Program.{ProgramMeans, ProgramRefused}
 
--- The empty program.
+-- The empty program, of type (rec).
 abbrev pub EmptyProgram : Type 0
-EmptyProgram = ProgramMeans NoBinds (made Pure (Abs.Ex [] (Sig.Str SigRow.End)) [] (Term.Fields TermRow.End)) (Term.Fields TermRow.End)
+EmptyProgram = ProgramMeans NoBinds (made Pure (Abs.Ex [] (Sig.Str SigRow.End)) [] (Term.Fields TermRow.End)) (Term.Fields TermRow.End) × HasType [] [] (Term.Fields TermRow.End) (Ty.Fields Row.End)
 
 -- names: x, t, y, M, and the hidden %0 and %1
 abbrev pub x : Name
@@ -55,8 +55,9 @@ sum = MoreBinds (BindAt (Bytes 0 13) (BindVal (Spelled x (Bytes 4 5)) (ExpAt (By
 abbrev pub sum_term : Term
 sum_term = Term.Call (Term.Lam int_part (one_term x (Term.Var 0))) (val_term (Term.Arith TermOp.Add (Term.Int (pos 1)) (Term.Int (pos 2))))
 
+-- of type (rec (x (rec (.val int))))
 abbrev pub SumProgram : Type 0
-SumProgram = ProgramMeans sum (made Pure (Abs.Ex [] (Sig.Str (SigRow.More x (Sig.Val Ty.Int) SigRow.End))) [] sum_term) sum_term
+SumProgram = ProgramMeans sum (made Pure (Abs.Ex [] (Sig.Str (SigRow.More x (Sig.Val Ty.Int) SigRow.End))) [] sum_term) sum_term × HasType [] [] sum_term (Ty.Fields (Row.More (Label.Name x) int_part Row.End))
 
 -- struct type t = Int val x = 5 end
 abbrev pub structure : Mod

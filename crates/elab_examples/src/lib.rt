@@ -1,7 +1,7 @@
 // Worked programs: what small programs mean, and how some of them are refused.
 // Stands on elab_exact.
-// Proved: each outcome below, derived by the rules, each emitted term having its type by the typing rules of Fω; and each
-// refusal, at its place and with what it keeps.
+// Proved (`rows`): each outcome below, derived by the rules, each emitted term having its type by the typing rules of Fω;
+// and each refusal, at its place and with what it keeps.
 #![tactic(auto)]
 
 ghost use Rattle.elab_examples.specs.PackageRow.{PackagesProgram};

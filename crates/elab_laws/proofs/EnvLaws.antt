@@ -4,7 +4,6 @@ use Rattle.std.proofs.Math.Path.{refl, sym, ap, subst}
 use Rattle.omega_kinds.specs.Kind.{Kind}
 use Rattle.omega_kinds.specs.Name.{Name, same_name}
 use Rattle.omega_types.specs.Kinding
-use Rattle.omega_types.specs.Kinding.{HasKind}
 use Rattle.omega_types.specs.Normality.Neutral.{n_var}
 use Rattle.omega_types.specs.Binders.{extend}
 use Rattle.omega_types.proofs.Preservation.{maps-suc, normal-kind}

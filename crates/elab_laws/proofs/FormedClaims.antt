@@ -6,7 +6,7 @@ use Rattle.omega_types.specs.Ty.{Ty}
 use Rattle.omega_types.specs.Binders.{OfKinds}
 use Rattle.omega_terms.specs.Term.{Term}
 use Rattle.signatures.specs.Signatures.Sig.{Sig, Abs, made}
-use Rattle.elab_laws.specs.Formed.{TypesHaveKinds, ExpsHaveTypes, WrittenAreExplicit, ModulesAreWellFormed, PureTypesHaveKinds, ProgramsAreWellFormed}
+use Rattle.elab_laws.specs.Formed.{TypesHaveKinds, ExpsHaveTypes, WrittenAreExplicit, ModulesAreWellFormed, PureTypesHaveKinds, ProgramsAreWellFormed, ProgramTypesHaveKinds}
 use Rattle.elab_laws.proofs.Derived.{GoodModule, pure, type_kind, exp_kind, sig_explicit, module_good, program_good, good-body}
 
 types-of : {ctx ks : List Kind} {s : Sig} {ts : List Ty} {e : Term} → GoodModule ctx (made Pure (Abs.Ex ks s) ts e) → OfKinds ctx ts ks
@@ -29,3 +29,6 @@ pure_types_have_kinds g a ks s ts e h m = types-of (module_good g h m)
 
 pub programs_are_well_formed : ProgramsAreWellFormed
 programs_are_well_formed a f x ts e whole m = good-body (program_good m)
+
+pub program_types_have_kinds : ProgramTypesHaveKinds
+program_types_have_kinds a ks s ts e whole m = types-of (program_good m)

@@ -4,7 +4,6 @@ use Rattle.std.specs.Prelude.{List, [], ◌∷◌, ◌≡◌, ◌⊎◌}
 use Rattle.std.proofs.Math.Path.{refl, sym}
 use Rattle.omega_kinds.specs.Kind.{Kind}
 use Rattle.omega_kinds.specs.Name.{Name}
-use Rattle.omega_kinds.proofs.NameLaws.{name-irreflexive}
 use Rattle.omega_types.specs.Ty.{Ty}
 use Rattle.omega_types.specs.Normality.{Normal}
 use Rattle.omega_types.proofs.Preservation.{normal-kind}
@@ -13,25 +12,21 @@ use Rattle.omega_terms.specs.Term.{Term}
 use Rattle.omega_terms.proofs.NormalTyping.{typed-normal}
 use Rattle.omega_terms.proofs.InstanceLaws.{instance-self}
 use Rattle.signatures.specs.Signatures.Sig.{Sig, Abs, SigRow, Module}
-use Rattle.signatures.specs.Explicit.WellFormed.{WellFormed, WellFormedRow, WellFormedAbs, abs, Rising}
-use Rattle.signatures.specs.Matching.Subtyping.{Match}
+use Rattle.signatures.specs.Explicit.WellFormed.{WellFormed, WellFormedAbs, abs, Rising}
 use Rattle.signatures.specs.QuantifierOrder.{Norm}
 use Rattle.signatures.specs.Env.{Env, Entry, kinds, IsGoodEnv}
 use Rattle.sig_laws.proofs.Encoded.EncodingTyping.{GoodAbs}
 use Rattle.sig_laws.proofs.Formed.WellFormedShape.{well_formed-good, explicit-shape}
 use Rattle.sig_laws.proofs.Encoded.EnvTyping.{GoodEnv, env-normal}
 use Rattle.sig_laws.proofs.Formed.NormGood.{norm-good}
-use Rattle.signatures.specs.Matching.MatchRefusal.{MatchRefusal, RefusesMatch}
-use Rattle.match_laws.proofs.Theorems.{match_or_refusal, not_both, one_refusal}
 use Rattle.norm_laws.proofs.NormClaims as norms
 use Rattle.fing_syntax.specs.Phrase.{TyEx, Exp, SigEx, Decl, Mod, Bind, Binds}
 use Rattle.signatures.specs.Signatures.RecordOrder.{NamesRise}
-use Rattle.module_rules.specs.Sequence.{Collected}
 use Rattle.elab_rules.specs.Judgments.Meaning.{TyMeans, ExpMeans, SigMeans, DeclMeans, ModMeans, BindMeans, BindsMean}
 use Rattle.elab_laws.proofs.ModuleTyping.{GoodModule as TypedModule}
 use Rattle.elab_laws.proofs.Soundness.{ty-good, exp-good, sig-good, decl-good, mod-good, bind-good, binds-good}
 use Rattle.elab_laws.proofs.Derived.{GoodModule as FormedModule, sig_explicit, decl_explicit, module_good, bind_good, binds_good}
-use Rattle.sig_laws.specs.Good.{OkSig, OkRight, OkEnv, OkModule}
+use Rattle.sig_laws.specs.Good.{OkRight, OkEnv, OkModule}
 
 -- environments
 
@@ -71,7 +66,7 @@ sig_ok g a x h m = (sig_explicit g (formed-env g h) m, (sig-good (typed-env g h)
 pub decl_ok : (g : Env) (d : Decl) (x : Abs) → OkEnv g → DeclMeans g d x → OkRight (kinds g) x
 decl_ok g d x h m = (decl_explicit g (formed-env g h) m, (decl-good (typed-env g h) m).normal)
 
-module-ok : {ctx : List Kind} {vs : List Ty} {M : Module} → TypedModule ctx vs M → FormedModule ctx M → OkModule ctx M
+pub module-ok : {ctx : List Kind} {vs : List Ty} {M : Module} → TypedModule ctx vs M → FormedModule ctx M → OkModule ctx M
 module-ok (TypedModule.pure g n h) (FormedModule.pure w k) = ((abs w, g.normal), types-forms n, instance-self h)
 module-ok (TypedModule.impure g h) (FormedModule.impure w) = ((abs w, g.normal), refl, instance-self h)
 
@@ -86,19 +81,7 @@ binds_ok g before bs M h r p = module-ok (binds-good (typed-env g h) r p) (binds
 
 -- matching
 
-pub match_total : (ctx : List Kind) (s : Sig) (x : Abs) → OkSig ctx s → OkRight ctx x → ((ts : List Ty) × (f : Term) × Match ctx s x ts f) ⊎ ((r : MatchRefusal) × RefusesMatch ctx s x r)
-match_total = match_or_refusal
-
-pub match_excludes : (ctx : List Kind) (s : Sig) (x : Abs) (ts : List Ty) (f : Term) (r : MatchRefusal) → OkSig ctx s → OkRight ctx x → Match ctx s x ts f → RefusesMatch ctx s x r → ⊥
-match_excludes = not_both
-
-pub refusal_one : (ctx : List Kind) (s : Sig) (x : Abs) (r q : MatchRefusal) → OkSig ctx s → OkRight ctx x → RefusesMatch ctx s x r → RefusesMatch ctx s x q → q ≡ r
-refusal_one ctx s x r q h w a b = sym (one_refusal ctx s x r q h w a b)
-
 -- the order of quantifiers
-
-pub norm_total : (ctx : List Kind) (x : Abs) → OkRight ctx x → (y : Abs) × Norm ctx x y
-norm_total ctx x h = norms.norm_found ctx x h.0
 
 pub norm_one : (ctx : List Kind) (x y z : Abs) → Norm ctx x y → Norm ctx x z → z ≡ y
 norm_one ctx x y z a b = sym (norms.norm_one ctx x y z a b)
@@ -118,9 +101,3 @@ empty = Sig.Str SigRow.End
 
 rises : {ctx : List Kind} {fs : SigRow} → WellFormedAbs ctx (Abs.Ex [] (Sig.Str fs)) → Rising fs
 rises (abs (WellFormed.str r w)) = r
-
-pub names_needed : ((g : Env) (before : List Name) (bs : Binds) (M : Module) → OkEnv g → BindsMean g before bs M → OkModule (kinds g) M) → ⊥
-names_needed f =
-    let g = Entry.Named [] empty ∷ [] in
-    let w = f g twice Binds.NoBinds _ ((WellFormed.str tt WellFormedRow.end, tt), tt) (BindsMean.no_binds (Collected.next refl (Collected.next refl Collected.none))) in
-    name-irreflexive [] (rises w.0.0).0.0

@@ -22,11 +22,13 @@ use Rattle.signatures.specs.Signatures.SigSubst.{sig_at}
 use Rattle.signatures.specs.Signatures.Encoding.{enc, enc_abs}
 use Rattle.sig_laws.proofs.Encoded.EncodingTyping.{good-normal}
 use Rattle.signatures.specs.Env.{Env, Entry, IsGoodEnv}
-use Rattle.sig_laws.proofs.Encoded.EnvTyping.{GoodEnv}
+use Rattle.sig_laws.proofs.Encoded.EnvTyping.{GoodEnv, env-normal}
 use Rattle.sig_laws.proofs.Formed.WellFormedShape.{well_formed-good}
-use Rattle.elab_laws.specs.Typed.{IsNormalEnv, WholeIsTyped, WholeIsNormal, WholeIsNeverStuck, WholeIsSynthesised, PureModuleIsTyped, SigOfProgramIsNormal, TypeIsKinded, ExpressionIsTyped, SignatureIsNormal, ModuleIsTyped}
+use Rattle.elab_laws.specs.Typed.{IsNormalEnv, WholeIsTyped, WholeIsNormal, WholeIsNeverStuck, WholeIsSynthesised, PureModuleIsTyped, SigOfProgramIsNormal, TypeIsKinded, ExpressionIsTyped, ExpressionIsNormal, SignatureIsNormal, ModuleIsTyped, ModuleIsNormal}
 use Rattle.elab_rules.specs.Judgments.Program.{ProgramMeans}
 use Rattle.elab_laws.proofs.ModuleTyping.{GoodModule, module-good, packed-typed}
+use Rattle.elab_laws.proofs.Derived.{module_good}
+use Rattle.elab_laws.proofs.Kept.{module-ok}
 use Rattle.elab_laws.proofs.Soundness.{ty-good, exp-good, sig-good, mod-good, binds-good, program-typed}
 use Rattle.sig_laws.proofs.Encoded.EncodingLaws.{enc-substitute}
 
@@ -53,11 +55,17 @@ type_is_kinded g T t k w n h = ty-good (good_env g w n) h
 pub expression_is_typed : ExpressionIsTyped
 expression_is_typed g E t e w n h = typed-sound (exp-good (good_env g w n) h)
 
+pub expression_is_normal : ExpressionIsNormal
+expression_is_normal g E t e w n h = let v = good_env g w n in typed-normal (env-normal g v) (exp-good v h)
+
 pub signature_is_normal : SignatureIsNormal
 signature_is_normal g S x w n h = (sig-good (good_env g w n) h).normal
 
 pub module_is_typed : ModuleIsTyped
 module_is_typed g m f (Abs.Ex ks s) ts e p w n h q = typed-sound (packed-typed (mod-good (good_env g w n) h) q)
+
+pub module_is_normal : ModuleIsNormal
+module_is_normal g m M w n h = module-ok (mod-good (good_env g w n) h) (module_good g w h)
 
 pub whole_is_normal : WholeIsNormal
 whole_is_normal bs f (Abs.Ex ks s) ts e whole (ProgramMeans.program b p) = packed-typed (binds-good tt tt b) p

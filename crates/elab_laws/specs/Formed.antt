@@ -33,3 +33,6 @@ PureTypesHaveKinds = (g : Env) (a : Mod) (ks : List Kind) (s : Sig) (ts : List T
 
 abbrev pub ProgramsAreWellFormed : Type 0
 ProgramsAreWellFormed = (a : Binds) (f : Effect) (x : Abs) (ts : List Ty) (e whole : Term) → ProgramMeans a (made f x ts e) whole → WellFormedAbs [] x
+
+abbrev pub ProgramTypesHaveKinds : Type 0
+ProgramTypesHaveKinds = (a : Binds) (ks : List Kind) (s : Sig) (ts : List Ty) (e whole : Term) → ProgramMeans a (made Pure (Abs.Ex ks s) ts e) whole → OfKinds [] ts ks

@@ -11,12 +11,13 @@ use Rattle.omega_terms.specs.Typing.{HasType}
 use Rattle.omega_terms.specs.NormalTyping.{Typed}
 use Rattle.omega_terms.specs.Steps.{Reaches, Stuck}
 use Rattle.omega_laws.specs.Synthesis.{Synth}
-use Rattle.signatures.specs.Signatures.Sig.{Sig, Abs, made}
+use Rattle.signatures.specs.Signatures.Sig.{Sig, Abs, Module, made}
 use Rattle.signatures.specs.Signatures.Alike.{NormalSig, NormalAbs}
 use Rattle.signatures.specs.Signatures.Encoding.{enc, enc_abs}
 use Rattle.signatures.specs.Signatures.SigSubst.{sig_at}
 use Rattle.signatures.specs.Packing.{Packed}
 use Rattle.signatures.specs.Env.{Env, Entry, kinds, types, IsGoodEnv}
+use Rattle.sig_laws.specs.Good.{OkModule}
 use Rattle.fing_syntax.specs.Phrase.{Mod, Binds, SigEx, TyEx, Exp}
 use Rattle.elab_rules.specs.Judgments.Meaning.{TyMeans, ExpMeans, SigMeans, ModMeans}
 use Rattle.elab_rules.specs.Judgments.Program.{ProgramMeans}
@@ -60,12 +61,21 @@ TypeIsKinded = (g : Env) (T : TyEx) (t : Ty) (k : Kind) → IsGoodEnv g → IsNo
 abbrev pub ExpressionIsTyped : Type 0
 ExpressionIsTyped = (g : Env) (E : Exp) (t : Ty) (e : Term) → IsGoodEnv g → IsNormalEnv g → ExpMeans g E t e → HasType (kinds g) (types g) e t
 
+-- an expression's type is normal
+abbrev pub ExpressionIsNormal : Type 0
+ExpressionIsNormal = (g : Env) (E : Exp) (t : Ty) (e : Term) → IsGoodEnv g → IsNormalEnv g → ExpMeans g E t e → Normal (kinds g) t Kind.Star
+
 abbrev pub SignatureIsNormal : Type 0
 SignatureIsNormal = (g : Env) (S : SigEx) (x : Abs) → IsGoodEnv g → IsNormalEnv g → SigMeans g S x → NormalAbs (kinds g) x
 
 -- a module's term, with the hidden types packed into it, has the type of its signature
 abbrev pub ModuleIsTyped : Type 0
 ModuleIsTyped = (g : Env) (m : Mod) (f : Effect) (x : Abs) (ts : List Ty) (e p : Term) → IsGoodEnv g → IsNormalEnv g → ModMeans g m (made f x ts e) → Packed (kinds g) (made f x ts e) p → HasType (kinds g) (types g) p (enc_abs x)
+
+-- a module's signature is well formed and of normal types, the types that it keeps are normal and of the kinds that its
+-- signature hides, and each type in its term is normal where it stands
+abbrev pub ModuleIsNormal : Type 0
+ModuleIsNormal = (g : Env) (m : Mod) (M : Module) → IsGoodEnv g → IsNormalEnv g → ModMeans g m M → OkModule (kinds g) M
 
 -- the types that a pure module keeps have the kinds of those that its signature hides, and its term has the type of the
 -- signature's body at them

@@ -1,4 +1,4 @@
--- Small functions of the elaboration rules.
+-- The hidden name of `include`, type parameters, operators, and when a functor is generative.
 use Rattle.std.specs.Prelude.{List, [], ◌∷◌, map, Bool, true, false}
 use Rattle.omega_kinds.specs.Kind.{Kind}
 use Rattle.omega_kinds.specs.declared.effect.Effect.{Effect}

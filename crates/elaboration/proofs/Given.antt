@@ -1,23 +1,18 @@
 -- What is given along the way: good environments, and answers where the environment is as before.
-use Rattle.std.proofs.Common.{◌≡◌, ◌≢◌, inl, inr, List, ◌∷◌, None, IfSome, Result, IfErr, IsErrAnd, sym, subst}
+use Rattle.std.proofs.Common.{◌≡◌, ◌≢◌, inl, inr, ◌∷◌, Result, IfErr, IsErrAnd, sym, subst}
 use Rattle.std.proofs.lemmas.Result.{err_from_is_err_and}
 use Rattle.omega_kinds.specs.Kind.{Kind}
 use Rattle.omega_kinds.specs.Name.{Name}
 use Rattle.omega_types.specs.Ty.{Ty}
 use Rattle.omega_types.specs.Normality.Normal.{n_arrow}
-use Rattle.signatures.specs.Env.{Env, Value, with_module}
-use Rattle.signatures.specs.Signatures.Sig.{Sig, Abs}
+use Rattle.signatures.specs.Env.{Env, Value}
 use Rattle.sig_laws.specs.Good.{OkEnv}
-use Rattle.sig_laws.proofs.Formed.Conditions.{explicit-right}
-use Rattle.premise_laws.proofs.Environments.{good-module}
-use Rattle.fing_syntax.specs.Phrase.{Span, TyEx, SigEx}
+use Rattle.fing_syntax.specs.Phrase.{Span, TyEx}
 use Rattle.fing_syntax.specs.Place.{ty_span}
 use Rattle.fing_refusals.specs.Refusal.{KindDiffer}
-use Rattle.elab_rules.specs.Operators.{with_type}
-use Rattle.elab_rules.specs.Judgments.Meaning.{TyMeans, SigMeans}
-use Rattle.elab_rules.specs.Refusals.Task.{Task, a_type}
-use Rattle.elab_rules.specs.Refusals.Refused.{Refused}
-use Rattle.elab_laws.proofs.Kept.{type_ok, sig_ok}
+use Rattle.elab_rules.specs.Judgments.Meaning.{TyMeans}
+use Rattle.elab_rules.specs.Refusals.Task.{a_type}
+use Rattle.elab_laws.proofs.Kept.{type_ok}
 use Rattle.refusal_lines.specs.Plain.{plain_refusal}
 use Rattle.refusal_lines.specs.declared.refusal.Refusal.{Refusal as CodeRefusal}
 use Rattle.elaboration.specs.Answered.{RefusedAs, ByTest, NoValueType}
@@ -27,22 +22,11 @@ use Rattle.elaboration.proofs.Placing.{if_some-map}
 pub exit : {T E : Type 0} (Q : E → Type 0) (r : Result T E) (e : E) → IsErrAnd r (λ y. y ≡ e) → Q e → IfErr r Q
 exit Q r e out h = let p = err_from_is_err_and r out in subst (λ s. IfErr s Q) (sym p.1) (subst Q (sym p.2) h)
 
--- want of memory is no refusal
-pub wanting : {g : Env} {a : Task} {e : CodeRefusal} → plain_refusal e ≡ None → RefusedAs g a e
-wanting {g} {a} {e} n = record { stands = subst (λ o. IfSome o (Refused g a)) (sym n) tt }
-
--- good environments
-pub type-env : (g : Env) (k : Kind) (x : Name) → OkEnv g → OkEnv (with_type g k x)
-type-env g k x h = (tt, (tt, h))
-
 pub value-env : {g : Env} {a : TyEx} {t : Ty} (x : Name) → OkEnv g → TyMeans g a t Kind.Star → OkEnv (Value x t ∷ g)
 value-env {g} {a} {t} x h m = (type_ok g a t Kind.Star h m, h)
 
 pub fix-env : {g : Env} {a b : TyEx} {t u : Ty} (f x : Name) → OkEnv g → TyMeans g a t Kind.Star → TyMeans g b u Kind.Star → OkEnv (Value x t ∷ Value f (Ty.Arrow t u) ∷ g)
 fix-env {g} {a} {b} {t} {u} f x h m n = let p = type_ok g a t Kind.Star h m in (p, (n_arrow p (type_ok g b u Kind.Star h n), h))
-
-pub module-env : {g : Env} {a : SigEx} {ks : List Kind} {s : Sig} (x : Name) → OkEnv g → SigMeans g a (Abs.Ex ks s) → OkEnv (with_module g ks x s)
-module-env {g} {a} {ks} {s} x h m = let w = sig_ok g a (Abs.Ex ks s) h m in good-module g ks x s h ((explicit-right w.0).0, w.1)
 
 -- a type of values
 pub no_type : {g : Env} {a : TyEx} {e : CodeRefusal} → RefusedAs g (a_type a) e → NoValueType g a e

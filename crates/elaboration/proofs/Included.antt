@@ -53,10 +53,6 @@ pub body-module : (g : Env) (a : SigEx) (b : Mod) (x : Name) (y : Abs) (M : Modu
     → OkModule (extend (kinds g) (kinds_of y)) M
 body-module g a b x (Abs.Ex ks s) M h p q = module-under g ks M (mod_ok (with_module g ks x s) b M (param-env g a (Abs.Ex ks s) x h p) q)
 
--- a structure starts with no names
-pub no-names : (g : Env) → Names g []
-no-names g = (tt, tt)
-
 -- what a binding is
 
 at-place : (a p : Span) (x : BindWhat) (b : Bind) (m : Mod) → BindAt a x ≡ b → b ≡ BindAt p (BindInclude m) → BindAt a (BindInclude m) ≡ b

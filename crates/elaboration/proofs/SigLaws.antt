@@ -26,7 +26,6 @@ use Rattle.fing_syntax.specs.Phrase.{Span, SpanName, SigEx, SigAt, SigFun, Mod, 
 use Rattle.fing_syntax.specs.Place.{name_of}
 use Rattle.fing_syntax.specs.Size.{decl_size, decls_size}
 use Rattle.fing_syntax.specs.View.{decl_of, decls}
-use Rattle.fing_refusals.specs.Refusal.{ElabWhy}
 use Rattle.sig_rules.specs.SigRules.{AbstractGives, DeclarationsGive}
 use Rattle.sig_calls.specs.Plain.{AreApart}
 use Rattle.semantic_sigs.proofs.MentionSteps.{length-trees}
@@ -35,7 +34,7 @@ use Rattle.elab_rules.specs.Refusals.Task.{decls as decls_task}
 use Rattle.elab_laws.proofs.FieldLaws.{Apart, NoFields, no_fields-end, new-no_fields, no_fields-merge, no_fields-rename, with_names-no_fields}
 use Rattle.elab_laws.proofs.Kept.{decl_ok, mod_ok, sig_ok}
 use Rattle.refusal_lines.specs.declared.refusal.Refusal.{Refusal as CodeRefusal}
-use Rattle.elaboration.specs.Answered.{ByRule, RefusedAs}
+use Rattle.elaboration.specs.Answered.{RefusedAs}
 use Rattle.elaboration.specs.Fields.{fields_in}
 use Rattle.elaboration.proofs.Entering.{left-type_vars, left-module, left-fields}
 use Rattle.elaboration.proofs.Means.{applicative-means, decl-structure, decl-whole, param-env}
@@ -120,9 +119,6 @@ sig-in {g} {h} {a} {x} s o p = subst (λ e. OkRight (kinds e) x) (sym s) (sig_ok
 
 pub module-in : {g h : Env} {m : Mod} {M : Module} → h ≡ g → OkEnv g → ModMeans g m M → OkModule (kinds h) M
 module-in {g} {h} {m} {M} s o p = subst (λ e. OkModule (kinds e) M) (sym s) (mod_ok g m M o p)
-
-pub rule-moved : {W : Type 0} {reason : W → ElabWhy} {g h : Env} {at of : Span} {Refuses : W → Type 0} {e : CodeRefusal} → h ≡ g → of ≡ at → ByRule reason h of Refuses e → ByRule reason g at Refuses e
-rule-moved {reason = reason} {Refuses = Refuses} {e = e} s p r = subst₂ (λ k q. ByRule reason k q Refuses e) s p r
 
 -- the parameter of functors
 pub param-in : {g h : Env} {a : SigEx} (x : Abs) (l : Name) → h ≡ g → OkEnv g → SigMeans g a x → OkEnv (with_module h (kinds_of x) l (body_of x))

@@ -7,7 +7,7 @@ use Rattle.signatures.specs.Matching.MatchRefusal.{MatchRefusal, RefusesMatch}
 use Rattle.signatures.specs.Signatures.Sig.{Sig, Abs}
 use Rattle.fing_syntax.specs.Phrase.{Span, SpanName, TyEx}
 use Rattle.fing_syntax.specs.Place.{ty_span}
-use Rattle.fing_refusals.specs.Refusal.{Refusal, ElabWhy, KindDiffer}
+use Rattle.fing_refusals.specs.Refusal.{ElabWhy, KindDiffer}
 use Rattle.sig_rules.specs.SigRules.{WhereRefuses}
 use Rattle.sig_rules.specs.SigWhy.{SigWhy}
 use Rattle.elab_rules.specs.Operators.{names_of}

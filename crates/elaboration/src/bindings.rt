@@ -31,7 +31,11 @@ use refusal_lines::{ElabWhy, Refusal};
 use semantic_sigs::{Abs, Env, Module, SigFields};
 use std::alloc::Global;
 
-/// The rest of a structure, after bindings of the names before, which are bound in the environment and rise.
+/// The rest of a structure, after bindings of the names before, which rise and are bound in the environment, a good one.
+/// Ok is the module that the rest means there, and the environment is as it was. `Err` is the refusal of the first
+/// condition that fails in the order of the text, or want of memory; what the environment holds then is not told.
+///
+/// Rossberg, Russo and Dreyer, "F-ing modules", section 4, Elaboration, Bindings.
 #[cycle(elab)]
 pub fn binds(
     alloc: Global,

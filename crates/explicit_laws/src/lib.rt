@@ -1,7 +1,7 @@
 // The operations of elaboration keep signatures ordered explicit.
 // Stands on sig_laws.
-// Proved for sequences of declarations, applicative and generative functors, `where type`, instances, and signatures that
-// are seen from outside hidden types.
+// Proved (`kept_by_operations`): sequences of declarations, applicative and generative functors, `where type`, instances,
+// and signatures that are seen from outside hidden types are ordered explicit again.
 #![tactic(auto)]
 
 ghost use Rattle.explicit_laws.specs.Kept.{SequenceKeeps, LiftKeeps, LiftKeepsWellFormed, GenerativeKeeps, FixingKeeps, InstanceKeeps, OutsideKeeps};

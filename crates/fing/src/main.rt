@@ -1,24 +1,36 @@
 // The program: hands its words, standard input and standard output to the top call, and ends with the status that it
-// answers. Stands on fing_top and fing_text. What it is proved to do is the contract of `fing_top::fing`.
+// answers. Stands on fing_top and fing_text. What it is proved to do is in the contracts of `fing` and `exit_code` of
+// fing_top.
 #![tactic(auto)]
 
 use fing_text::{StdSink, StdSource};
-use fing_top::{Status, fing};
+use fing_top::{Status, exit_code, fing};
+use std::io::ErrorKind;
 use std::process::ExitCode;
-use std::{env, io, mem};
+use std::{env, mem};
 
-// The words after the program's name.
-fn words(rt: &HostRuntime) -> io::Result<Vec<String>> {
+// The words after the program's name. A word that is no UTF-8 makes them no command line, and else there is no memory
+// for them.
+fn words(rt: &HostRuntime) -> Result<Vec<String>, Status> {
     let mut words = Vec::new(rt.alloc());
-    for word in env::args(rt)?.skip(1) {
-        words.push(word)?;
+    let given = match env::args(rt) {
+        Ok(given) => given,
+        Err(error) if error.kind() == ErrorKind::InvalidData => return Err(Status::Words),
+        Err(_) => return Err(Status::NoMemory),
+    };
+    for word in given.skip(1) {
+        if words.push(word).is_err() {
+            return Err(Status::NoMemory);
+        }
     }
     Ok(words)
 }
 
-fn main(rt: HostRuntime) -> ExitCode {
-    let Ok(words) = words(&rt) else {
-        return ExitCode::from(Status::NoMemory as u8);
+// What the program answers to its words.
+fn answer(rt: &HostRuntime) -> Status {
+    let words = match words(rt) {
+        Ok(words) => words,
+        Err(status) => return status,
     };
     let mut source = StdSource::new(rt.stdin());
     let mut sink = StdSink::new(rt.stdout());
@@ -26,5 +38,9 @@ fn main(rt: HostRuntime) -> ExitCode {
     let status = fing(rt.alloc(), &words, &mut source, &mut sink, &mut confirmed);
     // The program ends here, and its memory goes back as a whole.
     mem::forget(confirmed);
-    ExitCode::from(status as u8)
+    status
+}
+
+fn main(rt: HostRuntime) -> ExitCode {
+    exit_code(answer(&rt))
 }

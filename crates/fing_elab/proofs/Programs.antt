@@ -1,5 +1,5 @@
 -- One meaning or one refusal of each program, as the code answers it.
-use Rattle.std.proofs.Common.{◌≡◌, List, [], Option, Some, None, IfSome, sym, ap, ◌∙◌}
+use Rattle.std.proofs.Common.{◌≡◌, List, [], IfSome, sym, ap, ◌∙◌}
 use Rattle.omega_kinds.specs.Name.{Name}
 use Rattle.omega_terms.specs.Term.{Term}
 use Rattle.omega_terms.specs.Typing.{HasType}
@@ -7,7 +7,7 @@ use Rattle.signatures.specs.Env.{Env}
 use Rattle.signatures.specs.Packing.{Packed}
 use Rattle.signatures.specs.Signatures.Sig.{Module}
 use Rattle.signatures.specs.Signatures.Encoding.{enc_abs}
-use Rattle.signatures.specs.Verdict.{Verdict, holds, refuses}
+use Rattle.signatures.specs.Verdict.{holds, refuses}
 use Rattle.sig_laws.specs.Good.{OkModule}
 use Rattle.fing_syntax.specs.Phrase.{Binds}
 use Rattle.fing_refusals.specs.Refusal.{Refusal}

@@ -1,7 +1,7 @@
 // Elaboration: what a program means in System Fω, or the one reason why it means nothing.
 // Stands on elaboration (phrases in an environment), module_calls (hidden types packed into a term), and on the theorems
 // of elab_laws and elab_exact.
-// Proved: an answer is the program's one meaning, whose whole term has the encoding of the signature as its type; a
+// Proved (`elab`): an answer is the program's one meaning, whose whole term has the encoding of the signature as its type; a
 // refusal is the program's one refusal. Want of memory alone is free.
 #![tactic(auto)]
 

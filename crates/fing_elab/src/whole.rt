@@ -46,8 +46,8 @@ fn whole_of(alloc: Global, whole: &Module) -> Result<Term, Mem>
 }
 
 /// What a program means, or why it means nothing: the refusal is that of the first rule, in the order of the text, of which
-/// a condition fails. The types of the answer and of the refusal are in normal form. A refusal for want of memory says
-/// nothing of the program.
+/// a condition fails. A refusal for want of memory says nothing of the program. The types of each meaning are normal by
+/// the laws of elab_laws, and those of each refusal by elab_exact's, in a context of as many type variables as it tells.
 ///
 /// Rossberg, Russo and Dreyer, "F-ing modules", sections 4 to 7, Elaboration.
 pub fn elab(alloc: Global, program: &Program) -> Result<Elaborated, Refusal>

@@ -1,4 +1,4 @@
-// Generated sources: a legal program of any size, for measuring.
+// Generated sources: a program for each size, for measuring.
 // Stands on omega_kinds and itoa (numbers in decimal).
 // Proved: `source_of` gives exactly the text of the definition.
 #![tactic(auto)]

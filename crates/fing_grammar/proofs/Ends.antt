@@ -8,7 +8,7 @@ use Rattle.fing_grammar.specs.Tree.{Trees, end, leaf, node, spelling}
 use Rattle.fing_grammar.specs.Tables.{number_of, choose, can_be_empty, rank}
 use Rattle.fing_grammar.proofs.Sets.{all_empty, and-left, and-right}
 use Rattle.fing_grammar.proofs.Checks.{leads_ok, ranks_ok}
-use Rattle.fing_grammar.specs.Reading.{Run, got, stop, spent, next, ahead, by_token, by_rule, run, lead, need, reads, read_class, read_all, read_rule}
+use Rattle.fing_grammar.specs.Reading.{Run, got, stop, next, ahead, by_token, by_rule, run, lead, need, reads, read_all}
 use Rattle.fing_grammar.proofs.Front.{Got, Stopped, sound, stopped}
 
 abbrev pub Ends : ℕ → List Symbol → List Token → Type 0
@@ -183,55 +183,3 @@ reads_phrase n ss ts = sym (stable (suc f) (phrase n ∷ ss) ts (omega arith)) �
 -- symbol by symbol the same is read
 abbrev SameAll : List Symbol → List Token → Type 0
 SameAll ss ts = read_all ss ts ≡ reads ss ts
-
-one_class : (n : Class) (ss : List Symbol) (ts : List Token) → ((mid : List Token) → SameAll ss mid)
-    → next (read_class n ts) (λ v mid. next (read_all ss mid) (λ vs rest. got (v, vs) rest)) ≡ reads (phrase n ∷ ss) ts
-unfolding read_class
-one_class n ss ts ih =
-    ap (λ z. A (next z B)) (reads_phrase n [] ts) ∙ go (choose n (ahead ts)) ∙ sym (reads_phrase n ss ts)
-  where
-    A : Run (Value n) → Run (Value n × Values ss)
-    A z = next z (λ v mid. next (read_all ss mid) (λ vs rest. got (v, vs) rest))
-
-    B : (vs : Value n × Unit {0}) → List Token → Run (Value n)
-    B vs rest = got vs.0 rest
-
-    inside : (r : Rule n) (z : Run (Values (rhs r))) → A (next (next z (λ ws mid. next (reads [] mid) (λ vs rest. got (act r ws, vs) rest))) B)
-        ≡ next z (λ ws mid. next (reads ss mid) (λ vs rest. got (act r ws, vs) rest))
-    inside r (got ws mid) = ap (λ z. A (next (next z (λ vs rest. got (act r ws, vs) rest)) B)) (reads_none mid) ∙ ap (λ z. next z (λ vs rest. got (act r ws, vs) rest)) (ih mid)
-    inside r (stop x) = refl
-    inside r spent = refl
-
-    go : (o : Option (Rule n)) → A (next (by_rule [] reads o ts) B) ≡ by_rule ss reads o ts
-    go None = refl
-    go (Some r) = inside r (reads (rhs r) ts)
-
-pub same_all : (ss : List Symbol) (ts : List Token) → SameAll ss ts
-same_all [] ts = sym (reads_none ts)
-same_all (token k ∷ ss) [] = sym (reads_no_token k ss)
-same_all (token k ∷ ss) (t ∷ ts) = go (eqb (number_of (kind_of t)) (number_of k)) (same_all ss ts) ∙ sym (reads_token k ss t ts)
-  where
-    pick : Bool → Run Token
-    pick b = elim b [ true ↦ got t ts | false ↦ stop (t ∷ ts) ]
-
-    go : (b : Bool) → SameAll ss ts → next (pick b) (λ t mid. next (read_all ss mid) (λ vs rest. got (t, vs) rest)) ≡ by_token b (reads ss ts) t ts
-    go true h = ap (λ z. next z (λ vs rest. got (t, vs) rest)) h
-    go false h = refl
-same_all (phrase n ∷ ss) ts = one_class n ss ts (λ mid. same_all ss mid)
-
--- a phrase of a class is read by the production that the next token chooses
-pub class_is : (n : Class) (ts : List Token) → read_class n ts ≡ read_rule (choose n (ahead ts)) ts
-unfolding read_class
-class_is n ts = ap (λ z. next z B) (reads_phrase n [] ts) ∙ go (choose n (ahead ts))
-  where
-    B : (vs : Value n × Unit {0}) → List Token → Run (Value n)
-    B vs rest = got vs.0 rest
-
-    inside : (r : Rule n) (z : Run (Values (rhs r))) → next (next z (λ ws mid. next (reads [] mid) (λ vs rest. got (act r ws, vs) rest))) B ≡ next z (λ ws rest. got (act r ws) rest)
-    inside r (got ws mid) = ap (λ z. next (next z (λ vs rest. got (act r ws, vs) rest)) B) (reads_none mid)
-    inside r (stop x) = refl
-    inside r spent = refl
-
-    go : (o : Option (Rule n)) → next (by_rule [] reads o ts) B ≡ read_rule o ts
-    go None = refl
-    go (Some r) = inside r (reads (rhs r) ts) ∙ ap (λ z. next z (λ ws rest. got (act r ws) rest)) (sym (same_all (rhs r) ts))

@@ -208,9 +208,6 @@ move_smaller rest (phrase n) ss p e = go (choose n (ahead rest)) e
     go None q = absurd (none_some q)
     go (Some r) q = subst (λ z. need (pushed z.0 ++ ss) (length z.1) < need (phrase n ∷ ss) (length rest)) (some_same q) (rule_smaller r ss (length rest))
 
-pub rest_within : {tokens rest : List Token} {ss : List Symbol} {ms : List Move} → Reached tokens rest ss ms → length rest ≤ length tokens
-rest_within {tokens} {rest} i = omega (arith, length-append i.taken rest, ap length i.split)
-
 halted_stop : {A : Type 0} (z : Run A) (x : List Token) → ended z ≡ halted x → z ≡ stop x
 halted_stop (got a y) x e = absurd (cc)
 halted_stop {A} (stop y) x e = let q : y ≡ x = cc in ap (λ w. stop w) q

@@ -8,6 +8,7 @@ use Rattle.fing_grammar.specs.Tree.{Trees, end, leaf, node, spelling, values}
 use Rattle.fing_grammar.specs.Tables.{number_of, follow, predicted, is_in, choose}
 use Rattle.fing_grammar.proofs.Sets.{all, starts, fits, begins, rule_ok, and-left, and-right, all_at, each_at, begins-starts, is_in-here}
 use Rattle.fing_grammar.proofs.Checks.{rules_ok, predicts}
+use Rattle.fing_grammar.specs.Choosing.{Chosen}
 use Rattle.fing_grammar.specs.Reading.{got, next, ahead, by_token, by_rule, run}
 
 abbrev pub size : {ss : List Symbol} → Trees ss → ℕ
@@ -52,6 +53,15 @@ chosen {n} ss r cs ts x e =
     let below : is_in (ahead (spelling cs ++ y)) (starts (rhs r) (ahead y)) ≡ true = first_in cs y (parts_fit r (ahead y) w) in
     each_at (λ j. choose n j ≡ Some r) (predicted r) (ahead (spelling cs ++ y)) (predicts r)
     (and-right (begins n (ahead y) (ahead (spelling cs ++ y))) (is_in (ahead (spelling cs ++ y)) (predicted r)) (first_token r (ahead y) (ahead (spelling cs ++ y)) w below))
+
+-- so at each node
+pub each_chosen : {ss : List Symbol} (c : Trees ss) (x : List Token) → fits ss (ahead x) ≡ true → Chosen c x
+each_chosen end x e = tt
+each_chosen (leaf t p ts) x e = each_chosen ts x e
+each_chosen (node {n = n} {ss = ss} r cs ts) x e =
+    let y : List Token = spelling ts ++ x in
+    let w : is_in (ahead y) (follow n) ≡ true = follows n ss (ahead x) (ahead y) e (first_in ts x (rest_fits n ss (ahead x) e)) in
+    (chosen ss r cs ts x e, each_chosen cs y (parts_fit r (ahead y) w), each_chosen ts x (rest_fits n ss (ahead x) e))
 
 -- what trees spell is read as these trees, whatever follows that may
 pub complete : {ss : List Symbol} (c : Trees ss) (x : List Token) (f : ℕ) → size c ≤ f → fits ss (ahead x) ≡ true → run f ss (spelling c ++ x) ≡ got (values c) x

@@ -1,9 +1,9 @@
--- The trees of derived forms and of chains.
+-- The trees of derived forms (Rossberg, Russo, Dreyer, F-ing modules, section 2; the hidden names are own) and of chains.
 use Rattle.std.specs.Prelude.{ℕ, false, List, [], ◌∷◌, Option, None, Some, codes}
 use Rattle.fing_lexer.specs.declared.token.Token.{Token}
 use Rattle.omega_kinds.specs.Kind.{Star, Arrow}
 use Rattle.fing_syntax.specs.Phrase as tree
-use Rattle.fing_syntax.specs.Phrase.{Span, SpanName, Spelled, Mod, SigEx, TyEx, TyExs, Exp, OpExps, ModAt, ModName, ModStruct, ModProject, ModFunctor, ModApply, ModSeal, BindAt, BindVal, BindModule, NoBinds, MoreBinds, SigAt, SigRefine, DeclAt, DeclTyIs, DeclTyOf, TyAt, TyArrow, TyApply, NoTys, MoreTys, ExpAt, PathExp, ExpLam, ExpTyLam, ExpOps, ExpApply, ExpGet, ExpPack, NoOps, MoreOps, ArgExp, ArgTy, NoArgs, MoreArgs}
+use Rattle.fing_syntax.specs.Phrase.{Span, SpanName, Spelled, Mod, SigEx, TyEx, TyExs, Exp, OpExps, ModAt, ModName, ModStruct, ModProject, ModFunctor, ModApply, ModSeal, BindAt, BindVal, BindModule, NoBinds, MoreBinds, SigAt, SigRefine, DeclAt, DeclTyIs, DeclTyOf, TyAt, TyArrow, TyApply, NoTys, MoreTys, ExpAt, PathExp, ExpLam, ExpTyLam, ExpOps, ExpApply, ExpGet, ExpPack, NoOps, MoreOps, NoArgs, MoreArgs}
 use Rattle.fing_syntax.specs.Place.{name_span, mod_span, sig_span, ty_span, exp_span, arg_span, up_to}
 use Rattle.fing_grammar.specs.Parts.{at, named, Kinded, TypeTail, Open, Is, Has, Where, Ascription, Sealed, Shown, Abstraction, OfValue, OfType}
 
@@ -42,7 +42,7 @@ let_mod s b m = result_of s (bind_then b (hidden_module s (codes "%0") m))
 abbrev pub hidden_val : Span → Exp → tree.Bind
 hidden_val s e = BindAt s (BindVal (hidden (codes "%0") s) e)
 
--- the same as a value
+-- `from (struct B end).%0` as an expression
 abbrev pub value_of : Span → tree.Binds → Exp
 value_of s b = ExpAt s (PathExp (result_of s b))
 

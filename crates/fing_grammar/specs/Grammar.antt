@@ -1,4 +1,5 @@
--- The grammar: its tokens, its classes of phrases, and its productions.
+-- The grammar: its tokens, its classes of phrases, and its productions. It is own; the phrases are those of Rossberg, Russo,
+-- Dreyer, F-ing modules, sections 2 and 6.
 use Rattle.std.specs.Prelude.{List, [], ◌∷◌}
 use Rattle.fing_lexer.specs.declared.token.Word.{Word}
 use Rattle.fing_lexer.specs.declared.token.Mark.{Mark}

@@ -1,3 +1,4 @@
+pub mod Choosing
 pub mod Grammar
 pub mod Parts
 pub mod Forms

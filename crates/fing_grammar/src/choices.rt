@@ -569,8 +569,9 @@ fn more_exp_fields(next: u8) -> Option<Rule>
     }
 }
 
-/// The production that the next token chooses for a phrase of the class. Where no phrase of the class can begin, the
-/// answer is `None`, or a production whose first symbol the token does not begin.
+/// The production that the table has for a phrase of the class before a token of this number, or, for 0, at the end. At
+/// each node of a program's tree it is the node's own (`one_choice`). Where no phrase of the class can begin, the table
+/// has none (`None`), or one whose first symbol the token does not begin.
 #[tactic(auto, unfolding(crate::specs::Tables::choose))]
 pub fn choose(class: Class, next: u8) -> Option<Rule>
     ensures { option_map rule_in result ≡ chosen class next }

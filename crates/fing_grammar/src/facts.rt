@@ -1,10 +1,11 @@
 // Laws of the grammar.
-ghost use Rattle.std.specs.Prelude.{◌≡◌, ℕ, List, ◌⊎◌};
+ghost use Rattle.std.specs.Prelude.{◌≡◌, ℕ, List, [], ◌∷◌, ◌⊎◌};
 ghost use Rattle.fing_lexer.specs.declared.token.Token.{Token};
 ghost use Rattle.fing_syntax.specs.Phrase as tree;
-ghost use Rattle.fing_grammar.specs.Grammar.{Class, Binds};
+ghost use Rattle.fing_grammar.specs.Grammar.{Class, Binds, phrase};
 ghost use Rattle.fing_grammar.specs.Meaning.{Value};
-ghost use Rattle.fing_grammar.specs.Tree.{Phrase};
+ghost use Rattle.fing_grammar.specs.Tree.{Phrase, Trees};
+ghost use Rattle.fing_grammar.specs.Choosing.{Chosen};
 ghost use Rattle.fing_grammar.specs.Program.{Farthest, Refused};
 
 /// A list of tokens is a phrase of a class in at most one way.
@@ -20,4 +21,9 @@ pub fn one_answer()
 /// The length of the longest front that begins a program is one number.
 pub fn one_place()
     ensures { (tokens : List Token) (a b : ℕ) → Farthest tokens a → Farthest tokens b → a ≡ b }
+{}
+
+/// At each node of a program's tree the table of choices has the node's production for its class and the next token.
+pub fn one_choice()
+    ensures { (d : Trees (phrase Binds ∷ [])) → Chosen d [] }
 {}

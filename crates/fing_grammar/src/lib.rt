@@ -12,6 +12,6 @@ pub mod recogniser;
 pub mod refusal;
 pub mod sides;
 
-pub use facts::{one_answer, one_place, one_tree};
+pub use facts::{one_answer, one_choice, one_place, one_tree};
 pub use recogniser::{Step, recognise};
 pub use refusal::ParseRefusal;

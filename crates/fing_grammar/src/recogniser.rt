@@ -78,7 +78,9 @@ fn want(stack: &mut Vec<Symbol>, step: Step<'_>) -> Result<(), Mem>
     }
 }
 
-/// The steps in which the tokens are read as a program, of which there are at most 1,048,576.
+/// The steps in which the tokens, of which there are at most 1,048,576, are read as a program, in the order of reading:
+/// a production stands before the steps of its parts. `Syntax` comes exactly where the tokens are no program, and its
+/// `at` is the number of tokens in their longest front that begins some program; `Mem` is want of memory.
 pub fn recognise<'a>(alloc: Global, tokens: &'a [Token]) -> Result<Vec<Step<'a>>, ParseRefusal>
     requires { length tokens.now ≤ 1048576 }
     ensures steps { IfOk result (λ v. (d : Trees (phrase Binds ∷ [])) × (spelling d ≡ tokens.now) × (track d [] ≡ moves v.items)) }

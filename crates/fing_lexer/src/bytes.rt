@@ -189,7 +189,8 @@ pub fn short_mark(first: u8) -> Option<Mark>
     }
 }
 
-/// The value of digits, where it is at most 9223372036854775807.
+/// The value of decimal digits, where it is at most 9223372036854775807, and else `None`. A byte that is no digit counts
+/// as its number less 48, one below 48 as 0.
 #[tactic(auto, using(crate::proofs::Digits::digits_step, crate::proofs::Digits::digits_end, crate::proofs::Digits::digits_grow))]
 pub fn digits(bytes: &[u8]) -> Option<u64>
     ensures { MatchOption result (2 ^ 63 ≤ plain.value_behind 0 bytes.now) (λ d. (d ≡ plain.value_behind 0 bytes.now) × (d < 2 ^ 63)) }

@@ -1,5 +1,5 @@
 // How deep a token stands.
-ghost use Rattle.std.specs.Prelude.{◌≡◌, ◌≤◌, IfOk};
+ghost use Rattle.std.specs.Prelude.{◌≡◌, ◌≤◌, OnOk, OnErr};
 ghost use Rattle.fing_lexer.specs.Nest as plain;
 
 use crate::token::{Mark, What, Word};
@@ -93,7 +93,8 @@ impl Nest {
         }
     }
 
-    /// Counts a token, and gives its nest.
+    /// Counts a token, and gives its nest: the sum of all numbers of the stack with the token counted. The sum before
+    /// has to be at most 1,000. A token that closes a pair takes the last pair away first, unless it is the only one.
     pub fn count(&mut self, what: &What) -> u32
         requires { plain.total self.old ≤ 1000 }
         ensures counted { self.new ≡ plain.counted self.old what.now }
@@ -113,9 +114,11 @@ impl Nest {
         self.total
     }
 
-    /// Goes in behind an opener; any other token changes nothing. `Err` is want of memory.
+    /// Goes in behind an opener; any other token changes nothing. `Err` is want of memory, and the stack stays as it was
+    /// then.
     pub fn open(&mut self, what: &What) -> Result<(), Mem>
-        ensures { IfOk result (λ _. self.new ≡ plain.opened self.old what.now) }
+        ensures ok { OnOk result (self.new ≡ plain.opened self.old what.now) }
+        ensures err { OnErr result (self.new ≡ self.old) }
     {
         if is_opener(what) {
             self.outer.push(self.last)?;

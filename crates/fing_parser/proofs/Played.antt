@@ -1,5 +1,5 @@
 -- The moves that give a tree, played from the last to the first, leave what the tree gives.
-use Rattle.std.proofs.Common.{◌≡◌, List, [], ◌∷◌, ◌++◌, refl, sym, ◌∙◌, ap, append_assoc}
+use Rattle.std.proofs.Common.{◌≡◌, List, [], ◌∷◌, ◌++◌, refl, sym, ◌∙◌, ap}
 use Rattle.std.specs.Prelude.{Option, None, Some, option_map}
 use Rattle.fing_syntax.specs.Phrase as tree
 use Rattle.fing_grammar.specs.Grammar.{Class, Binds, Bind, Decls, Decl, TypeOf, K, KArrow, KA, P, Dots, T, TArrow, TC, TArgs, TA, TFields, MoreTFields, S, SArrow, Wheres, SA, M, MArgs, Seals, MA, E, Lam, Compare, ES, Sums, EM, Products, EP, Args, EA, Gets, EB, EFields, MoreEFields, Symbol, token, phrase, Rule, rhs}
@@ -9,7 +9,7 @@ use Rattle.fing_grammar.specs.Tree.{Trees, end, leaf, node, spelling, values, Ph
 use Rattle.fing_lexer.specs.declared.token.Token.{Token}
 use Rattle.fing_grammar.specs.View.{any}
 use Rattle.parse_stack.specs.Item.{Item, TokenItem, item, as_value, as_binds}
-use Rattle.parse_stack.specs.Play.{and_then, top, taken, played, play, play_all, told}
+use Rattle.parse_stack.specs.Play.{and_then, top, taken, played, play_all, told}
 
 -- the items of values in order
 abbrev all : (ss : List Symbol) → Values ss → List Item

@@ -112,7 +112,8 @@ pub struct TyEx {
 }
 
 /// What a type is: that at a path, integers, booleans, texts, functions, an operator and the types that it is applied to,
-/// of which there is at least one, records, types of generic values, operators, or packed modules of a signature.
+/// records, types of generic values, operators, or packed modules of a signature. The parser makes an application of at
+/// least one type; the field may be any list.
 #[cycle(phrase)]
 #[derive(Drop)]
 pub enum TyWhat {
@@ -137,8 +138,8 @@ pub struct Exp {
 }
 
 /// What an expression is: the value at a path, a constant, a function, a generic value, a recursive function, a choice,
-/// a chain of operators of one level, which group to the left, a chain of arguments, of which there is at least one,
-/// a record, a field of a record, or a named module packed with a signature.
+/// a chain of operators of one level, which group to the left, a chain of arguments, a record, a field of a record, or a
+/// named module packed with a signature. The parser makes a chain of at least one argument; the field may be any list.
 #[cycle(phrase)]
 #[derive(Drop)]
 pub enum ExpWhat {

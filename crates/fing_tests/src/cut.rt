@@ -59,7 +59,7 @@ fn each_write_fails(rt: HostRuntime) -> Result<(), Fail> {
         let found = run(rt.alloc(), &["check"], source, sink)?;
         assert_eq!(rt; found.status, Status::WriteFault, "at {call}");
         assert!(rt; REPLY.starts_with(found.written.as_slice()), "at {call}");
-        assert!(rt; found.written.len() <= call as usize, "at {call}");
+        assert_eq!(rt; found.written.len(), call as usize, "at {call}");
     }
     Ok(())
 }

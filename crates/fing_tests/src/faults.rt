@@ -3,6 +3,7 @@ use crate::runs::run;
 use fing_text::{MemSink, MemSource, Sink, Source, StdSink, StdSource};
 use fing_top::Status;
 use std::alloc::Global;
+use std::io::{Error, ErrorKind, Read, Write};
 use std::test::Fail;
 
 const SUM: &[u8] = b"val x = 1 + 2";
@@ -104,5 +105,51 @@ fn a_sink_over_a_writer(rt: HostRuntime) -> Result<(), Fail> {
     let mut sink = StdSink::new(&mut written);
     assert_eq!(rt; sink.write(b"abc").ok(), Some(3));
     assert!(rt; written.as_slice() == b"abc".as_slice());
+    Ok(())
+}
+
+// A device that fails in each read, and takes bytes that it cannot hand on.
+#[derive(Drop)]
+struct Broken;
+
+impl Read for Broken {
+    fn read(&mut self, _buf: &mut [u8]) -> std::io::Result<usize> {
+        Err(Error::from(ErrorKind::Other))
+    }
+}
+
+impl Write for Broken {
+    fn write(&mut self, buf: &[u8]) -> std::io::Result<usize> {
+        Ok(buf.len())
+    }
+
+    fn flush(&mut self) -> std::io::Result<()> {
+        Err(Error::from(ErrorKind::Other))
+    }
+}
+
+#[test]
+fn a_source_over_a_broken_reader(rt: HostRuntime) -> Result<(), Fail> {
+    let mut source = StdSource::new(Broken);
+    let mut buf = [0u8; 8];
+    assert!(rt; source.read(&mut buf).is_err());
+    assert!(rt; source.read(&mut buf).is_err());
+    Ok(())
+}
+
+#[test]
+fn a_sink_over_a_full_writer(rt: HostRuntime) -> Result<(), Fail> {
+    let mut room = [0u8; 2];
+    let mut sink = StdSink::new(room.as_mut_slice());
+    assert_eq!(rt; sink.write(b"abc").ok(), Some(2));
+    assert!(rt; sink.write(b"c").is_err());
+    assert_eq!(rt; sink.write(b"").ok(), Some(0));
+    Ok(())
+}
+
+#[test]
+fn a_sink_over_a_writer_that_is_not_flushed(rt: HostRuntime) -> Result<(), Fail> {
+    let mut sink = StdSink::new(Broken);
+    assert!(rt; sink.write(b"abc").is_err());
     Ok(())
 }

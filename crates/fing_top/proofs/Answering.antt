@@ -4,7 +4,9 @@ use Rattle.std.specs.Prelude.{MatchResult, IfSome, codes}
 use Rattle.std.specs.Io.KnownBytes.{Consumes, IsAtEnd}
 use Rattle.std.proofs.lemmas.List.{append-nil}
 use Rattle.fing_text.specs.Told.{Told}
+use Rattle.fing_text.specs.Reads.{Lost, TookSome}
 use Rattle.fing_text.specs.Writes.{Wrote}
+use Rattle.fing_text.proofs.InARow.{lost-none}
 use Rattle.omega_types.specs.Ty.{Ty}
 use Rattle.omega_terms.specs.Term.{Term}
 use Rattle.omega_terms.specs.Typing.{HasType}
@@ -48,7 +50,8 @@ use Rattle.fing_top.specs.declared.status.Status.{Status}
 use Rattle.fing_top.specs.declared.status.Status.TheVariants as status
 use Rattle.fing_top.specs.Reply.{answered, accepted, refused, Spells, Telling, TellsOutcome, TellsCounts, fault_line, Refuses, ProgramReplies, Replies, VerifyReplies}
 use Rattle.fing_top.specs.Verdict.{unread, verdict_line, HasLine as HasVerdict}
-use Rattle.fing_top.specs.Answer.{limit, Change, Output, Confirms, IsWritten, AnswersBytes, IsAnswered, Untouched, Takes, IsHanded, Completes}
+use Rattle.fing_top.specs.Answer.{limit, Change, Stands, Output, Confirms, IsWritten, AnswersBytes, IsAnswered, Untouched, Takes, Spares, IsReplied, Answers, IsHanded, Completes}
+use Rattle.fing_top.specs.Words.{IsReadingLine}
 use Rattle.fing_top.proofs.Replies.{one_reply}
 
 -- ---- what is compiled is replied
@@ -214,6 +217,51 @@ completes words source out a read answer p t e c bytes q handed silent =
     by status.Faulted w = inl (written status.Faulted w)
     by status.Spent w = inl (written status.Spent w)
     by status.ReadFault w = absurd w
+    by status.TooLong w = absurd w
+
+-- `gen` takes no bytes of the source
+spares : (c : CommandLine) (source : Change Told) (read : List ℕ) → Takes c source read → Spares c source
+spares (command.Gen size) source read t = λ _ _. t.1
+spares command.Check source read t = λ _ e. absurd (cc)
+spares command.Emit source read t = λ _ e. absurd (cc)
+spares (command.Run budget) source read t = λ _ e. absurd (cc)
+spares command.Verify source read t = λ _ e. absurd (cc)
+
+-- the source stands where the words are no command line of a command that reads it
+pub stands : (words : List (List ℕ)) (source : Change Told) (c : CommandLine) → IsCommandLine words c → Spares c source → (IsReadingLine words → ⊥) → Stands source
+stands words source (command.Gen size) p s none = s size refl
+stands words source command.Check p s none = absurd (none (command.Check, p, tt))
+stands words source command.Emit p s none = absurd (none (command.Emit, p, tt))
+stands words source (command.Run budget) p s none = absurd (none (command.Run budget, p, tt))
+stands words source command.Verify p s none = absurd (none (command.Verify, p, tt))
+
+-- a source that stands lost no bytes
+pub took_none : (source : Change Told) → Stands source → TookSome source.old source.new (limit + 1)
+took_none source s = record { bytes = []; lost = subst (λ (t : Told). Lost source.old t []) (sym s) (lost-none source.old); within = omega arith }
+
+took_some : (c : CommandLine) (source : Change Told) (read : List ℕ) → Takes c source read → TookSome source.old source.new (limit + 1)
+took_some (command.Gen size) source read t = took_none source t.1
+took_some command.Check source read t = record { bytes = read; lost = t.lost; within = omega (arith, t.within) }
+took_some command.Emit source read t = record { bytes = read; lost = t.lost; within = omega (arith, t.within) }
+took_some (command.Run budget) source read t = record { bytes = read; lost = t.lost; within = omega (arith, t.within) }
+took_some command.Verify source read t = record { bytes = read; lost = t.lost; within = omega (arith, t.within) }
+
+-- what is answered for the bytes that the command takes is the answer to the words
+pub answers : (words : List (List ℕ)) (source : Change Told) (out : Output) (c : CommandLine) (read : List ℕ) (answer : Status) → IsCommandLine words c → Takes c source read → AnswersBytes c read out answer → Answers words source out answer
+answers words source out c read answer p t a = by answer a
+  where
+    replied : (s : Status) → AnswersBytes c read out s → IsReplied words source out s
+    replied s w = record { command = c; line = p; bytes = read; taken = t; answered = w }
+
+    by : (s : Status) → AnswersBytes c read out s → Answers words source out s
+    by status.Ok w = replied status.Ok w
+    by status.Refused w = replied status.Refused w
+    by status.Words w = absurd w
+    by status.Faulted w = replied status.Faulted w
+    by status.Spent w = replied status.Spent w
+    by status.ReadFault w = absurd w
+    by status.WriteFault w = replied status.WriteFault w
+    by status.NoMemory w = (w, stands words source c p (spares c source read t), took_some c source read t)
     by status.TooLong w = absurd w
 
 -- words that are no command line are handed no bytes

@@ -1,3 +1,4 @@
 pub mod Bindings
 pub mod Replies
+pub mod EachReply
 pub mod Answering

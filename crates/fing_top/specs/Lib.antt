@@ -1,3 +1,4 @@
+pub mod Exit
 pub mod Words
 pub mod Refusing
 pub mod Counts

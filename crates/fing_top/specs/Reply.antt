@@ -126,3 +126,7 @@ pub record IsOnlyReply (c : CommandLine) (bytes : List ℕ) (reply : Reply) : Ty
 -- a command has at most one reply to bytes
 abbrev pub OneReply : Type 0
 OneReply = (c : CommandLine) (bytes : List ℕ) (reply other : Reply) → Replies c bytes reply → Replies c bytes other → other ≡ reply
+
+-- a command has one reply to all bytes
+abbrev pub EachReplied : Type 0
+EachReplied = (c : CommandLine) (bytes : List ℕ) → (reply : Reply) × IsOnlyReply c bytes reply

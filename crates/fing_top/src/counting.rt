@@ -68,10 +68,13 @@ fn write_counts<K: Sink>(
     }
 }
 
-/// Answers `gen` for the bytes of a generated program, of which there are at most 1,048,576: writes how many bindings the
-/// program has, how many nodes its whole term has, and in how many steps the term comes to a value. Where it comes to none
-/// within 10,000,000 steps, or means nothing, it writes what `run` writes with that budget. Where the program means
-/// something, `confirmed` becomes what the checker made of its whole term. With `NoMemory` nothing is written.
+/// Answers `gen` for the bytes of a generated program, of which there are at most 1,048,576: writes how many bindings
+/// the program has, how many nodes its whole term has without its types, and in how many steps the term comes to a
+/// value, with status `Ok`. Where it comes to none within 10,000,000 steps, or means nothing, it writes what `run`
+/// writes with that budget, with the status of `run`: `Faulted`, `Spent` or `Refused`. `WriteFault` comes in place of
+/// any of these where a write failed, and then a front of that text was written; `NoMemory` is want of memory, and then
+/// nothing was written. Where the text, whole or a front of it, is that of a program that means something, `confirmed`
+/// becomes what the checker made of the program's whole term; on a refusal and with `NoMemory` it stands as it was.
 pub fn count<K: Sink>(
     alloc: Global,
     bytes: &[u8],

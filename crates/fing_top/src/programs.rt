@@ -25,8 +25,8 @@ use semantic_sigs::{Abs, encode};
 use sig_scopes::abs_in_scope;
 use std::alloc::Global;
 
-/// What a source is compiled into: how many bindings its program has, not counting those inside them, the program's effect
-/// and signature, and its whole term, which the checker found to have the encoding of the signature as its type.
+/// What a source is compiled into: how many bindings its program has, not counting those inside them, the program's
+/// effect and signature, and its whole term, which the checker found to have the encoding of the signature as its type.
 #[derive(Drop)]
 pub struct Compiled {
     pub bindings: usize,
@@ -86,8 +86,10 @@ pub(crate) fn compile(alloc: Global, bytes: &[u8]) -> Result<Compiled, Refused>
 }
 
 /// Answers `check` for all the bytes of a source, of which there are at most 1,048,576: writes the effect and the
-/// signature of the program, or the line of the refusal. Where the program means something, `confirmed` becomes what the
-/// checker made of its whole term. With `NoMemory` nothing is written.
+/// signature of the program, with status `Ok`, or the line of the refusal, with `Refused`. `WriteFault` comes in place
+/// of either where a write failed, and then a front of that text was written; `NoMemory` is want of memory, and then
+/// nothing was written. Where the text, whole or a front of it, is that of a program that means something, `confirmed`
+/// becomes what the checker made of the program's whole term; on a refusal and with `NoMemory` it stands as it was.
 pub fn check<K: Sink>(
     alloc: Global,
     bytes: &[u8],
@@ -110,8 +112,11 @@ pub fn check<K: Sink>(
 }
 
 /// Answers `emit` for all the bytes of a source, of which there are at most 1,048,576: writes the Omega text of the
-/// encoded signature and the whole term, or the line of the refusal. Where the program means something, `confirmed`
-/// becomes what the checker made of that type and term. With `NoMemory` nothing is written.
+/// encoded signature and the whole term, with status `Ok`, or the line of the refusal, with `Refused`. `WriteFault`
+/// comes in place of either where a write failed, and then a front of that text was written; `NoMemory` is want of
+/// memory, and then nothing was written. Where the text, whole or a front of it, is that of a program that means
+/// something, `confirmed` becomes what the checker made of that type and term; on a refusal and with `NoMemory` it
+/// stands as it was.
 pub fn emit<K: Sink>(
     alloc: Global,
     bytes: &[u8],

@@ -2,7 +2,7 @@
 ghost use Rattle.std.specs.Prelude.{◌≡◌, ◌≤◌, ℕ, List, length, map, IfOk, MatchResult};
 ghost use Rattle.std.specs.String.{string_bytes};
 ghost use Rattle.fing_words.specs.CommandLines.{IsCommandLine};
-ghost use Rattle.fing_top.specs.Reply.{OneReply};
+ghost use Rattle.fing_top.specs.Reply.{OneReply, EachReplied};
 ghost use Rattle.fing_top.specs.Answer.{limit, AnswersBytes, Answers, Completes, Takes, Lacks, change, output};
 ghost use Rattle.fing_top.specs.Words.{IsSized};
 
@@ -82,21 +82,24 @@ fn answered<S: Source, K: Sink>(
 /// Does all that the program does: `words` are those after the program's name.
 ///
 /// It reads the source to its end, but for `gen`, which leaves it as it was. For `check` it writes the effect and the
-/// signature of the program, for `emit` the Omega text of its encoded signature and its whole term, both with status `Ok`;
-/// for `run` the value that the term comes to within the budget with status `Ok`, its fault with `Faulted`, or the budget
-/// with `Spent`. `gen` compiles and runs the generated program of its size, within 10,000,000 steps, and writes how many
-/// bindings the program has, how many nodes its whole term, and in how many steps the term comes to a value, with status
-/// `Ok`; where it comes to none, it writes what `run` does. `check`, `emit` and `run` write the line of the refusal with
-/// status `Refused` where the source has none of these; the checker confirms the term before anything is written. For `verify`,
-/// whose source is Omega text, it writes `well typed` with status `Ok`, or the line of the first refusal with status
-/// `Refused`. Where the reply's own status is `Ok`, `Faulted` or `Spent`, `confirmed` becomes what the checker made of the
-/// term and the type that were derived or read; else it stands as it was.
+/// signature of the program, for `emit` the Omega text of its encoded signature and its whole term, both with status
+/// `Ok`; for `run` the value that the term comes to within the budget with status `Ok`, its fault with `Faulted`, or
+/// the budget with `Spent`. `gen` compiles and runs the generated program of its size, within 10,000,000 steps, and
+/// writes how many bindings the program has, how many nodes its whole term, and in how many steps the term comes to a
+/// value, with status `Ok`; where it comes to none, it writes what `run` does. `check`, `emit` and `run` write the line
+/// of the refusal with status `Refused` where the source has none of these. For `verify`, whose source is Omega text,
+/// it writes `well typed` with status `Ok`, or the line of the first refusal with status `Refused`. Where the reply's
+/// own status is `Ok`, `Faulted` or `Spent`, `confirmed` becomes what the checker made of the term and the type that
+/// were derived or read, also where a write failed; else it stands as it was.
 ///
-/// The other statuses come in this order:
-/// `Words` exactly where the words are no command line, and then the source stands; `ReadFault` only where a read failed;
-/// `TooLong` exactly where the source that is read has more than 1,048,576 bytes; `WriteFault`, in place of the reply's own
-/// status, only where a write failed. `NoMemory` is want of memory. With `Words`, `ReadFault`, `TooLong` and `NoMemory`
-/// nothing is written, and with `WriteFault` a front of the reply.
+/// The other statuses come in this order: `Words` where the words are no command line, and then the source stands;
+/// `ReadFault` where a read failed, after at most 1,048,576 bytes; `TooLong` where the source that is read has more
+/// than 1,048,576 bytes, of which one more than these was taken; `WriteFault`, in place of the reply's own status,
+/// where a write failed. `NoMemory` is want of memory, at any place: the source then lost at most 1,048,577 bytes, and
+/// none where the words are no command line of a command that reads it. With `Words`, `ReadFault`, `TooLong` and
+/// `NoMemory` nothing is written, and with `WriteFault` a front of the reply. `Words`, `ReadFault`, `TooLong` and
+/// `WriteFault` come only so. That a read or a write failed is told by the count of faults of the source or the sink:
+/// it rose, or stands at its last value, 2^64 - 1.
 pub fn fing<S: Source, K: Sink>(
     alloc: Global,
     words: &[String],
@@ -116,7 +119,8 @@ pub fn fing<S: Source, K: Sink>(
     }
 }
 
-/// A command has at most one reply to bytes.
+/// A command has exactly one reply to all bytes: one at most, and there is one.
 pub fn one_reply()
-    ensures { OneReply }
+    ensures one { OneReply }
+    ensures each { EachReplied }
 {}

@@ -34,10 +34,6 @@ lam-next kinds (suc n) kind shared t grown whole lt le e ek es en =
 
 -- the innermost kind of a scope
 
-pub extend-last : (ctx ks : List Kind) (k : Kind) → extend ctx (ks ++ (k ∷ [])) ≡ k ∷ extend ctx ks
-extend-last ctx [] k = refl
-extend-last ctx (j ∷ ks) k = extend-last (j ∷ ctx) ks k
-
 pub spread-all : (ks : List Kind) (count left : ℕ) (t : Ty) → count ≡ length ks → left ≡ 0 → t ≡ spread count left (count - left) → t ≡ applied ks (Ty.Var zero)
 spread-all ks count left t ec el et =
     et ∙ (ap (λ n. spread count n (count - n)) el ∙ (ap (λ n. spread count zero n) (omega arith) ∙ (ap (λ n. spread n zero n) (ec ∙ omega arith) ∙ sym (spread-applied ks zero zero))))

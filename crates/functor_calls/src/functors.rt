@@ -16,7 +16,7 @@ use std::alloc::Global;
 use term_shorthands::{one_field, ty_lam_over};
 
 /// `fun (X : S) => M`, where M is pure: the module of a pure functor, which hides what M hides, lifted over the types that
-/// the parameter hides. M stands under these and under X. `Err` is want of memory.
+/// the parameter hides. M stands under these and under X. Both signatures have normal types. `Err` is want of memory.
 ///
 /// Rossberg, Russo and Dreyer, "F-ing modules", section 7, Applicative functors.
 pub fn pure_functor(alloc: Global, param: &Abs, body: Module) -> Result<Module, Mem>

@@ -11,7 +11,7 @@ use Rattle.signatures.specs.Signatures.SigSize.{size, size_abs}
 use Rattle.signatures.specs.Matching.Subtyping.{Sub, SubAbs, Match}
 use Rattle.signatures.specs.Matching.MatchRefusal.{MatchRefusal, RefusesMatch, RefusesSub, RefusesSubAbs}
 use Rattle.match_laws.specs.MatchFunction.{Outcome, MatchOutcome, match_sig, sub_sig, sub_abs}
-use Rattle.match_laws.specs.MatchClaims.{OneMatch, OneSub, OneSubAbs, SearchGives, MatchIsLookedUp, OneFound, MatchOrRefusal, SubOrRefusal, SubAbsOrRefusal, NotBoth, OneRefusal, MatchSigGives, SubSigGives, SubAbsGives, MatchSigStep, SubSigStep, SubAbsStep}
+use Rattle.match_laws.specs.MatchClaims.{OneMatch, OneSub, OneSubAbs, SearchGives, MatchIsLookedUp, OneFound, MatchOrRefusal, SubOrRefusal, SubAbsOrRefusal, NotBoth, OneRefusal, SubNotBoth, SubAbsNotBoth, OneSubRefusal, OneSubAbsRefusal, MatchSigGives, SubSigGives, SubAbsGives, MatchSigStep, SubSigStep, SubAbsStep}
 use Rattle.match_laws.proofs.OneMatch.Unique.{sub-unique, abs-unique, match-unique}
 use Rattle.match_laws.proofs.LookUp.Roots.{least_root-gives}
 use Rattle.match_laws.proofs.LookUp.Good.{GoodLeft, GoodRight, GoodAbs, GoodLeftAbs}
@@ -67,6 +67,18 @@ not_both ctx s x ts f q w v m r = match-excluded r w v ts f m
 
 pub one_refusal : OneRefusal
 one_refusal ctx s x p q w v a b = match-one a w v q b
+
+pub sub_not_both : SubNotBoth
+sub_not_both ctx s r f q w v d a = sub-excluded a w v f d
+
+pub sub_abs_not_both : SubAbsNotBoth
+sub_abs_not_both ctx x y f q w v d a = abs-excluded a w v f d
+
+pub one_sub_refusal : OneSubRefusal
+one_sub_refusal ctx s r p q w v a b = sub-refusal a w v q b
+
+pub one_sub_abs_refusal : OneSubAbsRefusal
+one_sub_abs_refusal ctx x y p q w v a b = abs-one a w v q b
 
 -- what each outcome means
 

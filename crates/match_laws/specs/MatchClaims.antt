@@ -67,6 +67,19 @@ NotBoth = (ctx : List Kind) (s : Sig) (x : Abs) (ts : List Ty) (f : Term) (q : M
 abbrev pub OneRefusal : Type 0
 OneRefusal = (ctx : List Kind) (s : Sig) (x : Abs) (p q : MatchRefusal) → IsLeft ctx s → IsRightAbs ctx x → RefusesMatch ctx s x p → RefusesMatch ctx s x q → p ≡ q
 
+-- the same for subtyping of signatures, and of signatures with hidden types
+abbrev pub SubNotBoth : Type 0
+SubNotBoth = (ctx : List Kind) (s r : Sig) (f : Term) (q : MatchRefusal) → IsLeft ctx s → IsRightSig ctx r → Sub ctx s r f → RefusesSub ctx s r q → ⊥
+
+abbrev pub SubAbsNotBoth : Type 0
+SubAbsNotBoth = (ctx : List Kind) (x y : Abs) (f : Term) (q : MatchRefusal) → IsLeftAbs ctx x → IsRightAbs ctx y → SubAbs ctx x y f → RefusesSubAbs ctx x y q → ⊥
+
+abbrev pub OneSubRefusal : Type 0
+OneSubRefusal = (ctx : List Kind) (s r : Sig) (p q : MatchRefusal) → IsLeft ctx s → IsRightSig ctx r → RefusesSub ctx s r p → RefusesSub ctx s r q → p ≡ q
+
+abbrev pub OneSubAbsRefusal : Type 0
+OneSubAbsRefusal = (ctx : List Kind) (x y : Abs) (p q : MatchRefusal) → IsLeftAbs ctx x → IsRightAbs ctx y → RefusesSubAbs ctx x y p → RefusesSubAbs ctx x y q → p ≡ q
+
 -- the functions give just these
 abbrev pub MatchSigGives : Type 0
 MatchSigGives = (ctx : List Kind) (s : Sig) (x : Abs) → IsLeft ctx s → IsRightAbs ctx x

@@ -1,10 +1,11 @@
 // The laws of matching: its types are unique and are found by look-up along root paths, and it is decided.
 // Stands on sig_laws.
 // Proved: a match or a refusal exists for each well formed left and ordered explicit right side, never both, and one at
-// most; functions that a program can follow give just these; so it is for signatures with any types, by conversion.
+// most (`decided`); functions that a program can follow give just these (`functions`); so it is for signatures with any
+// types, by conversion (`any_types`).
 #![tactic(auto)]
 
-ghost use Rattle.match_laws.specs.MatchClaims.{OneMatch, OneSub, OneSubAbs, SearchGives, MatchIsLookedUp, OneFound, MatchOrRefusal, SubOrRefusal, SubAbsOrRefusal, NotBoth, OneRefusal, MatchSigGives, SubSigGives, SubAbsGives, MatchSigStep, SubSigStep, SubAbsStep, LookGives, LaterTypesDoNotMatter};
+ghost use Rattle.match_laws.specs.MatchClaims.{OneMatch, OneSub, OneSubAbs, SearchGives, MatchIsLookedUp, OneFound, MatchOrRefusal, SubOrRefusal, SubAbsOrRefusal, NotBoth, OneRefusal, SubNotBoth, SubAbsNotBoth, OneSubRefusal, OneSubAbsRefusal, MatchSigGives, SubSigGives, SubAbsGives, MatchSigStep, SubSigStep, SubAbsStep, LookGives, LaterTypesDoNotMatter};
 ghost use Rattle.match_laws.specs.AnyTypes.{MatchesExactly, MatchSigFinds, MatchSigMatches, MatchesSubstitute, SubSubstitute, SubAbsSubstitute, MatchSigRefuses, SubAbsFinds};
 ghost use Rattle.match_laws.specs.Examples.{IntIsFound, NothingIsFound};
 
@@ -31,17 +32,21 @@ pub fn looked_up()
 {}
 
 /// For each well formed left and ordered explicit right side of normal types a match or a refusal exists, not both, and
-/// one refusal at most; so for subtyping.
+/// one refusal at most; so for subtyping of signatures, and of signatures with hidden types.
 pub fn decided()
     ensures matching { MatchOrRefusal }
     ensures sub { SubOrRefusal }
     ensures abs { SubAbsOrRefusal }
     ensures exclude { NotBoth }
     ensures one { OneRefusal }
+    ensures sub_exclude { SubNotBoth }
+    ensures abs_exclude { SubAbsNotBoth }
+    ensures one_sub { OneSubRefusal }
+    ensures one_abs { OneSubAbsRefusal }
 {}
 
 /// The functions of matching and subtyping give exactly the matches and the refusals, and each is one step over calls
-/// of the three on smaller signatures, as a program makes them.
+/// of the three, as a program makes them.
 pub fn functions()
     ensures matching { MatchSigGives }
     ensures sub { SubSigGives }

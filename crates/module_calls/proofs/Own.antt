@@ -28,10 +28,6 @@ own-raised k inner n t en et =
     let plus : inner + 0 ≡ inner = omega arith in
     et ∙ (ap (shift inner 0) en ∙ (eta-rename k (bump inner 0) (Ty.Var zero) ∙ ap (λ i. eta k (Ty.Var i)) plus))
 
--- the number of binders
-pub count-kinds : (items : List SharedKind) (ks : List Kind) (count : ℕ) → map kind_tree items ≡ ks → count ≡ length items → length ks ≡ count
-count-kinds items ks count e c = ap length (sym e) ∙ (length-trees items ∙ sym c)
-
 vars-drop : (items : List SharedKind) (n : ℕ) (d : SharedKind) → n < length items → vars (map kind_tree (drop n items)) ≡ eta (kind_tree (get_or items n d)) (Ty.Var (length items - suc n)) ∷ vars (map kind_tree (drop (suc n) items))
 vars-drop [] n d lt = absurd (omega (arith, lt))
 vars-drop (k ∷ items) zero d lt =

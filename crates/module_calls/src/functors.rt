@@ -30,8 +30,8 @@ use std::alloc::Global;
 use term_shorthands::{insts, one_field, ty_lam_over};
 use type_normal::NormalTy;
 
-/// `gen (X : S) => M`, and `fun (X : S) => M` where M is impure; M stands under the hidden types of S and X. `Err` is want
-/// of memory.
+/// `gen (X : S) => M`, and `fun (X : S) => M` where M is impure; M stands under the hidden types of S and X, and is well
+/// formed there with normal types. `Err` is want of memory.
 pub fn gen_functor(alloc: Global, param: &Abs, body: Module) -> Result<Module, Mem>
     ensures { IfOk result (λ m. (ctx : List KindTree) → OkModule (extend ctx (kinds_of param.now)) (module_of body) → GenerativeGives ctx (kinds_of param.now) (body_of param.now) (module_of body) (module_of m)) }
 {

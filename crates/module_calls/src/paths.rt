@@ -21,8 +21,8 @@ use semantic_sigs::{Abs, Kinded, Module, Typed};
 use std::alloc::Global;
 use term_shorthands::variable;
 
-/// A path as a type. `WrongPath` comes exactly where the module is no type part, and `Escapes` where the type mentions a
-/// hidden type, whatever it is converted to.
+/// A path as a type, of a module that is well formed with normal types. `WrongPath` comes exactly where the module is no
+/// type part, and `Escapes` where the type mentions a hidden type, whatever it is converted to.
 pub fn path_type(alloc: Global, whole: Module) -> Result<Kinded, ModRefusal>
     ensures given { IfOk result (λ o. (ctx : List KindTree) → OkModule ctx (module_of whole) → TypeOfPath ctx (module_of whole) o.ty (kind_tree o.kind)) }
     ensures refused { IfErr result (λ e. IfSome (plain_why e) (λ why. (ctx : List KindTree) → OkModule ctx (module_of whole) → TypePathRefuses ctx (module_of whole) why)) }
@@ -38,8 +38,9 @@ pub fn path_type(alloc: Global, whole: Module) -> Result<Kinded, ModRefusal>
     Ok(Kinded { ty, kind })
 }
 
-/// A path as a value; the hidden types of an impure module are opened. `WrongPath` comes exactly where the module is no
-/// value part, and `Escapes` where the type mentions a hidden type, whatever it is converted to.
+/// A path as a value, of a module that is well formed with normal types; the hidden types of an impure one are opened.
+/// `WrongPath` comes exactly where the module is no value part, and `Escapes` where the type mentions a hidden type,
+/// whatever it is converted to.
 pub fn path_value(alloc: Global, whole: Module) -> Result<Typed, ModRefusal>
     ensures given { IfOk result (λ o. (ctx : List KindTree) → OkModule ctx (module_of whole) → ValueOfPath ctx (module_of whole) o.ty o.term) }
     ensures refused { IfErr result (λ e. IfSome (plain_why e) (λ why. (ctx : List KindTree) → OkModule ctx (module_of whole) → ValuePathRefuses ctx (module_of whole) why)) }
@@ -55,8 +56,8 @@ pub fn path_value(alloc: Global, whole: Module) -> Result<Typed, ModRefusal>
     Ok(Typed { ty, term })
 }
 
-/// A path as a signature. `WrongPath` comes exactly where the module is no signature part, and `Escapes` where the
-/// signature mentions a hidden type, whatever it is converted to.
+/// A path as a signature, of a module that is well formed with normal types. `WrongPath` comes exactly where the module is
+/// no signature part, and `Escapes` where the signature mentions a hidden type, whatever it is converted to.
 pub fn path_sig(alloc: Global, whole: Module) -> Result<Abs, ModRefusal>
     ensures given { IfOk result (λ x. (ctx : List KindTree) → OkModule ctx (module_of whole) → SigOfPath ctx (module_of whole) x) }
     ensures refused { IfErr result (λ e. IfSome (plain_why e) (λ why. (ctx : List KindTree) → OkModule ctx (module_of whole) → SigPathRefuses ctx (module_of whole) why)) }

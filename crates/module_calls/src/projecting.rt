@@ -27,8 +27,8 @@ use semantic_sigs::{Abs, Module, Sig, Witnesses, encode, find_field};
 use std::alloc::Global;
 use term_shorthands::{opens, pack_up, variable};
 
-/// `M.X`. An impure module is opened, and what it hides is packed again with the part. `NotStructure` comes exactly where
-/// M is no structure, and `NoPart` where the structure has no part X.
+/// `M.X`, M being well formed with normal types. An impure module is opened, and what it hides is packed again with the
+/// part. `NotStructure` comes exactly where M is no structure, and `NoPart` where the structure has no part X.
 pub fn project(alloc: Global, whole: Module, name: &Name) -> Result<Module, ModRefusal>
     ensures given { IfOk result (λ m. (ctx : List KindTree) → OkModule ctx (module_of whole) → Projected ctx (module_of whole) name.now (module_of m)) }
     ensures refused { IfErr result (λ e. IfSome (plain_why e) (λ why. ProjectRefuses (module_of whole) name.now why)) }
@@ -142,8 +142,8 @@ pub(crate) fn opened(alloc: Global, term: Term, sig: &Abs, body: Term) -> Result
     opens(alloc, count_of(sig.kinds()), term, &from, body)
 }
 
-/// The term of a module with the types that its signature hides packed into it; an impure one has them packed already.
-/// `Err` is want of memory.
+/// The term of a module, which is well formed with normal types, with the types that its signature hides packed into it;
+/// an impure one has them packed already. `Err` is want of memory.
 pub fn packed(alloc: Global, whole: Module) -> Result<Term, Mem>
     ensures { IfOk result (λ e. (ctx : List KindTree) → OkModule ctx (module_of whole) → Packed ctx (module_of whole) e) }
 {

@@ -34,7 +34,7 @@ use term_shorthands::{let_in, variable};
 
 /// A binding and the rest of a structure, which stands under the hidden types of the binding and its name. Where both are
 /// pure, the types that the first one keeps are put into the rest; else both are packed, the first one is opened, and
-/// what both hide is packed again. `Err` is want of memory.
+/// what both hide is packed again. Both are well formed with normal types. `Err` is want of memory.
 ///
 /// Rossberg, Russo and Dreyer, "F-ing modules", sections 4 and 7.
 pub fn seq_bind(alloc: Global, first: Module, rest: Module) -> Result<Module, Mem>
@@ -61,7 +61,7 @@ fn both_pure(first: Effect, rest: Effect) -> bool
 }
 
 /// `include M` and the rest, which stands under the hidden types of M, a name of its own and then the labels of M in their
-/// order. `NotStructure` comes exactly where M is no structure.
+/// order. Both are well formed with normal types. `NotStructure` comes exactly where M is no structure.
 pub fn include_bind(alloc: Global, first: Module, rest: Module) -> Result<Module, ModRefusal>
     ensures given { IfOk result (λ m. (ctx : List KindTree) → OkModule ctx (module_of first) → OkModule (extend ctx (kinds_of first.sig)) (module_of rest) → IncludeGives ctx (module_of first) (module_of rest) (module_of m)) }
     ensures refused { IfErr result (λ e. IfSome (plain_why e) (λ why. IncludeRefuses (module_of first) why)) }

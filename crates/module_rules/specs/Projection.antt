@@ -1,4 +1,4 @@
--- A field of a module.
+-- A field of a module (Rossberg, Russo, Dreyer, F-ing modules, sections 4 and 7).
 use Rattle.std.specs.Prelude.{zero, List, []}
 use Rattle.omega_kinds.specs.Kind.{Kind}
 use Rattle.omega_kinds.specs.declared.label.Label.{Label}

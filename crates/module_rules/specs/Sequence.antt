@@ -23,7 +23,8 @@ abbrev pub joined : Effect → Effect → Effect
 joined Pure e = e
 joined Impure e = Impure
 
--- the rest's term, in place of the one term variable of the binding under all those that opening its types brings
+-- the rest's term under the opens: n opened types bring n term variables where a binding has one, so each index from 1 on
+-- rises by n - 1, and none does where n is 0
 abbrev pub past_opens : List Kind → Term → Term
 past_opens ks e = ren_term same_index (lift (past_opened ks)) e
 

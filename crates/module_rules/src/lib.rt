@@ -1,7 +1,7 @@
 // The rules of modules and bindings: what each makes of premises that are elaborated already, and how it is refused.
 // Specifications and their laws only; the calls that follow them stand in a crate of their own above.
 // Stands on signatures and premise_laws.
-// Proved: each rule with a condition or a choice has exactly one conclusion or exactly one refusal.
+// Proved (`module_rules`): each rule with a condition or a choice has exactly one conclusion or exactly one refusal.
 #![tactic(auto)]
 
 ghost use Rattle.module_rules.specs.OneOutcome.{OneNamed, OneProjected, OneTypePath, OneValuePath, OneSigPath, OneGenerative, OneParts, OneApply, OneInclude, OneEnd, OneSequence, OneSeal, OneValueModule, OneTypeModule, OneSignatureModule};

@@ -1,7 +1,7 @@
 // The order of a package's quantifiers exists, is unique and stable.
 // Stands on explicit_laws.
-// Proved: least root paths; each ordered explicit signature has exactly one order of its quantifiers and exactly one norm,
-// which is ordered explicit and its own norm.
+// Proved (`norms`): least root paths; each ordered explicit signature has exactly one order of its quantifiers and exactly
+// one norm, which is ordered explicit and its own norm.
 #![tactic(auto)]
 
 ghost use Rattle.norm_laws.specs.Norms.{RootsFound, OneLeastRoot, OrderExists, OrderUnique, NormExists, NormUnique, NormKeeps, NormOfNorm};

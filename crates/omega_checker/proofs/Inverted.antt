@@ -180,7 +180,3 @@ pub get-at : (vars : List Ty) (n : ℕ) (t : Ty) → slice_get vars n ≡ Some t
 get-at [] n t e = none-some e
 get-at (u ∷ vars) zero t e = subst (λ w. At (u ∷ vars) zero w) (some-same e) At.here
 get-at (u ∷ vars) (suc n) t e = At.there (get-at vars n t e)
-
-pub at-get : {vars : List Ty} {n : ℕ} {t : Ty} → At vars n t → slice_get vars n ≡ Some t
-at-get At.here = refl
-at-get (At.there h) = at-get h

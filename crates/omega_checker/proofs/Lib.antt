@@ -1,5 +1,6 @@
 pub mod Trees
 pub mod ForCode
+pub mod VarSteps
 pub mod NormalAlready
 pub mod PutSteps
 pub mod CallSteps

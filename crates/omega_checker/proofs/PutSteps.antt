@@ -2,7 +2,7 @@
 use Rattle.std.proofs.Common.{◌≡◌, ℕ, zero, suc, ◌+◌, ◌≤◌, ◌↔◌, Bool as Truth, true, false, IsTrue, length, refl, sym, ap, ap₂, subst, ◌∙◌}
 use Rattle.std.proofs.lemmas.List.{length-map}
 use Rattle.omega_kinds.specs.Kind.{Kind}
-use Rattle.omega_types.specs.Ty.{Ty, Row}
+use Rattle.omega_types.specs.Ty.{Ty}
 use Rattle.omega_types.specs.Bound.{bound_of}
 use Rattle.omega_types.specs.Fields.{Pairs, row}
 use Rattle.omega_types.specs.Index.{Slot, taken, kept, slot, shift}

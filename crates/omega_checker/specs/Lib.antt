@@ -2,3 +2,4 @@ pub mod SameTy
 pub mod Found
 pub mod IsNormal
 pub mod Judgment
+pub mod Vars

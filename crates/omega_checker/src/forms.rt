@@ -1,5 +1,5 @@
 // The typing rule of each form, from the types of its parts.
-ghost use Rattle.std.specs.Prelude.{◌≡◌, zero, IfOk, reverse, slice_get};
+ghost use Rattle.std.specs.Prelude.{◌≡◌, zero, IfOk};
 ghost use Rattle.std.specs.Option.{option_map};
 ghost use Rattle.std.specs.Ordering.{is_eq};
 ghost use Rattle.omega_kinds.specs.LabelOrder.{label_cmp};
@@ -10,7 +10,7 @@ ghost use Rattle.omega_types.specs.Scope.{scope_of};
 ghost use Rattle.omega_types.specs.Ty.{Ty as TyTree};
 ghost use Rattle.omega_types.specs.View.{ty_of};
 ghost use Rattle.type_normal.specs.Mentioned.{is_mentioned};
-ghost use Rattle.omega_terms.specs.Typing.{shift_all, result_type};
+ghost use Rattle.omega_terms.specs.Typing.{result_type};
 ghost use Rattle.omega_checker.specs.Found.{normal_at as normal_at_of, put_normal as put_normal_of, call_type, inst_type, part_at as part_at_of, get_type, pack_type, lowered as lowered_of, if_type, op_type, fix_type};
 ghost use Rattle.omega_checker.specs.SameTy.{same_ty};
 
@@ -20,7 +20,7 @@ use omega_kinds::{Kind, Label, Mem, compare, same_kind};
 use omega_terms::Op;
 use omega_types::{Ty, TyFields, TyNode, kind_of};
 use std::alloc::Global;
-use type_normal::{NormalTy, as_normal, hsubst, lower, mentions, normal, plain, raise, same};
+use type_normal::{NormalTy, as_normal, hsubst, lower, mentions, normal, plain, same};
 
 // The kind of a type, and none where it has none.
 fn find_kind(alloc: Global, ctx: &[Kind], ty: &Ty) -> Result<Option<Kind>, Mem>
@@ -81,28 +81,6 @@ pub(crate) fn part(ty: &Ty) -> Result<NormalTy, Mem>
     ensures { IfOk result (λ t. t ≡ ty.now) }
 {
     Ok(as_normal(ty.share()?))
-}
-
-/// The type of a term variable, whose list has the innermost last, and none where no variable has that index.
-pub(crate) fn variable(vars: &[NormalTy], index: u64) -> Result<Option<NormalTy>, Mem>
-    ensures { IfOk result (λ o. o ≡ slice_get (reverse vars.now) index) }
-{
-    if index < vars.len() as u64 {
-        Ok(Some(vars[vars.len() - 1 - index as usize].share()?))
-    } else {
-        Ok(None)
-    }
-}
-
-/// The types of the term variables under one more type variable. `Err` is want of memory.
-pub(crate) fn raised(alloc: Global, vars: &[NormalTy]) -> Result<Vec<NormalTy>, Mem>
-    ensures { IfOk result (λ v. reverse v.items ≡ shift_all (reverse vars.now)) }
-{
-    let mut above = Vec::new(alloc);
-    for ty in vars {
-        above.push(raise(alloc, ty, 1, 0)?)?;
-    }
-    Ok(above)
 }
 
 /// The type of a call.

@@ -9,5 +9,6 @@ mod forms;
 mod normality;
 mod putting;
 mod synthesis;
+mod vars;
 
 pub use checked::{Checked, check};

@@ -1,5 +1,5 @@
 // The normal type of a term.
-ghost use Rattle.std.specs.Prelude.{◌≡◌, ◌∷◌, [], IfOk, OnOk, reverse, if◌then◌else◌, None, Some};
+ghost use Rattle.std.specs.Prelude.{◌≡◌, ◌∷◌, [], IfOk, OnOk, if◌then◌else◌, None, Some};
 ghost use Rattle.std.specs.Option.{option_map};
 ghost use Rattle.omega_kinds.specs.View.{kind_tree};
 ghost use Rattle.omega_types.specs.Scope.{scope_of};
@@ -8,11 +8,13 @@ ghost use Rattle.omega_terms.specs.Fields.{term_row};
 ghost use Rattle.omega_terms.specs.Term.{Term as TermTree};
 ghost use Rattle.omega_terms.specs.Typing.{shift_all};
 ghost use Rattle.omega_checker.specs.Found.{synth_in, synth_row, and_then, call_type, of_package, lowered as lowered_of, fix_type, labels_differ};
+ghost use Rattle.omega_checker.specs.Vars.{types_of};
 
 use crate::forms::{
     agree, arrow, called, chosen, computed, field_type, fixed, instantiated, lowered, make,
-    normal_at, packed, part, raised, variable,
+    normal_at, packed, part,
 };
+use crate::vars::Vars;
 use omega_kinds::{Kind, Mem};
 use omega_terms::{Op, Term, TermFields, TermNode};
 use omega_types::{Ty, TyFields, TyNode};
@@ -24,7 +26,7 @@ pub(crate) fn synthesise(alloc: Global, term: &Term) -> Result<Option<NormalTy>,
     ensures { IfOk result (λ o. o ≡ synth_in [] [] term.now) }
 {
     let mut kinds = Vec::new(alloc);
-    let mut vars = Vec::new(alloc);
+    let mut vars = Vars::new(alloc);
     synth(alloc, &mut kinds, &mut vars, term)
 }
 
@@ -33,15 +35,15 @@ pub(crate) fn synthesise(alloc: Global, term: &Term) -> Result<Option<NormalTy>,
 fn synth(
     alloc: Global,
     kinds: &mut Vec<Kind>,
-    vars: &mut Vec<NormalTy>,
+    vars: &mut Vars,
     term: &Term,
 ) -> Result<Option<NormalTy>, Mem>
     ensures kinds { OnOk result (scope_of kinds.new.items ≡ scope_of kinds.old.items) }
-    ensures vars { OnOk result (vars.new.items ≡ vars.old.items) }
-    ensures found { IfOk result (λ o. o ≡ synth_in (scope_of kinds.old.items) (reverse vars.old.items) term.now) }
+    ensures vars { OnOk result (vars.new ≡ vars.old) }
+    ensures found { IfOk result (λ o. o ≡ synth_in (scope_of kinds.old.items) (types_of vars.old) term.now) }
 {
     match term.node() {
-        TermNode::Var(index) => variable(vars, *index),
+        TermNode::Var(index) => vars.find(alloc, *index),
         TermNode::Int(_) => Ok(Some(make(alloc, TyNode::Int)?)),
         TermNode::Bool(_) => Ok(Some(make(alloc, TyNode::Bool)?)),
         TermNode::Text(_) => Ok(Some(make(alloc, TyNode::Text)?)),
@@ -81,13 +83,13 @@ fn synth(
 fn synth_call(
     alloc: Global,
     kinds: &mut Vec<Kind>,
-    vars: &mut Vec<NormalTy>,
+    vars: &mut Vars,
     function: &Term,
     arg: &Term,
 ) -> Result<Option<NormalTy>, Mem>
     ensures kinds { OnOk result (scope_of kinds.new.items ≡ scope_of kinds.old.items) }
-    ensures vars { OnOk result (vars.new.items ≡ vars.old.items) }
-    ensures found { IfOk result (λ o. o ≡ synth_in (scope_of kinds.old.items) (reverse vars.old.items) (TermTree.Call function.now arg.now)) }
+    ensures vars { OnOk result (vars.new ≡ vars.old) }
+    ensures found { IfOk result (λ o. o ≡ synth_in (scope_of kinds.old.items) (types_of vars.old) (TermTree.Call function.now arg.now)) }
 {
     let Some(found) = synth(alloc, kinds, vars, arg)? else {
         return Ok(None);
@@ -109,13 +111,13 @@ fn synth_call(
 fn synth_applied(
     alloc: Global,
     kinds: &mut Vec<Kind>,
-    vars: &mut Vec<NormalTy>,
+    vars: &mut Vars,
     function: &Term,
     arg: NormalTy,
 ) -> Result<Option<NormalTy>, Mem>
     ensures kinds { OnOk result (scope_of kinds.new.items ≡ scope_of kinds.old.items) }
-    ensures vars { OnOk result (vars.new.items ≡ vars.old.items) }
-    ensures found { IfOk result (λ o. o ≡ call_type (synth_in (scope_of kinds.old.items) (reverse vars.old.items) function.now) (Some arg)) }
+    ensures vars { OnOk result (vars.new ≡ vars.old) }
+    ensures found { IfOk result (λ o. o ≡ call_type (synth_in (scope_of kinds.old.items) (types_of vars.old) function.now) (Some arg)) }
 {
     let function = synth(alloc, kinds, vars, function)?;
     called(function, Some(arg))
@@ -123,16 +125,17 @@ fn synth_applied(
 
 // The type of a term under one more variable of this type.
 #[cycle(synth)]
+#[tactic(auto, using(crate::proofs::VarSteps::var_steps, crate::proofs::VarSteps::still_last))]
 fn synth_bound(
     alloc: Global,
     kinds: &mut Vec<Kind>,
-    vars: &mut Vec<NormalTy>,
+    vars: &mut Vars,
     ty: NormalTy,
     body: &Term,
 ) -> Result<Option<NormalTy>, Mem>
     ensures kinds { OnOk result (scope_of kinds.new.items ≡ scope_of kinds.old.items) }
-    ensures vars { OnOk result (vars.new.items ≡ vars.old.items) }
-    ensures found { IfOk result (λ o. o ≡ synth_in (scope_of kinds.old.items) (ty ∷ reverse vars.old.items) body.now) }
+    ensures vars { OnOk result (vars.new ≡ vars.old) }
+    ensures found { IfOk result (λ o. o ≡ synth_in (scope_of kinds.old.items) (ty ∷ types_of vars.old) body.now) }
 {
     vars.push(ty)?;
     let found = synth(alloc, kinds, vars, body)?;
@@ -146,14 +149,14 @@ fn synth_bound(
 fn synth_package(
     alloc: Global,
     kinds: &mut Vec<Kind>,
-    vars: &mut Vec<NormalTy>,
+    vars: &mut Vars,
     hidden: &Ty,
     body: &Term,
     target: &Ty,
 ) -> Result<Option<NormalTy>, Mem>
     ensures kinds { OnOk result (scope_of kinds.new.items ≡ scope_of kinds.old.items) }
-    ensures vars { OnOk result (vars.new.items ≡ vars.old.items) }
-    ensures found { IfOk result (λ o. o ≡ synth_in (scope_of kinds.old.items) (reverse vars.old.items) (TermTree.Pack hidden.now body.now target.now)) }
+    ensures vars { OnOk result (vars.new ≡ vars.old) }
+    ensures found { IfOk result (λ o. o ≡ synth_in (scope_of kinds.old.items) (types_of vars.old) (TermTree.Pack hidden.now body.now target.now)) }
 {
     let target = normal_at(alloc, kinds, target, &Kind::Star)?;
     let body = synth(alloc, kinds, vars, body)?;
@@ -166,14 +169,14 @@ fn synth_package(
 fn synth_choice(
     alloc: Global,
     kinds: &mut Vec<Kind>,
-    vars: &mut Vec<NormalTy>,
+    vars: &mut Vars,
     test: &Term,
     yes: &Term,
     no: &Term,
 ) -> Result<Option<NormalTy>, Mem>
     ensures kinds { OnOk result (scope_of kinds.new.items ≡ scope_of kinds.old.items) }
-    ensures vars { OnOk result (vars.new.items ≡ vars.old.items) }
-    ensures found { IfOk result (λ o. o ≡ synth_in (scope_of kinds.old.items) (reverse vars.old.items) (TermTree.If test.now yes.now no.now)) }
+    ensures vars { OnOk result (vars.new ≡ vars.old) }
+    ensures found { IfOk result (λ o. o ≡ synth_in (scope_of kinds.old.items) (types_of vars.old) (TermTree.If test.now yes.now no.now)) }
 {
     let test = synth(alloc, kinds, vars, test)?;
     let yes = synth(alloc, kinds, vars, yes)?;
@@ -187,14 +190,14 @@ fn synth_choice(
 fn synth_arith(
     alloc: Global,
     kinds: &mut Vec<Kind>,
-    vars: &mut Vec<NormalTy>,
+    vars: &mut Vars,
     op: Op,
     left: &Term,
     right: &Term,
 ) -> Result<Option<NormalTy>, Mem>
     ensures kinds { OnOk result (scope_of kinds.new.items ≡ scope_of kinds.old.items) }
-    ensures vars { OnOk result (vars.new.items ≡ vars.old.items) }
-    ensures found { IfOk result (λ o. o ≡ synth_in (scope_of kinds.old.items) (reverse vars.old.items) (TermTree.Arith op left.now right.now)) }
+    ensures vars { OnOk result (vars.new ≡ vars.old) }
+    ensures found { IfOk result (λ o. o ≡ synth_in (scope_of kinds.old.items) (types_of vars.old) (TermTree.Arith op left.now right.now)) }
 {
     let left = synth(alloc, kinds, vars, left)?;
     let right = synth(alloc, kinds, vars, right)?;
@@ -206,13 +209,13 @@ fn synth_arith(
 fn synth_function(
     alloc: Global,
     kinds: &mut Vec<Kind>,
-    vars: &mut Vec<NormalTy>,
+    vars: &mut Vars,
     from: Option<NormalTy>,
     body: &Term,
 ) -> Result<Option<NormalTy>, Mem>
     ensures kinds { OnOk result (scope_of kinds.new.items ≡ scope_of kinds.old.items) }
-    ensures vars { OnOk result (vars.new.items ≡ vars.old.items) }
-    ensures found { IfOk result (λ o. o ≡ and_then from (λ n. option_map (TyTree.Arrow n) (synth_in (scope_of kinds.old.items) (n ∷ reverse vars.old.items) body.now))) }
+    ensures vars { OnOk result (vars.new ≡ vars.old) }
+    ensures found { IfOk result (λ o. o ≡ and_then from (λ n. option_map (TyTree.Arrow n) (synth_in (scope_of kinds.old.items) (n ∷ types_of vars.old) body.now))) }
 {
     let Some(from) = from else {
         return Ok(None);
@@ -226,21 +229,23 @@ fn synth_function(
 
 // The type of a function from types.
 #[cycle(synth)]
+#[tactic(auto, using(crate::proofs::VarSteps::var_steps, crate::proofs::VarSteps::still_last))]
 fn synth_type_function(
     alloc: Global,
     kinds: &mut Vec<Kind>,
-    vars: &mut Vec<NormalTy>,
+    vars: &mut Vars,
     kind: &Kind,
     body: &Term,
 ) -> Result<Option<NormalTy>, Mem>
     ensures kinds { OnOk result (scope_of kinds.new.items ≡ scope_of kinds.old.items) }
-    ensures vars { OnOk result (vars.new.items ≡ vars.old.items) }
-    ensures found { IfOk result (λ o. o ≡ option_map (TyTree.All (kind_tree kind.now)) (synth_in (kind_tree kind.now ∷ scope_of kinds.old.items) (shift_all (reverse vars.old.items)) body.now)) }
+    ensures vars { OnOk result (vars.new ≡ vars.old) }
+    ensures found { IfOk result (λ o. o ≡ option_map (TyTree.All (kind_tree kind.now)) (synth_in (kind_tree kind.now ∷ scope_of kinds.old.items) (shift_all (types_of vars.old)) body.now)) }
 {
-    let mut above = raised(alloc, vars)?;
+    vars.push_type()?;
     kinds.push(kind.share()?)?;
-    let found = synth(alloc, kinds, &mut above, body)?;
+    let found = synth(alloc, kinds, vars, body)?;
     kinds.pop();
+    vars.pop_type();
     match found {
         Some(ty) => Ok(Some(make(alloc, TyNode::All(kind.share()?, plain(&ty).share()?))?)),
         None => Ok(None),
@@ -249,16 +254,17 @@ fn synth_type_function(
 
 // The type of an opened package, from that of the package.
 #[cycle(synth)]
+#[tactic(auto, using(crate::proofs::VarSteps::var_steps, crate::proofs::VarSteps::still_last))]
 fn synth_opened(
     alloc: Global,
     kinds: &mut Vec<Kind>,
-    vars: &mut Vec<NormalTy>,
+    vars: &mut Vars,
     opened: Option<NormalTy>,
     body: &Term,
 ) -> Result<Option<NormalTy>, Mem>
     ensures kinds { OnOk result (scope_of kinds.new.items ≡ scope_of kinds.old.items) }
-    ensures vars { OnOk result (vars.new.items ≡ vars.old.items) }
-    ensures found { IfOk result (λ o. o ≡ and_then opened (λ s. of_package s (λ k b. lowered_of (synth_in (k ∷ scope_of kinds.old.items) (b ∷ shift_all (reverse vars.old.items)) body.now)))) }
+    ensures vars { OnOk result (vars.new ≡ vars.old) }
+    ensures found { IfOk result (λ o. o ≡ and_then opened (λ s. of_package s (λ k b. lowered_of (synth_in (k ∷ scope_of kinds.old.items) (b ∷ shift_all (types_of vars.old)) body.now)))) }
 {
     let Some(package) = opened else {
         return Ok(None);
@@ -266,27 +272,30 @@ fn synth_opened(
     let TyNode::Ex(kind, inner) = plain(&package).node() else {
         return Ok(None);
     };
-    let mut above = raised(alloc, vars)?;
-    above.push(part(inner)?)?;
+    vars.push_type()?;
+    vars.push(part(inner)?)?;
     kinds.push(kind.share()?)?;
-    let found = synth(alloc, kinds, &mut above, body)?;
+    let found = synth(alloc, kinds, vars, body)?;
     kinds.pop();
+    vars.pop();
+    vars.pop_type();
     lowered(alloc, found)
 }
 
 // The type of a function that calls itself, from those that it says: in its body stand the function and its argument.
 #[cycle(synth)]
+#[tactic(auto, using(crate::proofs::VarSteps::var_steps, crate::proofs::VarSteps::still_last))]
 fn synth_fix(
     alloc: Global,
     kinds: &mut Vec<Kind>,
-    vars: &mut Vec<NormalTy>,
+    vars: &mut Vars,
     from: Option<NormalTy>,
     to: Option<NormalTy>,
     body: &Term,
 ) -> Result<Option<NormalTy>, Mem>
     ensures kinds { OnOk result (scope_of kinds.new.items ≡ scope_of kinds.old.items) }
-    ensures vars { OnOk result (vars.new.items ≡ vars.old.items) }
-    ensures found { IfOk result (λ o. o ≡ and_then from (λ n. and_then to (λ m. fix_type n m (synth_in (scope_of kinds.old.items) (n ∷ (TyTree.Arrow n m ∷ reverse vars.old.items)) body.now)))) }
+    ensures vars { OnOk result (vars.new ≡ vars.old) }
+    ensures found { IfOk result (λ o. o ≡ and_then from (λ n. and_then to (λ m. fix_type n m (synth_in (scope_of kinds.old.items) (n ∷ (TyTree.Arrow n m ∷ types_of vars.old)) body.now)))) }
 {
     let (Some(from), Some(to)) = (from, to) else {
         return Ok(None);
@@ -306,12 +315,12 @@ fn synth_fix(
 fn synth_fields(
     alloc: Global,
     kinds: &mut Vec<Kind>,
-    vars: &mut Vec<NormalTy>,
+    vars: &mut Vars,
     fields: &TermFields,
 ) -> Result<Option<NormalTy>, Mem>
     ensures kinds { OnOk result (scope_of kinds.new.items ≡ scope_of kinds.old.items) }
-    ensures vars { OnOk result (vars.new.items ≡ vars.old.items) }
-    ensures found { IfOk result (λ o. o ≡ (if labels_differ (term_row fields.now) then option_map TyTree.Fields (synth_row (scope_of kinds.old.items) (reverse vars.old.items) (term_row fields.now)) else None)) }
+    ensures vars { OnOk result (vars.new ≡ vars.old) }
+    ensures found { IfOk result (λ o. o ≡ (if labels_differ (term_row fields.now) then option_map TyTree.Fields (synth_row (scope_of kinds.old.items) (types_of vars.old) (term_row fields.now)) else None)) }
 {
     let mut types = TyFields::with_capacity(alloc, fields.items().len())?;
     for field in fields.items() {

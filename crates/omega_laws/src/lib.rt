@@ -1,7 +1,7 @@
 // What typing says of reduction, and what a checker that synthesises types finds.
 // Stands on omega_terms.
-// Proved: steps keep types, no term reached from a typed one is stuck, each budget has exactly one outcome;
-// synthesis finds exactly the types that the typing rules give, and one in normal form.
+// Proved: steps keep types, no term reached from a typed one is stuck, each budget has exactly one outcome (`reduction`);
+// synthesis finds exactly the types that the typing rules give, and one in normal form (`synthesis`).
 #![tactic(auto)]
 
 ghost use Rattle.omega_laws.specs.Reduction.{TypesAreUnique, StepsKeepTypes, ReachedIsTyped, BudgetsHaveOutcomes};

@@ -1,16 +1,12 @@
 -- Each move keeps the term and leaves less work.
-use Rattle.std.proofs.Common.{◌≡◌, ℕ, zero, suc, ◌+◌, ◌*◌, ◌<◌, ◌≤◌, List, [], ◌∷◌, ◌++◌, length, map, take, drop, get_or, Option, Some, None, refl, sym, ap, ap₂, ◌∙◌, subst, arith, drop-cons, append_assoc, length-append, Bool as Truth, ℤ, ◌⊎◌, inl, inr}
+use Rattle.std.proofs.Common.{◌≡◌, ℕ, zero, suc, ◌+◌, ◌*◌, ◌<◌, ◌≤◌, List, [], ◌∷◌, ◌++◌, length, map, take, drop, get_or, Option, Some, None, refl, sym, ap, ap₂, ◌∙◌, subst, arith, drop-cons, append_assoc, length-append, ◌⊎◌, inl, inr}
 use Rattle.std.proofs.lemmas.List.{drop_all}
 use Rattle.std.proofs.lemmas.Option.{slice_get_cases}
 use Rattle.std.proofs.Math.Seq.{take-suc}
 use Rattle.std.specs.List.{slice_get}
 use Rattle.std.specs.Option.{option_map}
 use Rattle.omega_kinds.specs.declared.label.Label.{Label}
-use Rattle.omega_kinds.specs.declared.name.Name.{Name}
-use Rattle.omega_kinds.specs.declared.kind.Kind.{Kind as KindHandle}
 use Rattle.omega_types.specs.Ty.{Ty}
-use Rattle.omega_types.specs.declared.tree.Ty.{Ty as TyHandle}
-use Rattle.omega_terms.specs.declared.tree.Term.{Term as TermHandle}
 use Rattle.omega_terms.specs.declared.tree.TermFields.{TermFields}
 use Rattle.omega_kinds.specs.LabelOrder.{LabelBefore}
 use Rattle.omega_types.specs.Fields.{Rises, MayFollow}
@@ -199,31 +195,11 @@ no-part whole done ds o e b d p q r = by-place (slice_get_cases (fields_of whole
     by-place (inl (x, h, g, k)) = absurd (let z : None ≡ Some x.1 = sym q ∙ (p ∙ (ap (λ ys. option_map (λ (y : Label × Term). y.1) (slice_get (fields_of whole) (length ys))) d ∙ ap (option_map (λ (y : Label × Term). y.1)) g)) in cc)
     by-place (inr (h, g)) = to-record whole done e b h r
 
--- ---- values that need no reduction
-
-abbrev pub IsLeaf : TermNode → Type 0
-IsLeaf n = ((z : ℤ) × (n ≡ node.Int z)) ⊎ (((b : Truth) × (n ≡ node.Bool b)) ⊎ (((s : Name) × (n ≡ node.Text s)) ⊎ (((t : TyHandle) × (e : TermHandle) × (n ≡ node.Lam t e)) ⊎ (((k : KindHandle) × (e : TermHandle) × (n ≡ node.TyLam k e)) ⊎ ((t : TyHandle) × (u : TyHandle) × (e : TermHandle) × (n ≡ node.Fix t u e))))))
-
-leaf-value : (n : TermNode) → IsLeaf n → IsValue (term_of n)
-leaf-value n (inl (z, p)) = subst (λ m. IsValue (term_of m)) (sym p) IsValue.int
-leaf-value n (inr (inl (b, p))) = subst (λ m. IsValue (term_of m)) (sym p) IsValue.bool
-leaf-value n (inr (inr (inl (s, p)))) = subst (λ m. IsValue (term_of m)) (sym p) IsValue.text
-leaf-value n (inr (inr (inr (inl (t, e, p))))) = subst (λ m. IsValue (term_of m)) (sym p) IsValue.lam
-leaf-value n (inr (inr (inr (inr (inl (k, e, p)))))) = subst (λ m. IsValue (term_of m)) (sym p) IsValue.ty_lam
-leaf-value n (inr (inr (inr (inr (inr (t, u, e, p)))))) = subst (λ m. IsValue (term_of m)) (sym p) IsValue.fix
-
-pub enter-leaf : (n : TermNode) (e copy : Term) → IsLeaf n → term_of n ≡ e → copy ≡ e → Moves e (3 * term_size e) (move.Up copy)
-enter-leaf n e copy h p q = goes-up copy e q (subst IsValue p (leaf-value n h))
-
 -- ---- on from frames
 
 pub pack-value : (t u : Ty) (v e : Term) (f : Waiting) → f ≡ waiting.Packed t u → IsValue v → e ≡ Term.Pack t v u → Moves (fill_waiting f v) (waiting_work f) (move.Up e)
 pack-value t u v e f p h q =
     subst (λ g. Moves (fill_waiting g v) (waiting_work g) (move.Up e)) (sym p) (record { same = q; sound = subst IsValue (sym q) (IsValue.pack h); less = omega arith })
-
-pub after-field : (whole : Term) (done d : TermPairs) (v : Term) (f : Waiting) (m : Move) → f ≡ waiting.Field whole done → with_done whole d ≡ fill_waiting (waiting.Field whole done) v → left whole d ≡ rest whole done → Moves (with_done whole d) (3 * pairs_size (left whole d) + 1) m → Moves (fill_waiting f v) (waiting_work f) m
-after-field whole done d v f m p q r h =
-    subst (λ g. Moves (fill_waiting g v) (waiting_work g) m) (sym p) (record { same = h.same ∙ q; sound = h.sound; less = omega (arith, h.less, ap pairs_size r) })
 
 -- what the code finds at the number of fields that are done
 pub at-done : (done ds fs : TermPairs) (x : Label × Term) → ds ≡ done → length ds < length fs → x ≡ get_or fs (length ds) x → (length done < length fs) × (x ≡ get_or fs (length done) x)

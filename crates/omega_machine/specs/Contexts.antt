@@ -1,4 +1,5 @@
--- Evaluation contexts: frames, and the closed term that stands where a term is put into their hole.
+-- Evaluation contexts: frames, and the closed term that stands where a term is put into their hole (Felleisen and Hieb, "The
+-- revised report on the syntactic theories of sequential control and state", 1992).
 use Rattle.std.specs.Prelude.{◌+◌, List, [], ◌∷◌, ◌++◌, length, drop}
 use Rattle.omega_terms.specs.Term.{Term, TermRow}
 use Rattle.omega_terms.specs.Fields.{TermPairs, term_row}

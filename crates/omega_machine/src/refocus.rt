@@ -55,11 +55,14 @@ pub(crate) fn refocus(alloc: Global, frames: &mut Vec<Frame>, focus: Focus) -> R
     }
 }
 
-// To the first part of a term that is to be reduced, or up with a value.
+// Up with a value; else to the first part of a term that is to be reduced.
 fn enter(alloc: Global, term: &Term) -> Result<Move, Mem>
     requires { IsTyped term.now }
     ensures { IfOk result (λ m. Moves term.now (3 * term_size term.now) m) }
 {
+    if term.is_value() {
+        return Ok(Move::Up(term.share()?));
+    }
     match term.node() {
         TermNode::Call(f, a) => down(Frame::Waiting(Waiting::Function(a.share()?)), f),
         TermNode::Inst(e, t) => down(Frame::Ready(Ready::Instance(t.share()?)), e),
@@ -74,7 +77,7 @@ fn enter(alloc: Global, term: &Term) -> Result<Move, Mem>
         | TermNode::Text(_)
         | TermNode::Lam(_, _)
         | TermNode::TyLam(_, _)
-        | TermNode::Fix(_, _, _) => Ok(Move::Up(term.share()?)),
+        | TermNode::Fix(_, _, _) => unreachable!(),
         TermNode::Var(_) => unreachable!(),
     }
 }

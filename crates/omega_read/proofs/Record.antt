@@ -114,10 +114,3 @@ fields_spent end more f xs turns i bytes total le so_far =
     let k : turns - i ≡ 0 = omega arith in
     let one : with_front more xs (fields_at end more f (turns - i) (last_of xs) bytes) ≡ None = rw k refl in
     sym so_far ∙ one
-
-front_none : {T R : Type 0} (more : Label → T → R → R) (read : Option (R × List ℕ)) → with_front more [] read ≡ read
-front_none more (Some r) = refl
-front_none more None = refl
-
-pub fields_begin : {T R : Type 0} (end : R) (more : Label → T → R → R) (f : Reader T) (turns : ℕ) (bytes : List ℕ) → with_front more [] (fields_at end more f (turns - 0) None bytes) ≡ fields_at end more f turns None bytes
-fields_begin end more f turns bytes = let k : turns - 0 ≡ turns = omega arith in rw k (front_none more (fields_at end more f turns None bytes))

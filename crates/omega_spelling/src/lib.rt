@@ -1,7 +1,8 @@
 // Reading the text of System Fω, on lists of bytes, and why bytes are refused as such a text.
 // Stands on omega_terms, whose definitions say how each tree is spelled.
-// Proved: a text is the text of one type and one term; reading on lists gives exactly what the bytes spell, where no
-// more than 4,000 parentheses are open; exactly one refusal holds of all other bytes, and none of those that are read.
+// Proved: a text is the text of one type and one term (`one_text`); reading on lists gives exactly what the bytes spell,
+// where no more than 4,000 parentheses are open (`reading_is_exact`); exactly one refusal holds of all other bytes
+// (`one_refusal`), and none of those that are read (`texts_are_not_refused`).
 #![tactic(auto)]
 
 ghost use Rattle.std.specs.Prelude.{◌≡◌, ◌↔◌, ◌⊎◌, List, ℕ, Some, false};

@@ -1,5 +1,7 @@
 -- The test for values is exact.
-use Rattle.std.proofs.Common.{◌↔◌, ◌&&◌, Bool as Truth, true, false, IsTrue, refl}
+use Rattle.std.proofs.Common.{◌≡◌, ◌↔◌, ◌&&◌, Bool as Truth, true, false, IsTrue, [], ◌∷◌, ◌++◌, refl, sym, ap, ◌∙◌}
+use Rattle.omega_kinds.specs.declared.label.Label.{Label}
+use Rattle.omega_terms.specs.Fields.{TermPairs, term_row}
 use Rattle.omega_terms.specs.Term.{Term, TermRow}
 use Rattle.omega_terms.specs.Steps.{IsValue, AreValues}
 use Rattle.omega_terms.specs.ValueTest.{value_test, values_test}
@@ -59,3 +61,16 @@ mutual
 
 pub test-exact : (e : Term) → IsTrue (value_test e) ↔ IsValue e
 test-exact e = (tested e, passes)
+
+and-true : (a : Truth) → a && true ≡ a
+and-true true = refl
+and-true false = refl
+
+and-assoc : (a b c : Truth) → (a && b) && c ≡ a && (b && c)
+and-assoc true b c = refl
+and-assoc false b c = refl
+
+-- one more field at the end
+pub values_test-push : (xs : TermPairs) (x : Label × Term) → values_test (term_row (xs ++ x ∷ [])) ≡ values_test (term_row xs) && value_test x.1
+values_test-push [] x = and-true (value_test x.1)
+values_test-push (y ∷ ys) x = ap (λ (b : Truth). value_test y.1 && b) (values_test-push ys x) ∙ sym (and-assoc (value_test y.1) (values_test (term_row ys)) (value_test x.1))

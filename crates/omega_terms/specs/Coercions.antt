@@ -38,7 +38,7 @@ functor_part from left right ks param ts f g =
     let result = Term.Get (Term.Call (insts (Term.Var 1) ts) (Term.Call f (Term.Var 0))) (result_label left) in
     Term.Lam from (ty_lam_over ks (Term.Lam param (Term.Fields (TermRow.More (result_label right) (Term.Call g result) TermRow.End))))
 
--- a signature that hides nothing against one that does: coerced by f, its types hidden
+-- a left side that hides nothing: coerced by f, and the types of the match packed, of which there may be none
 pub data MatchPart (ctx : List Kind) (from : Ty) (ts : List Ty) (f : Term) (to : Ty) : Term → Type 0 where
   made : {e : Term} → Packs ctx ts (Term.Call f (Term.Var zero)) to e → MatchPart ctx from ts f to (Term.Lam from e)
 

@@ -1,4 +1,5 @@
--- Values, steps and faults: call by value, left to right, by substitution, on closed terms.
+-- Values, steps and faults: call by value, left to right, by substitution, on closed terms (Pierce, "Types and Programming Languages",
+-- chapters 5, 23 and 24; arithmetic that does not fit and its faults are own).
 -- A record's fields stand in label order.
 use Rattle.std.specs.Prelude.{ℕ, zero, suc, List, ◌≡◌, ◌≢◌, Bool, true, false, cond, ◌&&◌, ℤ, pos, negsuc, ◌+ℤ◌, ◌-ℤ◌, ◌*ℤ◌, int_div, int_rem, int_lt, int_le, ◌^◌, ◌-◌, ◌≤◌}
 use Rattle.omega_kinds.specs.Kind.{Kind}

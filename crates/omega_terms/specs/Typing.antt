@@ -1,4 +1,4 @@
--- Typing: one rule for each form, and the rule of conversion.
+-- Typing: one rule for each form, and the rule of conversion (Pierce, "Types and Programming Languages", chapters 23, 24 and 30).
 -- The innermost type variable's kind is the first of ctx, the innermost term variable's type the first of vars.
 use Rattle.std.specs.Prelude.{ℕ, zero, suc, List, [], ◌∷◌, ◌≢◌, Bool, ℤ, ◌+◌}
 use Rattle.omega_kinds.specs.Kind.{Kind}
@@ -65,11 +65,6 @@ RenVars from to q r = (n : ℕ) (t : Ty) → At from n t → At to (r n) (rename
 -- s replaces the type variables; w gives each term variable a term of its type, replaced
 abbrev pub SubVars : List Ty → List Kind → List Ty → (ℕ → Ty) → (ℕ → Term) → Type 0
 SubVars from ctx to s w = (n : ℕ) (t : Ty) → At from n t → HasType ctx to (w n) (substitute s t)
-
--- the types with `by` more type variables before theirs
-abbrev pub raise_all : ℕ → List Ty → List Ty
-raise_all by [] = []
-raise_all by (t ∷ ts) = rename (λ n. n + by) t ∷ raise_all by ts
 
 -- a record type with any number of `some` round it
 abbrev pub IsPackedRecord : Ty → Type 0

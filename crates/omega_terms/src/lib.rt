@@ -1,6 +1,6 @@
 // Terms of System Fω: shared trees with de Bruijn indexes, and what typing, values, steps, faults and texts of terms are.
 // Stands on omega_kinds and omega_types.
-// Proved: `shift_term`, `put_term` and `put_type` are the operations of the definitions, `is_value` decides values and
+// Proved: `shift_term`, `put_term` and `put_type` are the operations of the definitions, `Term::is_value` decides values and
 // `nodes` counts; renaming and substitution keep types; typing with normal types is typing; each coercion term is typed
 // where its parts are.
 #![tactic(auto)]
@@ -12,7 +12,6 @@ pub mod putting_types;
 pub mod shifting;
 pub mod theory;
 pub mod tree;
-pub mod values;
 
 pub use counting::nodes;
 pub use op::Op;
@@ -21,4 +20,3 @@ pub use putting_types::put_type;
 pub use shifting::shift_term;
 pub use theory::{coercion_rows, typing};
 pub use tree::{Term, TermFields, TermNode};
-pub use values::is_value;

@@ -1,9 +1,11 @@
 // Terms, whose parts are shared.
-ghost use Rattle.std.specs.Prelude.{◌≡◌, ◌≤◌, ◌+◌, ◌++◌, ◌∷◌, [], IfOk, OnOk, OnErr, slice_get};
+ghost use Rattle.std.specs.Prelude.{◌≡◌, ◌↔◌, ◌≤◌, ◌+◌, ◌++◌, ◌∷◌, [], IsTrue, IfOk, OnOk, OnErr, slice_get};
 ghost use Rattle.std.specs.Option.{option_copied};
 ghost use Rattle.omega_types.specs.Fields.{Rises, MayFollow};
 ghost use Rattle.omega_terms.specs.Bound.{type_bound, term_bound, pairs_type_bound, pairs_term_bound};
 ghost use Rattle.omega_terms.specs.Height.{term_height};
+ghost use Rattle.omega_terms.specs.Steps.{IsValue};
+ghost use Rattle.omega_terms.specs.ValueTest.{value_test};
 ghost use Rattle.omega_terms.specs.View.{term_of};
 
 use crate::op::Op;
@@ -28,11 +30,12 @@ pub struct Term {
     made: Rc<Made>,
 }
 
-// A node with its extent, the forms of types counted too.
+// A node with its extent, the forms of types counted too, and whether it makes a value.
 #[cycle(term)]
 #[derive(Drop)]
 struct Made {
     extent: Extent,
+    is_value: bool,
     node: TermNode,
 }
 
@@ -66,6 +69,7 @@ pub struct TermFields {
     pairs: Vec<(Label, Term)>,
     // that of the parts beside each other
     extent: Extent,
+    are_values: bool,
 }
 
 impl Model for Term {
@@ -83,11 +87,12 @@ impl Model for Term {
 
     ghost use Rattle.omega_terms.specs.Bound.{type_bound as type_bound_of, term_bound as term_bound_of};
     ghost use Rattle.omega_terms.specs.Height.{term_height};
+    ghost use Rattle.omega_terms.specs.ValueTest.{value_test};
     ghost use Rattle.omega_terms.specs.View.{term_of};
 
     ghost view = { λ e. term_of e.made.value.node };
 
-    ghost invariant = { λ e. (e.type_bound ≡ type_bound_of (term_of e.made.value.node)) × (e.term_bound ≡ term_bound_of (term_of e.made.value.node)) × (term_height (term_of e.made.value.node) ≤ e.made.value.extent.height) × (e.made.value.extent.height ≤ 4096) };
+    ghost invariant = { λ e. (e.type_bound ≡ type_bound_of (term_of e.made.value.node)) × (e.term_bound ≡ term_bound_of (term_of e.made.value.node)) × (term_height (term_of e.made.value.node) ≤ e.made.value.extent.height) × (e.made.value.extent.height ≤ 4096) × (e.made.value.is_value ≡ value_test (term_of e.made.value.node)) };
 
     ghost use Rattle.omega_terms.specs.Falls.{made_le-term_size};
 
@@ -95,7 +100,7 @@ impl Model for Term {
 }
 
 impl Model for TermFields {
-    ghost use Rattle.std.specs.Prelude.{◌≤◌};
+    ghost use Rattle.std.specs.Prelude.{◌≡◌, ◌≤◌};
     ghost use Rattle.omega_terms.specs.Fields.{TermPairs};
     ghost use Rattle.omega_terms.specs.Code.{term_pairs_code};
 
@@ -108,11 +113,13 @@ impl Model for TermFields {
     ghost size = { pairs_size };
 
     ghost use Rattle.omega_types.specs.Fields.{Rises};
+    ghost use Rattle.omega_terms.specs.Fields.{term_row};
     ghost use Rattle.omega_terms.specs.Height.{pairs_height};
+    ghost use Rattle.omega_terms.specs.ValueTest.{values_test};
 
     ghost view = { λ f. f.pairs.items };
 
-    ghost invariant = { λ f. Rises f.pairs.items × (pairs_height f.pairs.items ≤ f.extent.height) };
+    ghost invariant = { λ f. Rises f.pairs.items × (pairs_height f.pairs.items ≤ f.extent.height) × (f.are_values ≡ values_test (term_row f.pairs.items)) };
 
     ghost use Rattle.omega_terms.specs.Falls.{deep_le-pairs_size};
 
@@ -128,10 +135,15 @@ impl Term {
         let type_bound = node.type_bound();
         let term_bound = node.term_bound()?;
         let extent = node.parts().over(1)?;
+        let made = Made {
+            extent,
+            is_value: node.is_value(),
+            node,
+        };
         Ok(Term {
             type_bound,
             term_bound,
-            made: Rc::new(alloc, Made { extent, node })?,
+            made: Rc::new(alloc, made)?,
         })
     }
 
@@ -149,6 +161,17 @@ impl Term {
         ensures high { result.height ≤ 4096 }
     {
         self.made.extent
+    }
+
+    /// Whether the term is a value: a number, a truth value, a text, a function of any of the three forms, or a record or a
+    /// package of values. Takes one step.
+    ///
+    /// Pierce, "Types and Programming Languages", figures 11-7, 24-1 and 30-1, Values.
+    pub fn is_value(&self) -> bool
+        ensures value { IsTrue result ↔ IsValue self.now }
+        ensures test { result ≡ value_test self.now }
+    {
+        self.made.is_value
     }
 
     /// The same term, with its parts shared. `Err` is want of memory.
@@ -220,6 +243,25 @@ impl TermNode {
         }
     }
 
+    // Whether the node makes a value.
+    fn is_value(&self) -> bool
+        ensures { result ≡ value_test (term_of self.now) }
+    {
+        match self {
+            TermNode::Int(_) | TermNode::Bool(_) | TermNode::Text(_) => true,
+            TermNode::Lam(_, _) | TermNode::TyLam(_, _) | TermNode::Fix(_, _, _) => true,
+            TermNode::Fields(fields) => fields.are_values,
+            TermNode::Pack(_, e, _) => e.is_value(),
+            TermNode::Var(_)
+            | TermNode::Call(_, _)
+            | TermNode::Inst(_, _)
+            | TermNode::Get(_, _)
+            | TermNode::Unpack(_, _)
+            | TermNode::If(_, _, _)
+            | TermNode::Arith(_, _, _) => false,
+        }
+    }
+
     // The extent of the parts beside each other.
     fn parts(&self) -> Extent
         ensures { term_height (term_of self.now) ≤ result.height + 1 }
@@ -249,6 +291,7 @@ impl TermFields {
         TermFields {
             pairs: Vec::new(alloc),
             extent: NOTHING,
+            are_values: true,
         }
     }
 
@@ -259,6 +302,7 @@ impl TermFields {
         Ok(TermFields {
             pairs: Vec::with_capacity(alloc, count)?,
             extent: NOTHING,
+            are_values: true,
         })
     }
 
@@ -270,8 +314,10 @@ impl TermFields {
         ensures err { OnErr result (self.new ≡ self.old) }
     {
         let extent = self.extent.beside(item.1.extent());
+        let are_values = self.are_values & item.1.is_value();
         self.pairs.push(item)?;
         self.extent = extent;
+        self.are_values = are_values;
         Ok(())
     }
 

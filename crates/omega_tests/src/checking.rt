@@ -1,4 +1,5 @@
-// A variable out of scope, a large term, a deep one, and a deep type that is normal. Worked examples, as texts, are in fing_tests.
+// A variable out of scope, a large term, a deep one, and a deep type that is normal. Worked examples, as texts, are in
+// fing_tests.
 use omega_checker::check;
 use omega_kinds::{Kind, Mem, arrow};
 use omega_terms::{Op, Term, TermNode};

@@ -1,7 +1,6 @@
 // Texts of each form, texts that are refused, and texts as deep as they may be.
 use omega_read::{ReadRefusal, read};
 use std::alloc::Global;
-use std::process::Abort;
 use std::test::Fail;
 
 // The type and the term of these two lines, with the line ends that a text has.

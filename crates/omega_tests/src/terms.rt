@@ -1,6 +1,6 @@
 // Worked terms that are shared, raised and filled.
 use omega_kinds::{Label, Mem, name_of};
-use omega_terms::{Term, TermFields, TermNode, is_value, nodes, put_term, put_type, shift_term};
+use omega_terms::{Term, TermFields, TermNode, nodes, put_term, put_type, shift_term};
 use omega_types::{Ty, TyNode};
 use std::alloc::Global;
 use std::test::Fail;
@@ -46,7 +46,7 @@ fn record(alloc: Global) -> Result<Term, Mem> {
 #[test]
 fn a_record_is_shared(rt: HostRuntime) -> Result<(), Fail> {
     let term = record(rt.alloc())?.share()?;
-    assert!(rt; is_value(&term));
+    assert!(rt; term.is_value());
     assert!(rt; nodes(&term) == 3);
     Ok(())
 }

@@ -3,9 +3,9 @@ ghost use Rattle.std.specs.Prelude.{IfOk};
 ghost use Rattle.omega_terms.specs.InScope.{TermInScope};
 
 use fing_text::MemSink;
-use omega_kinds::{Label, Mem, name_of};
-use omega_terms::{Op, Term, TermFields, TermNode};
-use omega_types::{Ty, TyFields, TyNode};
+use omega_kinds::Mem;
+use omega_terms::{Term, TermNode};
+use omega_types::{Ty, TyNode};
 use omega_write::write_omega;
 use std::alloc::Global;
 use std::test::Fail;

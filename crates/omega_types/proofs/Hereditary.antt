@@ -16,7 +16,7 @@ use Rattle.omega_types.specs.Normality.Normal.{n_lam, n_int, n_bool, n_text, n_a
 use Rattle.omega_types.specs.Normality.Normals.{n_end, n_more}
 use Rattle.omega_types.specs.Normality.Neutral.{n_var, n_apply}
 use Rattle.omega_types.specs.Normalises.{NormalForm, OneNormalForm, EachHasOne, InstanceHasOne, RenamingKeeps, SameExactlyWhereConvertible, NormaliserGives, HsubstGives}
-use Rattle.omega_types.specs.Index.{Slot, taken, kept, slot, fill, put, Inserts, i_here, i_there}
+use Rattle.omega_types.specs.Index.{Slot, fill, put, Inserts, i_here, i_there}
 use Rattle.omega_types.specs.Normaliser.{Args, Part, stuck, whole, tree, apply_part, fill_part, put_in, put_in_row, args, hsubst, eta, kind_at, beta, normal, normal_row}
 use Rattle.omega_types.proofs.Single.{put-under, Slotted, s_taken, s_other, slotted, substitute_at-zero}
 use Rattle.omega_types.proofs.Preservation.{maps-suc, normal-rename, neutral-rename, normal-kind, neutral-kind, fresh-substitute}
@@ -153,17 +153,3 @@ same_exactly ctx s t k n m = (λ e. subst (λ u. Conv ctx s u k) e (c_refl (norm
 pub data FromArgs : Part → Type 0 where
   a_stuck : {t : Ty} → FromArgs (stuck t)
   a_whole : {t : Ty} (k : Kind) → FromArgs (whole t k (args k))
-
-from-fill : (k : Kind) (a : Ty) (s : Slot) → FromArgs (fill_part k (args k) a s)
-from-fill k a taken = a_whole k
-from-fill k a (kept n) = a_stuck
-
-from-apply : {p : Part} (a : Ty) → FromArgs p → FromArgs (apply_part p a)
-from-apply a a_stuck = a_stuck
-from-apply a (a_whole {t = Ty.Lam j b} (Kind.Arrow k l)) = a_whole l
-from-apply a (a_whole _) = a_stuck
-
-pub put_in-from : (k : Kind) (i : ℕ) (a t : Ty) → FromArgs (put_in k (args k) i a t)
-put_in-from k i a (Ty.Var j) = from-fill k a (slot i j)
-put_in-from k i a (Ty.Apply f t) = from-apply (tree (put_in k (args k) i a t)) (put_in-from k i a f)
-put_in-from k i a _ = a_stuck

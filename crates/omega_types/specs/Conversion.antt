@@ -1,4 +1,5 @@
--- Conversion: the least congruent equivalence on well-kinded types with beta and eta.
+-- Conversion: the least congruent equivalence on well-kinded types with beta (Pierce, "Types and Programming Languages", figure 30-1)
+-- and eta (Harper and Pfenning, "On equivalence and canonical forms in the LF type theory", 2005).
 use Rattle.std.specs.Prelude.{zero, suc, List, ◌∷◌}
 use Rattle.omega_kinds.specs.Kind.{Kind}
 use Rattle.omega_kinds.specs.declared.label.Label.{Label}

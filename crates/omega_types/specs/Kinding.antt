@@ -1,4 +1,4 @@
--- The kinds of types. A context is a list of kinds, that of index 0 first.
+-- The kinds of types (Pierce, "Types and Programming Languages", chapter 29). A context is a list of kinds, that of index 0 first.
 use Rattle.std.specs.Prelude.{ℕ, zero, suc, List, ◌∷◌, ◌≢◌}
 use Rattle.omega_kinds.specs.Kind.{Kind}
 use Rattle.omega_kinds.specs.declared.label.Label.{Label}

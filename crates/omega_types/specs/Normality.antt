@@ -1,4 +1,5 @@
--- Normal types: beta-normal and eta-long.
+-- Normal types: beta-normal and eta-long (Harper and Pfenning, "On equivalence and canonical forms in the LF type theory",
+-- 2005).
 use Rattle.std.specs.Prelude.{ℕ, List, ◌∷◌}
 use Rattle.omega_kinds.specs.Kind.{Kind}
 use Rattle.omega_kinds.specs.declared.label.Label.{Label}

@@ -21,9 +21,9 @@ pub fn normal_forms()
 {}
 
 /// Normal forms are computed: hereditary substitution gives the normal form of a substitution, and the normaliser that
-/// it makes gives the normal form of each type of a kind. Renaming keeps normality, and lowering gives the one normal
-/// type that is raised to the given one. A type is convertible to one that does not mention a variable exactly where
-/// its normal form does not mention it.
+/// it makes gives the normal form of each type of a kind. Renaming keeps normality, and lowering a normal type that does
+/// not mention the variables left out gives a normal type that is raised to the given one. A type is convertible to one
+/// that does not mention a variable exactly where its normal form does not mention it.
 ///
 /// Keller and Altenkirch, "Hereditary substitutions for simple types, formalized" (2010).
 pub fn normalisers()
@@ -35,7 +35,8 @@ pub fn normalisers()
 {}
 
 /// A type has at most one kind; types of one kind are convertible exactly where their normal forms are the same tree;
-/// and conversion between types of one form is conversion between their parts.
+/// and where two function types, two universal types, two existential types or two record types are convertible, so are
+/// their parts.
 ///
 /// Pierce, "Types and Programming Languages", section 30.3, Properties.
 pub fn inversion()

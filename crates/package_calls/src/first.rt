@@ -1,11 +1,11 @@
-// The first variable that a signature lets take.
+// The first variable of a signature that may be taken.
 ghost use Rattle.std.specs.Prelude.{◌≡◌, ◌↔◌, ◌+◌, Some, None, length, IfOk, IsTrue, slice_get};
 ghost use Rattle.semantic_sigs.specs.Fields.{sig_row};
 ghost use Rattle.package_calls.specs.First.{first as first_of, first_row, first_type as first_type_of, barred, blocks};
 
-use crate::rooted::rooted;
 use omega_kinds::{Effect, Kinds, Mem};
 use omega_types::Ty;
+use root_paths::rooted::rooted;
 use semantic_sigs::{Sig, SigFields, SigNode, sig_mentions};
 use type_normal::plain;
 

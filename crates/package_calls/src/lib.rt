@@ -12,7 +12,6 @@ pub mod packing;
 pub mod refusal;
 mod renumbering;
 mod renumbering_types;
-mod rooted;
 
 pub use norms::norm;
 pub use packing::{pack_type, pack_value, unpack_module};

@@ -38,8 +38,8 @@ pub fn pack_type(alloc: Global, abs: &Abs) -> Result<Kinded, Mem>
 }
 
 /// `pack X : S`, where `found` is the term of X and `target` what `norm` gives for S, by a match of X against it: its types,
-/// and its coercion. The type is the encoding of `target`. `Err` is want of memory, also where an index would pass the last
-/// number.
+/// normal and of the kinds of `target`'s hidden types, and its coercion. The type is the encoding of `target`. `Err` is want
+/// of memory, also where an index would pass the last number.
 #[tactic(auto, using(crate::proofs::PackSteps::value_steps))]
 pub fn pack_value(
     alloc: Global,

@@ -4,7 +4,7 @@ use Rattle.std.proofs.Common.{arith}
 use Rattle.std.proofs.Math.Path.{refl, sym, ◌∙◌, ap, subst}
 use Rattle.omega_kinds.specs.Kind.{Kind}
 use Rattle.omega_types.specs.Ty.{Ty}
-use Rattle.omega_types.specs.Kinding.{Lookup, HasKind}
+use Rattle.omega_types.specs.Kinding.{HasKind}
 use Rattle.omega_types.specs.Kinding
 use Rattle.omega_types.specs.Kinding.HasKind.{k_var, k_lam, k_apply, k_ex}
 use Rattle.omega_types.specs.Conversion.Conv.{c_sym}
@@ -20,7 +20,7 @@ use Rattle.signatures.specs.Signatures.SigSubst.{rename_sig, raise_abs, sig_at}
 use Rattle.signatures.specs.Signatures.Alike.{ConvSig}
 use Rattle.signatures.specs.Signatures.Encoding.{enc_abs}
 use Rattle.signatures.specs.Explicit.SigPath.{SigPath, Item, PartAt, ParamOn}
-use Rattle.signatures.specs.Explicit.RootPath.{Rooted, root_path}
+use Rattle.signatures.specs.Explicit.RootPath.{Rooted}
 use Rattle.sig_laws.proofs.Formed.RootNumbers.{by_numbers}
 use Rattle.signatures.specs.Matching.Subtyping.{Sub, SubFields, SubAbs, Match}
 use Rattle.signatures.specs.QuantifierOrder.{NewOrder, reordered, renumber, NormSig, Norm, NormRow}

@@ -1,5 +1,6 @@
 pub mod FlipProofs
 pub mod NormMapped
+pub mod OneCondition
 pub mod OrderProofs
 pub mod Pairs
 pub mod SameLaws

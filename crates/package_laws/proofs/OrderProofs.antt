@@ -7,7 +7,7 @@ use Rattle.omega_kinds.specs.Kind.{Kind}
 use Rattle.omega_kinds.specs.declared.effect.Effect.TheVariants.{Pure}
 use Rattle.omega_types.specs.Ty.{Ty}
 use Rattle.omega_types.specs.Kinding
-use Rattle.omega_types.specs.Kinding.{Lookup, HasKind}
+use Rattle.omega_types.specs.Kinding.{HasKind}
 use Rattle.omega_types.specs.Kinding.HasKind.{k_var, k_apply}
 use Rattle.omega_types.specs.Conversion.Conv.{c_refl}
 use Rattle.omega_types.specs.Mentions.{Mentions}
@@ -22,7 +22,7 @@ use Rattle.signatures.specs.Signatures.Encoding.{enc_abs}
 use Rattle.signatures.specs.Signatures.SigMentions.{MentionsSig, Avoids, by_normal_form}
 use Rattle.sig_laws.specs.NormalSig.{normal_sig}
 use Rattle.signatures.specs.Explicit.SigPath.{SigPath, Item, PartAt, ParamOn}
-use Rattle.signatures.specs.Explicit.RootPath.{Rooted, ParamsAvoid, root_path}
+use Rattle.signatures.specs.Explicit.RootPath.{Rooted, ParamsAvoid}
 use Rattle.sig_laws.proofs.Formed.RootNumbers.{by_numbers}
 use Rattle.signatures.specs.Matching.Subtyping.{Sub, SubFields, SubResult, SubAbs, Match}
 use Rattle.signatures.specs.QuantifierOrder.{reordered, renumber, NormSig, Norm, NormRow}
@@ -74,7 +74,7 @@ each-type t u p q x y zero lt = (p, by_numbers lt x (λ j le f ds ks z on. absur
 each-type t u p q x y (suc zero) lt = (q, by_numbers lt y (λ j le f ds ks z on. absurd (no-params on)))
 each-type t u p q x y (suc (suc i)) lt = absurd (omega (arith, lt))
 
-b-after-a : Path (List ℕ) (98 ∷ []) (97 ∷ []) → ⊥
+pub b-after-a : Path (List ℕ) (98 ∷ []) (97 ∷ []) → ⊥
 b-after-a e = let h : nth (98 ∷ []) 0 ≡ nth (97 ∷ []) 0 = ap (λ l. nth l 0) e in omega (arith, h)
 
 param-explicit : (t u : Ty) → HasKind inner t Kind.Star → HasKind inner u Kind.Star → EachRooted outer two_stars (two_types t u) → Explicit outer (Abs.Ex two_stars (two_types t u))

@@ -11,6 +11,7 @@ use Rattle.signatures.specs.Matching.Subtyping.{SubAbs}
 use Rattle.signatures.specs.QuantifierOrder.{Norm}
 use Rattle.signatures.specs.Explicit.WellFormed.{WellFormedAbs, Explicit}
 use Rattle.package_laws.specs.SamePaths.{SameAbs}
+use Rattle.package_laws.specs.Conditions.{SameRoots, OneOrder, Anything, EachAbs}
 use Rattle.package_laws.specs.FlipExample.{f_first, g_first}
 use Rattle.package_laws.specs.OrderExample.{a_first, b_first}
 
@@ -18,7 +19,8 @@ use Rattle.package_laws.specs.OrderExample.{a_first, b_first}
 abbrev pub NormOfRenamed : Type 0
 NormOfRenamed = (ctx other : List Kind) (r : ℕ → ℕ) (x y : Abs) → Maps ctx other r → WellFormedAbs ctx x → Norm ctx x y → Norm other (rename_abs r x) (rename_abs r y)
 
--- ordered explicit signatures that match each other and whose hidden types are rooted at the same paths have one package type
+-- ordered explicit signatures that match each other, whose hidden types are rooted at the same paths, and in which the
+-- parameters of pure functors hide them in one order, have one package type
 abbrev pub OnePackageType : Type 0
 OnePackageType = (ctx : List Kind) (x y n m : Abs) (f g : Term) → NormalAbs ctx x → NormalAbs ctx y → Explicit ctx x → Explicit ctx y → SubAbs ctx x y f → SubAbs ctx y x g → SameAbs ctx ctx x y → Norm ctx x n → Norm ctx y m → enc_abs n ≡ enc_abs m
 
@@ -26,6 +28,13 @@ OnePackageType = (ctx : List Kind) (x y n m : Abs) (f g : Term) → NormalAbs ct
 abbrev pub TwoPackageTypes : Type 0
 TwoPackageTypes = Explicit [] f_first × Explicit [] g_first × ((f : Term) × SubAbs [] f_first g_first f) × ((g : Term) × SubAbs [] g_first f_first g) × ((x y : Abs) → Norm [] f_first x → Norm [] g_first y → enc_abs x ≢ enc_abs y)
 
--- nor is it enough that the parameters of pure functors are rooted at the same paths: the order counts
+-- though the parameters of pure functors, of which there are none, hide their types in one order
+abbrev pub FlipInOneOrder : Type 0
+FlipInOneOrder = EachAbs OneOrder Anything [] [] f_first g_first
+
+-- nor is it enough that all signatures inside are rooted at the same paths: the order of a parameter's types counts
 abbrev pub OrderMatters : Type 0
 OrderMatters = Explicit [] a_first × Explicit [] b_first × ((f : Term) × SubAbs [] a_first b_first f) × ((g : Term) × SubAbs [] b_first a_first g) × ((x y : Abs) → Norm [] a_first x → Norm [] b_first y → enc_abs x ≢ enc_abs y)
+
+abbrev pub OrderAtSamePaths : Type 0
+OrderAtSamePaths = EachAbs SameRoots SameRoots [] [] a_first b_first

@@ -1,4 +1,5 @@
--- Two signatures whose hidden types are rooted at the same paths, in all signatures inside.
+-- Two signatures whose hidden types are rooted at the same paths, in all signatures inside, and in which the parameters of
+-- pure functors hide them in one order.
 use Rattle.std.specs.Prelude.{ℕ, List, [], ◌<◌, ◌≢◌, length}
 use Rattle.omega_kinds.specs.Kind.{Kind}
 use Rattle.omega_kinds.specs.declared.effect.Effect.{Effect}

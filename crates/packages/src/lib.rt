@@ -1,7 +1,7 @@
 // Packages, modules as first-class values: package types, packing and unpacking.
 // Specifications and their laws only; the calls that follow them stand in a crate of their own above.
 // Stands on signatures and premise_laws.
-// Proved: each rule has exactly one conclusion or exactly one refusal.
+// Proved: each rule has exactly one conclusion or exactly one refusal (`package_rules`).
 #![tactic(auto)]
 
 ghost use Rattle.packages.specs.OneOutcome.{OnePackType, OnePack, OneUnpack};

@@ -1,5 +1,5 @@
 // Productions of bindings, declarations, kinds and paths.
-// Stands on parse_forms.
+// Stands on parse_stack (the stack) and parse_forms (derived forms and chains).
 // Proved: each takes its parts off the stack and puts the tree of the definitions there, or misfits exactly where the
 // stack does not hold its parts.
 #![tactic(auto)]

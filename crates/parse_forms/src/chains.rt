@@ -1,5 +1,5 @@
 // Chains, which group to the left, and arrows, which group to the right.
-// Each list has its first item last.
+// Each list that is passed in has its first item last.
 ghost use Rattle.std.specs.Prelude.{◌≡◌, IfOk, map, reverse, option_map};
 ghost use Rattle.fing_syntax.specs.Leaves.{place, spelled};
 ghost use Rattle.fing_syntax.specs.Phrase.{ModAt, ModProject, ExpAt, ExpGet};
@@ -49,7 +49,8 @@ pub fn arrow_chain(alloc: Global, from: TyEx, to: Option<TyEx>) -> Result<TyEx, 
     }
 }
 
-/// A type, or the application of an operator to types. `Err` is want of memory.
+/// A type, or the application of an operator to the types of `rest`, of which the first one stands last. `Err` is want
+/// of memory.
 #[tactic(auto, using(crate::proofs::Chained::ty_alone, crate::proofs::Chained::ty_applied))]
 pub fn ty_chain(alloc: Global, first: TyEx, rest: Vec<TyEx>) -> Result<TyEx, Mem>
     ensures { IfOk result (λ t. t ≡ form.ty_chain_of first (tys_of (reverse rest.items))) }
@@ -67,7 +68,8 @@ pub fn ty_chain(alloc: Global, first: TyEx, rest: Vec<TyEx>) -> Result<TyEx, Mem
     })
 }
 
-/// An expression, or a chain of operators of one level. `Err` is want of memory.
+/// An expression, or a chain of operators of one level: `rest` has each operator with its right side, the first one
+/// last. `Err` is want of memory.
 #[tactic(auto, using(crate::proofs::Chained::op_alone, crate::proofs::Chained::op_chained))]
 pub fn ops_chain(alloc: Global, first: Exp, rest: Vec<(Op, Exp)>) -> Result<Exp, Mem>
     ensures { IfOk result (λ e. e ≡ form.ops_of first (operators_of (reverse rest.items))) }
@@ -95,7 +97,8 @@ fn end_of(arg: &Arg) -> Span
     }
 }
 
-/// An expression, or a function with its arguments. `Err` is want of memory.
+/// An expression, or a function with the arguments of `rest`, of which the first one stands last. `Err` is want of
+/// memory.
 #[tactic(auto, using(crate::proofs::Chained::arg_alone, crate::proofs::Chained::arg_chained))]
 pub fn args_chain(alloc: Global, first: Exp, rest: Vec<Arg>) -> Result<Exp, Mem>
     ensures { IfOk result (λ e. e ≡ form.args_of first (arguments_of (reverse rest.items))) }
@@ -124,7 +127,7 @@ pub fn projected(alloc: Global, span: Span, whole: Mod, name: SpanName) -> Resul
     })
 }
 
-/// A module with names projected from it one after the other. `Err` is want of memory.
+/// A module with names projected from it one after the other, the last one of the list first. `Err` is want of memory.
 pub fn project_all(alloc: Global, whole: Mod, names: Vec<SpanName>) -> Result<Mod, Mem>
     ensures { IfOk result (λ m. m ≡ form.project_all whole (map spelled (reverse names.items))) }
 {
@@ -148,7 +151,8 @@ fn selected(alloc: Global, span: Span, whole: Exp, name: SpanName) -> Result<Exp
     })
 }
 
-/// An expression with fields taken from it one after the other. `Err` is want of memory.
+/// An expression with fields taken from it one after the other, the last one of the list first. `Err` is want of
+/// memory.
 pub fn get_all(alloc: Global, whole: Exp, names: Vec<SpanName>) -> Result<Exp, Mem>
     ensures { IfOk result (λ e. e ≡ form.get_all whole (map spelled (reverse names.items))) }
 {
@@ -161,7 +165,7 @@ pub fn get_all(alloc: Global, whole: Exp, names: Vec<SpanName>) -> Result<Exp, M
     Ok(field)
 }
 
-/// A module applied to modules one after the other. `Err` is want of memory.
+/// A module applied to modules one after the other, the last one of the list first. `Err` is want of memory.
 pub fn apply_all(alloc: Global, function: Mod, args: Vec<Mod>) -> Result<Mod, Mem>
     ensures { IfOk result (λ m. m ≡ form.apply_all function (reverse args.items)) }
 {
@@ -183,7 +187,8 @@ fn ascribed(alloc: Global, inner: Mod, ascription: Ascription) -> Result<Mod, Me
     }
 }
 
-/// A module with the signatures that stand behind it, one after the other. `Err` is want of memory.
+/// A module with the signatures that stand behind it, one after the other, the last one of the list first. `Err` is
+/// want of memory.
 pub fn ascribe_all(alloc: Global, inner: Mod, ascriptions: Vec<Ascription>) -> Result<Mod, Mem>
     ensures { IfOk result (λ m. m ≡ form.ascribe_all inner (map ascription_in (reverse ascriptions.items))) }
 {
@@ -214,7 +219,7 @@ fn refined(alloc: Global, sig: SigEx, refinement: Where) -> Result<SigEx, Mem>
     })
 }
 
-/// A signature with its refinements one after the other. `Err` is want of memory.
+/// A signature with its refinements one after the other, the last one of the list first. `Err` is want of memory.
 pub fn refine_all(alloc: Global, sig: SigEx, wheres: Vec<Where>) -> Result<SigEx, Mem>
     ensures { IfOk result (λ g. g ≡ form.refine_all sig (map where_in (reverse wheres.items))) }
 {

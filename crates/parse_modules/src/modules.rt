@@ -212,7 +212,9 @@ fn paren(stack: &mut Stack<'_>) -> Result<(), BuildRefusal>
     Ok(())
 }
 
-/// Plays a production: its parts are taken off the stack, and what it gives is put there.
+/// Plays a production: its parts are taken off the stack, the first one on top, and what it gives is put there.
+/// `Misfit` says that they do not stand there, and `Mem` is want of memory. After either, parts that were taken off are
+/// lost.
 pub fn module(stack: &mut Stack<'_>, alloc: Global, rule: ModRule) -> Result<(), BuildRefusal>
     ensures made { IfOk result (λ _. played_any (mod_rule_in rule) (held stack.old) ≡ Some (held stack.new)) }
     ensures misfit { IfErr result (λ e. e ≡ Misfit → played_any (mod_rule_in rule) (held stack.old) ≡ None) }

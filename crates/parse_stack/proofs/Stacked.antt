@@ -2,7 +2,6 @@
 use Rattle.std.proofs.Common.{◌≡◌, List, [], ◌∷◌, ◌++◌, map, refl, sym, ◌∙◌, ap}
 use Rattle.std.specs.Prelude.{Option, None, Some, option_map, option_to_list}
 use Rattle.std.proofs.lemmas.List.{reverse-append}
-use Rattle.parse_stack.specs.Item.{Item}
 use Rattle.parse_stack.specs.Part.{part_in, items}
 use Rattle.parse_stack.specs.Play.{uncons}
 use Rattle.parse_stack.specs.declared.part.Part.{Part}

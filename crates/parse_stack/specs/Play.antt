@@ -3,7 +3,7 @@
 use Rattle.std.specs.Prelude.{List, [], ◌∷◌, Option, None, Some, option_map}
 use Rattle.fing_syntax.specs.Phrase as tree
 use Rattle.fing_grammar.specs.Grammar.{Class, Symbol, token, phrase, Rule, rhs}
-use Rattle.fing_grammar.specs.Meaning.{Value, Values, act}
+use Rattle.fing_grammar.specs.Meaning.{Values, act}
 use Rattle.fing_grammar.specs.Moves.{Move, shift, by}
 use Rattle.fing_grammar.specs.View.{Any, any}
 use Rattle.parse_stack.specs.Item.{Item, TokenItem, item, as_token, as_binds, as_value}

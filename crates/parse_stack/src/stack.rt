@@ -1,5 +1,5 @@
 // The parser's stack. Each call takes the top part as what its name says, or finds that it is something else.
-ghost use Rattle.std.specs.Prelude.{◌≡◌, [], ◌∷◌, Some, None, reverse, map, option_map, IfOk, IfErr, OnOk};
+ghost use Rattle.std.specs.Prelude.{◌≡◌, [], ◌∷◌, Some, None, reverse, map, option_map, IfOk, IfErr, OnOk, OnErr};
 ghost use Rattle.fing_syntax.specs.Leaves.{spelled};
 ghost use Rattle.fing_syntax.specs.View.{binds as binds_of, decls as decls_of, tys as tys_of, field_tys as field_tys_of, ops as ops_of, args as args_of, field_exps as field_exps_of};
 ghost use Rattle.parse_stack.specs.Item.{TokenItem, as_token, as_binds, as_bind, as_decls, as_decl, as_tail, as_kind, as_kind_arrow, as_mod, as_names, as_ty, as_ty_arrow, as_tys, as_field_tys, as_sig, as_pure, as_wheres, as_mods, as_ascriptions, as_exp, as_abstraction, as_ops, as_args, as_field_exps};
@@ -29,7 +29,10 @@ pub struct Stack<'a> {
     pub parts: Vec<Part<'a>>,
 }
 
+/// Each call that is named for a kind of part takes the top part off as that. `Err` comes exactly where nothing stands
+/// there or something else does; it is `Misfit`, and the part that does not fit is let go.
 impl<'a> Stack<'a> {
+    /// A stack with nothing on it.
     pub fn new(alloc: Global) -> Stack<'a>
         ensures { held result ≡ [] }
     {
@@ -38,10 +41,11 @@ impl<'a> Stack<'a> {
         }
     }
 
-    /// Puts a part on top. `Err` is want of memory.
+    /// Puts a part on top. `Err` is want of memory, and then the stack stands as it was.
     #[tactic(auto, using(crate::proofs::Stacked::items_push))]
     pub fn push(&mut self, part: Part<'a>) -> Result<(), Mem>
-        ensures { OnOk result (held self.new ≡ part_in part.entry ∷ held self.old) }
+        ensures ok { OnOk result (held self.new ≡ part_in part.entry ∷ held self.old) }
+        ensures err { OnErr result (held self.new ≡ held self.old) }
     {
         self.parts.push(part)?;
         Ok(())
@@ -55,6 +59,7 @@ impl<'a> Stack<'a> {
         self.parts.pop()
     }
 
+    /// The top part as a token.
     pub fn token(&mut self) -> Result<&'a Token, BuildRefusal>
         ensures part { IfOk result (λ t. top as_token (held self.old) ≡ Some (t.now, held self.new)) }
         ensures misfit { IfErr result (λ e. top as_token (held self.old) ≡ None) }
@@ -65,6 +70,7 @@ impl<'a> Stack<'a> {
         }
     }
 
+    /// The top part as bindings, the first one last.
     pub fn binds(&mut self) -> Result<Vec<Bind>, BuildRefusal>
         ensures part { IfOk result (λ v. top as_binds (held self.old) ≡ Some (binds_of (reverse v.items), held self.new)) }
         ensures misfit { IfErr result (λ e. top as_binds (held self.old) ≡ None) }
@@ -75,6 +81,7 @@ impl<'a> Stack<'a> {
         }
     }
 
+    /// The top part as a binding.
     pub fn bind(&mut self) -> Result<Bind, BuildRefusal>
         ensures part { IfOk result (λ v. top as_bind (held self.old) ≡ Some (v, held self.new)) }
         ensures misfit { IfErr result (λ e. top as_bind (held self.old) ≡ None) }
@@ -85,6 +92,7 @@ impl<'a> Stack<'a> {
         }
     }
 
+    /// The top part as declarations, the first one last.
     pub fn decls(&mut self) -> Result<Vec<Decl>, BuildRefusal>
         ensures part { IfOk result (λ v. top as_decls (held self.old) ≡ Some (decls_of (reverse v.items), held self.new)) }
         ensures misfit { IfErr result (λ e. top as_decls (held self.old) ≡ None) }
@@ -95,6 +103,7 @@ impl<'a> Stack<'a> {
         }
     }
 
+    /// The top part as a declaration.
     pub fn decl(&mut self) -> Result<Decl, BuildRefusal>
         ensures part { IfOk result (λ v. top as_decl (held self.old) ≡ Some (v, held self.new)) }
         ensures misfit { IfErr result (λ e. top as_decl (held self.old) ≡ None) }
@@ -105,6 +114,7 @@ impl<'a> Stack<'a> {
         }
     }
 
+    /// The top part as what stands behind the name in a declaration of a type.
     pub fn tail(&mut self) -> Result<TypeTail, BuildRefusal>
         ensures part { IfOk result (λ v. top as_tail (held self.old) ≡ Some (tail_in v, held self.new)) }
         ensures misfit { IfErr result (λ e. top as_tail (held self.old) ≡ None) }
@@ -115,6 +125,7 @@ impl<'a> Stack<'a> {
         }
     }
 
+    /// The top part as a kind.
     pub fn kind(&mut self) -> Result<KindPart, BuildRefusal>
         ensures part { IfOk result (λ v. top as_kind (held self.old) ≡ Some (kind_in v, held self.new)) }
         ensures misfit { IfErr result (λ e. top as_kind (held self.old) ≡ None) }
@@ -125,6 +136,7 @@ impl<'a> Stack<'a> {
         }
     }
 
+    /// The top part as what stands behind a kind: the kind behind an arrow, or nothing.
     pub fn kind_arrow(&mut self) -> Result<Option<KindPart>, BuildRefusal>
         ensures part { IfOk result (λ v. top as_kind_arrow (held self.old) ≡ Some (option_map kind_in v, held self.new)) }
         ensures misfit { IfErr result (λ e. top as_kind_arrow (held self.old) ≡ None) }
@@ -135,6 +147,7 @@ impl<'a> Stack<'a> {
         }
     }
 
+    /// The top part as a module.
     pub fn module(&mut self) -> Result<Mod, BuildRefusal>
         ensures part { IfOk result (λ v. top as_mod (held self.old) ≡ Some (v, held self.new)) }
         ensures misfit { IfErr result (λ e. top as_mod (held self.old) ≡ None) }
@@ -145,6 +158,7 @@ impl<'a> Stack<'a> {
         }
     }
 
+    /// The top part as names, the first one last.
     pub fn names(&mut self) -> Result<Vec<SpanName>, BuildRefusal>
         ensures part { IfOk result (λ v. top as_names (held self.old) ≡ Some (map spelled (reverse v.items), held self.new)) }
         ensures misfit { IfErr result (λ e. top as_names (held self.old) ≡ None) }
@@ -155,6 +169,7 @@ impl<'a> Stack<'a> {
         }
     }
 
+    /// The top part as a type.
     pub fn ty(&mut self) -> Result<TyEx, BuildRefusal>
         ensures part { IfOk result (λ v. top as_ty (held self.old) ≡ Some (v, held self.new)) }
         ensures misfit { IfErr result (λ e. top as_ty (held self.old) ≡ None) }
@@ -165,6 +180,7 @@ impl<'a> Stack<'a> {
         }
     }
 
+    /// The top part as what stands behind a type: the type behind an arrow, or nothing.
     pub fn ty_arrow(&mut self) -> Result<Option<TyEx>, BuildRefusal>
         ensures part { IfOk result (λ v. top as_ty_arrow (held self.old) ≡ Some (v, held self.new)) }
         ensures misfit { IfErr result (λ e. top as_ty_arrow (held self.old) ≡ None) }
@@ -175,6 +191,7 @@ impl<'a> Stack<'a> {
         }
     }
 
+    /// The top part as types, the first one last.
     pub fn tys(&mut self) -> Result<Vec<TyEx>, BuildRefusal>
         ensures part { IfOk result (λ v. top as_tys (held self.old) ≡ Some (tys_of (reverse v.items), held self.new)) }
         ensures misfit { IfErr result (λ e. top as_tys (held self.old) ≡ None) }
@@ -185,6 +202,7 @@ impl<'a> Stack<'a> {
         }
     }
 
+    /// The top part as fields of a record type, the first one last.
     pub fn field_tys(&mut self) -> Result<Vec<(SpanName, TyEx)>, BuildRefusal>
         ensures part { IfOk result (λ v. top as_field_tys (held self.old) ≡ Some (field_tys_of (reverse v.items), held self.new)) }
         ensures misfit { IfErr result (λ e. top as_field_tys (held self.old) ≡ None) }
@@ -195,6 +213,7 @@ impl<'a> Stack<'a> {
         }
     }
 
+    /// The top part as a signature.
     pub fn sig(&mut self) -> Result<SigEx, BuildRefusal>
         ensures part { IfOk result (λ v. top as_sig (held self.old) ≡ Some (v, held self.new)) }
         ensures misfit { IfErr result (λ e. top as_sig (held self.old) ≡ None) }
@@ -205,6 +224,7 @@ impl<'a> Stack<'a> {
         }
     }
 
+    /// The top part as whether a functor is pure.
     pub fn pure(&mut self) -> Result<bool, BuildRefusal>
         ensures part { IfOk result (λ v. top as_pure (held self.old) ≡ Some (v, held self.new)) }
         ensures misfit { IfErr result (λ e. top as_pure (held self.old) ≡ None) }
@@ -215,6 +235,7 @@ impl<'a> Stack<'a> {
         }
     }
 
+    /// The top part as refinements, the first one last.
     pub fn wheres(&mut self) -> Result<Vec<Where>, BuildRefusal>
         ensures part { IfOk result (λ v. top as_wheres (held self.old) ≡ Some (map where_in (reverse v.items), held self.new)) }
         ensures misfit { IfErr result (λ e. top as_wheres (held self.old) ≡ None) }
@@ -225,6 +246,7 @@ impl<'a> Stack<'a> {
         }
     }
 
+    /// The top part as modules, the first one last.
     pub fn mods(&mut self) -> Result<Vec<Mod>, BuildRefusal>
         ensures part { IfOk result (λ v. top as_mods (held self.old) ≡ Some (reverse v.items, held self.new)) }
         ensures misfit { IfErr result (λ e. top as_mods (held self.old) ≡ None) }
@@ -235,6 +257,7 @@ impl<'a> Stack<'a> {
         }
     }
 
+    /// The top part as signatures behind a module, the first one last.
     pub fn ascriptions(&mut self) -> Result<Vec<Ascription>, BuildRefusal>
         ensures part { IfOk result (λ v. top as_ascriptions (held self.old) ≡ Some (map ascription_in (reverse v.items), held self.new)) }
         ensures misfit { IfErr result (λ e. top as_ascriptions (held self.old) ≡ None) }
@@ -245,6 +268,7 @@ impl<'a> Stack<'a> {
         }
     }
 
+    /// The top part as an expression.
     pub fn exp(&mut self) -> Result<Exp, BuildRefusal>
         ensures part { IfOk result (λ v. top as_exp (held self.old) ≡ Some (v, held self.new)) }
         ensures misfit { IfErr result (λ e. top as_exp (held self.old) ≡ None) }
@@ -255,6 +279,7 @@ impl<'a> Stack<'a> {
         }
     }
 
+    /// The top part as what follows `fun` in an expression.
     pub fn abstraction(&mut self) -> Result<Abstraction, BuildRefusal>
         ensures part { IfOk result (λ v. top as_abstraction (held self.old) ≡ Some (abstraction_in v, held self.new)) }
         ensures misfit { IfErr result (λ e. top as_abstraction (held self.old) ≡ None) }
@@ -265,6 +290,7 @@ impl<'a> Stack<'a> {
         }
     }
 
+    /// The top part as operators with their right sides, the first one last.
     pub fn ops(&mut self) -> Result<Vec<(Op, Exp)>, BuildRefusal>
         ensures part { IfOk result (λ v. top as_ops (held self.old) ≡ Some (ops_of (reverse v.items), held self.new)) }
         ensures misfit { IfErr result (λ e. top as_ops (held self.old) ≡ None) }
@@ -275,6 +301,7 @@ impl<'a> Stack<'a> {
         }
     }
 
+    /// The top part as arguments, the first one last.
     pub fn args(&mut self) -> Result<Vec<Arg>, BuildRefusal>
         ensures part { IfOk result (λ v. top as_args (held self.old) ≡ Some (args_of (reverse v.items), held self.new)) }
         ensures misfit { IfErr result (λ e. top as_args (held self.old) ≡ None) }
@@ -285,6 +312,7 @@ impl<'a> Stack<'a> {
         }
     }
 
+    /// The top part as fields of a record, the first one last.
     pub fn field_exps(&mut self) -> Result<Vec<(SpanName, Exp)>, BuildRefusal>
         ensures part { IfOk result (λ v. top as_field_exps (held self.old) ≡ Some (field_exps_of (reverse v.items), held self.new)) }
         ensures misfit { IfErr result (λ e. top as_field_exps (held self.old) ≡ None) }

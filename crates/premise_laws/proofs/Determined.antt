@@ -5,12 +5,11 @@ use Rattle.std.proofs.Math.Path.{refl, sym, subst}
 use Rattle.omega_kinds.specs.Kind.{Kind}
 use Rattle.omega_kinds.specs.declared.effect.Effect.TheVariants.{Pure, Impure}
 use Rattle.omega_types.specs.Ty.{Ty}
-use Rattle.omega_types.specs.Kinding.{HasKind}
-use Rattle.omega_types.specs.Normalises.{NormalForm}
 use Rattle.omega_types.specs.Binders.{extend, puts, OfKinds}
-use Rattle.omega_types.proofs.Hereditary.{each_has_one}
 use Rattle.omega_terms.specs.Term.{Term}
 use Rattle.omega_terms.specs.Shorthands.{Packs}
+use Rattle.omega_terms.specs.Instance.{Instance}
+use Rattle.omega_terms.proofs.InstanceLaws.{instance-one as same_instance}
 use Rattle.signatures.specs.Signatures.Sig.{Sig, Abs, Module, made}
 use Rattle.signatures.specs.Signatures.SigSubst.{abs_at}
 use Rattle.signatures.specs.Signatures.Alike.{ConvSig, ConvAbs, NormalSigForm, NormalAbsForm}
@@ -27,15 +26,12 @@ use Rattle.sig_laws.proofs.Algebra.Instances.{at-substitutes}
 use Rattle.signatures.specs.Matching.MatchRefusal.{MatchRefusal, RefusesMatch}
 use Rattle.match_laws.proofs.OneMatch.Unique.{match-unique}
 use Rattle.signatures.specs.Verdict.{Verdict, holds, refuses, One}
-use Rattle.sig_laws.specs.Good.{OkSig, OkAbs, OkRight, OkModule}
+use Rattle.sig_laws.specs.Good.{OkSig, OkAbs, OkRight, NormalTerm, OkModule}
 use Rattle.explicit_laws.proofs.Liftings.{lifted_well_formed}
 use Rattle.match_laws.proofs.Theorems.{match_or_refusal, not_both, one_refusal}
 use Rattle.norm_laws.proofs.NormClaims as norms
-use Rattle.premise_laws.proofs.Terms.{packs_all-one}
+use Rattle.premise_laws.proofs.Terms.{packs_all-one, instance-total}
 use Rattle.omega_types.proofs.BinderPuts.{forms-kinds}
-
-pub form-one : (ctx : List Kind) (t : Ty) (k : Kind) → HasKind ctx t k → One (λ v. NormalForm ctx t k v)
-form-one = each_has_one
 
 pub form_sig-one : {ctx : List Kind} {s : Sig} → ConvSig ctx s s → One (NormalSigForm ctx s)
 form_sig-one {ctx} {s} c = (normal_sig ctx s, conv_sig-gives c, λ m f. form_sig-same f)
@@ -78,3 +74,7 @@ packed-impure Packed.impure = refl
 pub packed-one : (ctx : List Kind) (M : Module) → OkModule ctx M → One (Packed ctx M)
 packed-one ctx (made Pure (Abs.Ex ks s) ts e) h = let p = packs_all-one e s (forms-kinds h.1) h.0.0 in (p.0, Packed.pure p.1, λ c q. p.2 c (packed-pure q))
 packed-one ctx (made Impure (Abs.Ex ks s) ts e) h = (e, subst (λ us. Packed ctx (made Impure (Abs.Ex ks s) us e) e) (sym h.1) Packed.impure, λ c q. packed-impure q)
+
+-- instances of terms
+pub instance-one : (ctx ks : List Kind) (ts : List Ty) (e : Term) → NormalTerm (extend ctx ks) e → OfKinds ctx ts ks → One (Instance (extend ctx ks) ctx (puts ts Ty.Var) e)
+instance-one ctx ks ts e n h = let s = at-substitutes h in let c = instance-total ctx (puts ts Ty.Var) n s in (c.0, c.1, λ d i. same_instance s i c.1)

@@ -2,8 +2,9 @@
 use Rattle.std.specs.Prelude.{List}
 use Rattle.omega_kinds.specs.Kind.{Kind}
 use Rattle.omega_types.specs.Ty.{Ty}
-use Rattle.omega_types.specs.Binders.{extend}
+use Rattle.omega_types.specs.Binders.{extend, puts, OfKinds}
 use Rattle.omega_terms.specs.Term.{Term}
+use Rattle.omega_terms.specs.Instance.{Instance}
 use Rattle.signatures.specs.Signatures.Sig.{Sig, Abs, Module}
 use Rattle.signatures.specs.Lifting.{Lift}
 use Rattle.signatures.specs.Packing.{Packed}
@@ -11,7 +12,7 @@ use Rattle.signatures.specs.QuantifierOrder.{Norm}
 use Rattle.signatures.specs.Matching.Subtyping.{Match}
 use Rattle.signatures.specs.Matching.MatchRefusal.{RefusesMatch}
 use Rattle.signatures.specs.Verdict.{Verdict, One}
-use Rattle.sig_laws.specs.Good.{OkSig, OkAbs, OkRight, OkModule}
+use Rattle.sig_laws.specs.Good.{OkSig, OkAbs, OkRight, NormalTerm, OkModule}
 
 abbrev pub OneMatchOrRefusal : Type 0
 OneMatchOrRefusal = (ctx : List Kind) (s : Sig) (x : Abs) → OkSig ctx s → OkRight ctx x → Verdict (λ (o : List Ty × Term). Match ctx s x o.0 o.1) (RefusesMatch ctx s x)
@@ -24,3 +25,7 @@ OneLift = (ctx ks : List Kind) (s : Sig) (y : Abs) → OkRight ctx (Abs.Ex ks s)
 
 abbrev pub OnePacked : Type 0
 OnePacked = (ctx : List Kind) (m : Module) → OkModule ctx m → One (Packed ctx m)
+
+-- a term of normal types, at types of the right kinds for the variables, the types in it in normal form again
+abbrev pub OneInstance : Type 0
+OneInstance = (ctx ks : List Kind) (ts : List Ty) (e : Term) → NormalTerm (extend ctx ks) e → OfKinds ctx ts ks → One (Instance (extend ctx ks) ctx (puts ts Ty.Var) e)

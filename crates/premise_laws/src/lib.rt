@@ -3,13 +3,15 @@
 // Proved: each of these exists, and is the only one.
 #![tactic(auto)]
 
-ghost use Rattle.premise_laws.specs.Determined.{OneMatchOrRefusal, OneNorm, OneLift, OnePacked};
+ghost use Rattle.premise_laws.specs.Determined.{OneMatchOrRefusal, OneNorm, OneLift, OnePacked, OneInstance};
 
 /// For well formed and ordered explicit signatures of normal types there is exactly one match or one refusal, one norm
-/// and one lifted signature; and each module has exactly one packed term.
+/// and one lifted signature; each module has exactly one packed term; and a term of normal types has exactly one
+/// instance at types of the kinds of its innermost type variables.
 pub fn premises()
     ensures matching { OneMatchOrRefusal }
     ensures norm { OneNorm }
     ensures lift { OneLift }
     ensures packed { OnePacked }
+    ensures instance { OneInstance }
 {}

@@ -22,7 +22,8 @@ pub enum ElabWhy {
     WrongPath,
     /// The type or signature of the path mentions a hidden type.
     Escapes,
-    /// In matching, the variable of this number on the right has no type on the left along its least root path.
+    /// In matching, the hidden type of this number on the right has no type on the left along its least root path. Both
+    /// are those of the match at the last functor's part or signature part on the way there, with which the path begins.
     NoRoot { index: u64, path: Path },
     /// In matching, the parts at the path do not agree.
     Clash { path: Path, why: Why },
@@ -50,8 +51,8 @@ pub enum ElabWhy {
     Mem,
 }
 
-/// A refusal: the place of the phrase, the number of type variables in scope where the types of the reason stand, and
-/// the reason. For want of memory the place is from 0 to 0, and no variables are in scope.
+/// A refusal: the place of the phrase in byte offsets, the number of type variables in scope where the types of the reason
+/// stand, and the reason. For want of memory place and number say nothing.
 #[derive(Drop)]
 pub struct Refusal {
     pub at: Span,

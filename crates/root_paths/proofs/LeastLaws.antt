@@ -3,7 +3,7 @@ use Rattle.std.specs.Prelude.{ℕ, suc, ◌+◌, ◌-◌, ◌<◌, ◌≤◌, �
 use Rattle.std.proofs.Common.{arith}
 use Rattle.std.proofs.lemmas.Bool.Decides.{nat_tests}
 use Rattle.std.proofs.Math.Logic.{inl, inr}
-use Rattle.std.proofs.Math.Path.{refl, sym, ap, ◌∙◌, subst}
+use Rattle.std.proofs.Math.Path.{refl, sym, ◌∙◌, subst}
 use Rattle.omega_kinds.specs.Kind.{Kind}
 use Rattle.omega_types.specs.Ty.{Ty, Row}
 use Rattle.omega_types.specs.Mentions.{Mentions, Mentions_row, m_var, m_from, m_to, m_fields, m_all, m_ex, m_lam, m_operator, m_arg, m_part, m_rest}
@@ -162,15 +162,3 @@ least-closed_abs x from le = go (least_abs from x) (least-abs from x)
 
 pub least-closed_ty : (t : Ty) (from : ℕ) → bound_of t ≤ from → None ≡ least_ty (suc from) t
 least-closed_ty t from le = least-closed_sig (Sig.Val t) (suc from) (omega (arith, le))
-
--- the least index in a list of parts
-
-pub lesser-none : (a : Option ℕ) → lesser a None ≡ a
-lesser-none None = refl
-lesser-none (Some i) = refl
-
-pub lesser-assoc : (a b c : Option ℕ) → lesser (lesser a b) c ≡ lesser a (lesser b c)
-lesser-assoc None b c = refl
-lesser-assoc (Some i) None c = refl
-lesser-assoc (Some i) (Some j) None = refl
-lesser-assoc (Some i) (Some j) (Some k) = ap Some (omega arith)

@@ -1,10 +1,10 @@
 -- Lists of paths that are found, one part of the walk after the other.
-use Rattle.std.specs.Prelude.{ℕ, zero, suc, ◌+◌, ◌-◌, ◌<◌, ◌≤◌, ◌≡◌, List, [], ◌∷◌, ◌++◌, length, map, min, reverse, Option, Some, None, nat_eq, nat_lt, nat_le, true, false, Bool as Truth, slice_get}
+use Rattle.std.specs.Prelude.{ℕ, zero, suc, ◌+◌, ◌-◌, ◌<◌, ◌≤◌, ◌≡◌, List, [], ◌∷◌, ◌++◌, length, map, reverse, Option, Some, None, nat_eq, true, false, Bool as Truth, slice_get}
 use Rattle.std.proofs.Common.{arith, set, get_or, append_assoc}
 use Rattle.std.proofs.lemmas.Bool.Decides.{nat_tests}
 use Rattle.std.proofs.lemmas.List.{get_or-reverse, length-reverse}
 use Rattle.std.proofs.lemmas.Option.{slice_get_within, get_or_from_slice_get, slice_get-get_or}
-use Rattle.std.proofs.Math.Path.{refl, sym, ap, ap₂, ◌∙◌, subst}
+use Rattle.std.proofs.Math.Path.{refl, sym, ap, ap₂, ◌∙◌}
 use Rattle.signatures.specs.Explicit.SigPath.{SigPath, Item}
 use Rattle.match_laws.specs.RootSearch.{after, or_else}
 use Rattle.root_paths.specs.Least.{lesser}
@@ -121,22 +121,6 @@ walk-none steps bar xs = sym (merged-none (λ own. behind steps (unless_barred b
     go own false e = rw e refl
 
 -- the lesser of two bars
-
-test-min : (own i j : ℕ) (t : Truth) → nat_lt own (min i j) ≡ t → (o : Option SigPath) → unless_barred (Some (min i j)) own o ≡ unless_barred (Some i) own (unless_barred (Some j) own o)
-test-min own i j true e o =
-    let p : nat_lt own i ≡ true = grind (arith, nat_tests) in
-    let q : nat_lt own j ≡ true = grind (arith, nat_tests) in
-    rw (e, p, q) refl
-test-min own i j false e o = go (nat_lt own i) refl
-  where
-    go : (t : Truth) → nat_lt own i ≡ t → unless_barred (Some (min i j)) own o ≡ unless_barred (Some i) own (unless_barred (Some j) own o)
-    go false f = rw (e, f) refl
-    go true f = let q : nat_lt own j ≡ false = grind (arith, nat_tests) in rw (e, f, q) refl
-
-pub barred-lesser : (a b : Option ℕ) (own : ℕ) (o : Option SigPath) → unless_barred (lesser a b) own o ≡ unless_barred a own (unless_barred b own o)
-barred-lesser None b own o = refl
-barred-lesser (Some i) None own o = refl
-barred-lesser (Some i) (Some j) own o = test-min own i j (nat_lt own (min i j)) refl o
 
 -- what is found in the end
 

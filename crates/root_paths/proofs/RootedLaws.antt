@@ -1,19 +1,19 @@
 -- A normal type is found to be a variable, applied to the variables of some binders, exactly where it is its eta-long form.
-use Rattle.std.specs.Prelude.{ℕ, zero, suc, ◌+◌, ◌-◌, ◌<◌, ◌≤◌, ◌≡◌, ◌∷◌, [], List, Option, Some, None, nat_le, nat_eq}
+use Rattle.std.specs.Prelude.{ℕ, zero, suc, ◌+◌, ◌-◌, ◌<◌, ◌≤◌, ◌≡◌, ◌∷◌, [], List, Option, Some, None}
 use Rattle.std.proofs.Common.{arith}
 use Rattle.std.proofs.lemmas.Bool.Decides.{nat_tests}
 use Rattle.std.proofs.Math.Path.{refl, sym, ap, ap₂, ◌∙◌, subst}
 use Rattle.omega_kinds.specs.Kind.{Kind}
 use Rattle.omega_types.specs.Ty.{Ty, lift}
 use Rattle.omega_types.specs.Substitution.{rename}
-use Rattle.omega_types.specs.Kinding.{Lookup, HasKind}
+use Rattle.omega_types.specs.Kinding.{HasKind}
 use Rattle.omega_types.specs.Kinding.HasKind.{k_var, k_lam, k_apply}
 use Rattle.omega_types.specs.Conversion.{Conv}
-use Rattle.omega_types.specs.Conversion.Conv.{c_refl, c_sym, c_trans, c_eta, c_lam, c_apply}
+use Rattle.omega_types.specs.Conversion.Conv.{c_refl, c_trans, c_eta, c_lam, c_apply}
 use Rattle.omega_types.specs.Normality.{Normal, Neutral, n_var, n_apply}
 use Rattle.omega_types.specs.EtaLong.{eta}
 use Rattle.omega_types.specs.Normaliser.{normal}
-use Rattle.omega_types.specs.Binders.{extend, past, applied}
+use Rattle.omega_types.specs.Binders.{applied}
 use Rattle.omega_types.proofs.Preservation.{conv-kinds, normal-kind}
 use Rattle.omega_types.proofs.Hereditary.{eta-normal}
 use Rattle.omega_types.proofs.Inverse.{same-normal}

@@ -6,7 +6,6 @@ use Rattle.std.proofs.Math.Path.{refl, sym, ap, ap₂, ◌∙◌, subst}
 use Rattle.omega_kinds.specs.Kind.{Kind, Kind-discrete}
 use Rattle.omega_kinds.specs.declared.effect.Effect.TheVariants.{Pure, Impure}
 use Rattle.omega_types.specs.Ty.{Ty}
-use Rattle.omega_types.specs.Substitution.{rename}
 use Rattle.omega_types.specs.Kinding.{HasKind}
 use Rattle.omega_types.specs.Normality.{Normal}
 use Rattle.omega_types.specs.Normaliser.{normal, kind_at}
@@ -18,7 +17,6 @@ use Rattle.signatures.specs.Signatures.Sig.{Sig, Abs, SigRow}
 use Rattle.signatures.specs.Signatures.Alike.{NormalSig, NormalSigRow}
 use Rattle.signatures.specs.Signatures.SigMentions.{MentionsSig}
 use Rattle.signatures.specs.Explicit.SigPath.{SigPath, Item}
-use Rattle.signatures.specs.Explicit.RootPath.{RootPath}
 use Rattle.signatures.specs.Explicit.WellFormed.{WellFormed, WellFormedRow}
 use Rattle.sig_laws.specs.Decide.{dec_ty, NoneUpTo, dec_none, dec_mentions_sig}
 use Rattle.sig_laws.proofs.Algebra.BinderLaws.{past-length}
@@ -27,7 +25,7 @@ use Rattle.match_laws.specs.RootSearch.{kind_left, after, or_else, where_both, f
 use Rattle.match_laws.proofs.LookUp.Roots.{own-kind, least_root-exists, least_root-gives, kind_left-over}
 use Rattle.root_paths.specs.Rooted.{rooted}
 use Rattle.root_paths.specs.Least.{least_sig}
-use Rattle.root_paths.specs.Seek.{is_open, unless_barred, ends, seek, seek_abs, seek_row}
+use Rattle.root_paths.specs.Seek.{is_open, unless_barred, ends, seek, seek_row}
 use Rattle.root_paths.specs.Roots.{IsRoot}
 use Rattle.root_paths.proofs.RootedLaws.{rooted-conv, rooted-is, rooted-found}
 use Rattle.root_paths.proofs.LeastLaws.{IsLeast, least-sig, least-past_sig, open-none, none-open}

@@ -1,17 +1,13 @@
 -- The steps of the walk: what is found at each form of signature.
-use Rattle.std.specs.Prelude.{ℕ, zero, suc, ◌+◌, ◌-◌, ◌<◌, ◌≤◌, ◌≡◌, List, [], ◌∷◌, ◌++◌, length, map, reverse, take, drop, Option, Some, None, nat_eq, true, false, Bool as Truth, slice_get}
-use Rattle.std.proofs.Common.{arith, get_or, add-one, drop-cons}
+use Rattle.std.specs.Prelude.{ℕ, suc, ◌+◌, ◌-◌, ◌<◌, ◌≤◌, ◌≡◌, List, [], ◌∷◌, ◌++◌, length, map, reverse, take, drop, Option, Some, None, nat_eq, true, false, Bool as Truth, slice_get}
+use Rattle.std.proofs.Common.{arith, get_or, drop-cons}
 use Rattle.std.proofs.lemmas.Bool.Decides.{nat_tests}
 use Rattle.std.proofs.lemmas.List.{length-append, map-append, at_drop_all}
 use Rattle.std.proofs.Math.Seq.{take-append_seam}
 use Rattle.std.proofs.Math.Path.{refl, sym, ap, ap₂, ◌∙◌, subst}
 use Rattle.omega_kinds.specs.Kind.{Kind}
 use Rattle.omega_kinds.specs.Name.{Name}
-use Rattle.omega_kinds.specs.View.{kind_tree}
-use Rattle.omega_kinds.specs.declared.kind.Kind.{Kind as SharedKind}
-use Rattle.omega_kinds.specs.declared.effect.Effect.TheVariants.{Pure}
-use Rattle.omega_types.specs.Ty.{Ty}
-use Rattle.omega_types.specs.Binders.{own as own_of, extend}
+use Rattle.omega_types.specs.Binders.{own as own_of}
 use Rattle.signatures.specs.Signatures.Sig.{Sig, Abs}
 use Rattle.signatures.specs.Signatures.Alike.{NormalAbs}
 use Rattle.signatures.specs.Explicit.SigPath.{SigPath, Item}
@@ -21,12 +17,10 @@ use Rattle.semantic_sigs.specs.Items.{item_of}
 use Rattle.semantic_sigs.specs.declared.path.Item.{Item as CodeItem}
 use Rattle.semantic_sigs.specs.View.{kinds_of, body_of}
 use Rattle.match_laws.specs.RootSearch.{after, or_else}
-use Rattle.root_paths.specs.Least.{lesser, least_sig}
-use Rattle.root_paths.specs.Rooted.{rooted}
 use Rattle.root_paths.specs.Roots.{IsRoot, AreRoots}
 use Rattle.root_paths.specs.Seek.{is_open, unless_barred, ends, seek, seek_abs, seek_row, behind, merged}
-use Rattle.root_paths.proofs.MergeLaws.{Found, merged-same, merged-twice, length-merged, walk-after, walk-either, walk-none, barred-lesser, start-get, reversed-get}
-use Rattle.root_paths.proofs.SeekLaws.{barred-none, seek-root}
+use Rattle.root_paths.proofs.MergeLaws.{Found, merged-same, merged-twice, length-merged, walk-after, walk-either, walk-none, start-get, reversed-get}
+use Rattle.root_paths.proofs.SeekLaws.{seek-root}
 
 -- what the walk makes of a part: the search below a bar, behind these steps
 abbrev pub gone : (steps : SigPath) (bar : Option ℕ) → (ℕ → Option SigPath) → Found → Found
@@ -44,19 +38,6 @@ gone-twice steps bar f g before =
     ∙ merged-same (λ own. or_else (behind steps (unless_barred bar own (f own))) (behind steps (unless_barred bar own (g own)))) (λ own. behind steps (unless_barred bar own (or_else (f own) (g own)))) before (λ own. walk-either steps bar own (f own) (g own))
 
 -- a functor
-
-pub functor-gone : (steps : SigPath) (bar inner_bar least : Option ℕ) (ks : List Kind) (s sig : Sig) (x : Abs) (depth inner : ℕ) (before now : Found)
-    → sig ≡ Sig.Fun Pure ks s x → inner ≡ length ks + depth → least ≡ least_sig inner s → inner_bar ≡ lesser bar least
-    → now ≡ gone steps inner_bar (λ own. after Item.Res (seek_abs own inner x)) before
-    → now ≡ gone steps bar (λ own. seek own depth sig) before
-functor-gone steps bar inner_bar least ks s sig x depth inner before now es ei el eb h =
-    h ∙ (merged-same (λ own. behind steps (unless_barred inner_bar own (after Item.Res (seek_abs own inner x)))) (λ own. behind steps (unless_barred bar own (seek own depth (Sig.Fun Pure ks s x)))) before each ∙ ap (λ t. gone steps bar (λ own. seek own depth t) before) (sym es))
-  where
-    bars : inner_bar ≡ lesser bar (least_sig (length ks + depth) s)
-    bars = eb ∙ ap (lesser bar) (el ∙ ap (λ n. least_sig n s) ei)
-
-    each : (own : ℕ) → behind steps (unless_barred inner_bar own (after Item.Res (seek_abs own inner x))) ≡ behind steps (unless_barred bar own (seek own depth (Sig.Fun Pure ks s x)))
-    each own = ap (behind steps) (ap₂ (λ b n. unless_barred b own (after Item.Res (seek_abs own n x))) bars ei ∙ barred-lesser bar (least_sig (length ks + depth) s) own (after Item.Res (seek_abs own (length ks + depth) x)))
 
 pub result-gone : (steps inner : SigPath) (bar : Option ℕ) (x : Abs) (body : Sig) (depth : ℕ) (before now : Found) → inner ≡ steps ++ Item.Res ∷ [] → body ≡ body_of x
     → now ≡ gone inner bar (λ own. seek own depth body) before → now ≡ gone steps bar (λ own. after Item.Res (seek_abs own depth x)) before
@@ -80,19 +61,6 @@ fields-gone steps inner bar depth xs i x before now whole lt ex ei h w =
     first = let e : suc i ≡ i + 1 = omega arith in drop-cons xs i x lt ∙ ap₂ ◌∷◌ (sym ex) (ap (λ n. drop n xs) e)
 
 -- a type
-
-pub type-open : (steps : SigPath) (bar : Option ℕ) (found : Option ℕ) (own : ℕ) (before now : Found) → found ≡ Some own → is_open own bar ≡ true
-    → now ≡ merged (λ other. behind steps (ends (Some own) other)) before → now ≡ gone steps bar (λ other. ends found other) before
-type-open steps bar found own before now e o h =
-    h ∙ (merged-same (λ other. behind steps (ends (Some own) other)) (λ other. behind steps (unless_barred bar other (ends (Some own) other))) before (λ other. ap (behind steps) (sym (each other (nat_eq own other) refl)))
-    ∙ ap (λ f. gone steps bar (λ other. ends f other) before) (sym e))
-  where
-    each : (other : ℕ) (t : Truth) → nat_eq own other ≡ t → unless_barred bar other (ends (Some own) other) ≡ ends (Some own) other
-    each other true q =
-        let same : own ≡ other = grind (arith, nat_tests) in
-        let open_here : is_open other bar ≡ true = subst (λ n. is_open n bar ≡ true) same o in
-        rw open_here refl
-    each other false q = let none : ends (Some own) other ≡ None = rw q refl in ap (unless_barred bar other) none ∙ (barred-none bar other ∙ sym none)
 
 pub type-barred : (steps : SigPath) (bar : Option ℕ) (found : Option ℕ) (own : ℕ) (before now : Found) → found ≡ Some own → is_open own bar ≡ false → now ≡ before → now ≡ gone steps bar (λ other. ends found other) before
 type-barred steps bar found own before now e o h =
@@ -127,12 +95,6 @@ pushed steps before step a e i = ap (map item_of) e ∙ (map-append item_of step
 
 -- the steps of the code
 
-pub typ-gone : (steps : SigPath) (bar : Option ℕ) (depth : ℕ) (sig : Sig) (t u : Ty) (k : Kind) (before : Found) → sig ≡ Sig.Typ t k → u ≡ t → gone steps bar (λ own. ends (rooted depth u) own) before ≡ gone steps bar (λ own. seek own depth sig) before
-typ-gone steps bar depth sig t u k before es eu = ap (λ v. gone steps bar (λ own. ends (rooted depth v) own) before) eu ∙ ap (λ s. gone steps bar (λ own. seek own depth s) before) (sym es)
-
-pub str-gone : (steps : SigPath) (bar : Option ℕ) (depth : ℕ) (sig : Sig) (xs : SigPairs) (before : Found) → sig ≡ Sig.Str (sig_row xs) → gone steps bar (λ own. seek_row own depth (sig_row xs)) before ≡ gone steps bar (λ own. seek own depth sig) before
-str-gone steps bar depth sig xs before es = ap (λ s. gone steps bar (λ own. seek own depth s) before) (sym es)
-
 pub fields-step : (start steps entered left now : List CodeItem) (step : CodeItem) (bar : Option ℕ) (depth : ℕ) (xs : SigPairs) (i : ℕ) (x : Name × Sig) (before found whole : Found)
     → steps ≡ start → entered ≡ steps ++ step ∷ [] → item_of step ≡ Item.Part x.0 → left ≡ entered → now ≡ take (length left - 1) left
     → i < length xs → x ≡ get_or xs i x
@@ -157,10 +119,6 @@ result-step start entered left now step bar depth x body before found en ei el e
     (popped start left now step (el ∙ en) er, result-gone (map item_of start) (map item_of entered) bar x body depth before found (pushed start entered step Item.Res en ei) eb h)
 
 -- the end
-
-pub nothing-trees : (items : List SharedKind) → map {A = SharedKind} {B = Option SigPath} (λ k. None) items ≡ map {A = Kind} {B = Option SigPath} (λ k. None) (map kind_tree items)
-nothing-trees [] = refl
-nothing-trees (k ∷ items) = ap (◌∷◌ None) (nothing-trees items)
 
 length-nothing : (ks : List Kind) → length (map {A = Kind} {B = Option SigPath} (λ k. None) ks) ≡ length ks
 length-nothing [] = refl
@@ -187,3 +145,7 @@ roots-found (Abs.Ex ks s) body found eb e ctx (WellFormedAbs.abs h) n = each
         let p = start-get (λ own. behind [] (unless_barred None own (seek own 0 body))) ks (own_of ks number) o at in
         let is : seek (own_of ks number) 0 s ≡ o = ap (seek (own_of ks number) 0) (sym eb) ∙ (sym (behind-start (seek (own_of ks number) 0 body)) ∙ p.1) in
         subst (IsRoot ctx ks s number) is (seek-root ctx ks s number h n lt)
+
+pub roots-value : (x : Abs) (body : Sig) (found : Found) → body ≡ body_of x → found ≡ gone [] None (λ own. seek own 0 body) (map (λ k. None) (kinds_of x)) → found ≡ merged (λ own. seek own 0 (body_of x)) (map (λ k. None) (kinds_of x))
+roots-value x body found eb e =
+    e ∙ (merged-same (λ own. behind [] (unless_barred None own (seek own 0 body))) (λ own. seek own 0 body) (map (λ k. None) (kinds_of x)) (λ own. behind-start (seek own 0 body)) ∙ ap (λ s. merged (λ own. seek own 0 s) (map (λ k. None) (kinds_of x))) eb)

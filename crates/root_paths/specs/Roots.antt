@@ -1,5 +1,5 @@
 -- The least root paths of all hidden types.
-use Rattle.std.specs.Prelude.{ℕ, List, ◌≡◌, Option, Some, None, length, slice_get}
+use Rattle.std.specs.Prelude.{ℕ, List, ◌≡◌, Option, Some, None, slice_get}
 use Rattle.omega_kinds.specs.Kind.{Kind}
 use Rattle.signatures.specs.Explicit.RootPath.{RootPath, LeastRoot}
 use Rattle.signatures.specs.Explicit.SigPath.{SigPath}
@@ -10,6 +10,6 @@ abbrev pub IsRoot : (ctx ks : List Kind) (s : Sig) (number : ℕ) → Option Sig
 IsRoot ctx ks s number (Some p) = LeastRoot ctx ks s number p
 IsRoot ctx ks s number None = (p : SigPath) → RootPath ctx ks s number p → ⊥
 
--- one for each hidden type, in their order
+-- what stands at a place of the list is that of the hidden type of this number
 abbrev pub AreRoots : (ctx : List Kind) (x : Abs) → List (Option SigPath) → Type 0
 AreRoots ctx (Abs.Ex ks s) found = (number : ℕ) (o : Option SigPath) → slice_get found number ≡ Some o → IsRoot ctx ks s number o

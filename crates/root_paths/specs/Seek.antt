@@ -7,7 +7,7 @@ use Rattle.match_laws.specs.RootSearch.{after, or_else}
 use Rattle.root_paths.specs.Rooted.{rooted}
 use Rattle.root_paths.specs.Least.{least_sig}
 
--- a hidden type has the number of its variable here: that of the last one is 0
+-- `own` is the de Bruijn index of the hidden type's variable: that of the last hidden type is 0
 
 -- whether no functor parameter mentions this type or a later one, the last one that one mentions being the bar
 abbrev pub is_open : (own : ℕ) (bar : Option ℕ) → Bool

@@ -4,15 +4,16 @@
 // exactly for a type without root paths.
 #![tactic(auto)]
 
-ghost use Rattle.std.specs.Prelude.{◌≡◌, IfOk, List, length};
+ghost use Rattle.std.specs.Prelude.{◌≡◌, IfOk, List, None, length, map, reverse};
 ghost use Rattle.omega_kinds.specs.Kind.{Kind as KindTree};
 ghost use Rattle.signatures.specs.Explicit.WellFormed.{WellFormedAbs};
 ghost use Rattle.signatures.specs.Signatures.Alike.{NormalAbs};
-ghost use Rattle.semantic_sigs.specs.View.{kinds_of};
+ghost use Rattle.semantic_sigs.specs.View.{kinds_of, body_of};
 ghost use Rattle.root_paths.specs.Roots.{AreRoots};
+ghost use Rattle.root_paths.specs.Seek.{merged, seek};
 
 mod least;
-mod rooted;
+pub mod rooted;
 mod walk;
 
 use crate::walk::Walk;
@@ -22,11 +23,12 @@ use std::alloc::Global;
 
 /// The least root path of each hidden type of an abstract signature, in their order, the outermost first; `None` exactly
 /// where a type has none. The paths lead into the body. The signature is well formed and its types are normal, in the
-/// context in which it stands. `Err` is want of memory, also where an index would pass the last number.
-/// All are found in one walk over the body.
+/// context in which it stands; of any other, the answer is what the same search gives (`seek`). `Err` is want of memory,
+/// also where an index would pass the last number. All are found in one walk over the body.
 ///
 /// Rossberg, Russo and Dreyer, "F-ing modules", section 5, explicit signatures; through results of pure functors here.
 pub fn roots(alloc: Global, abs: &Abs) -> Result<Vec<Option<Path>>, Mem>
+    ensures value { IfOk result (λ found. found.items ≡ reverse (merged (λ own. seek own 0 (body_of abs.now)) (map (λ k. None) (kinds_of abs.now)))) }
     ensures count { IfOk result (λ found. length found.items ≡ length (kinds_of abs.now)) }
     ensures roots { IfOk result (λ found. (ctx : List KindTree) → WellFormedAbs ctx abs.now → NormalAbs ctx abs.now → AreRoots ctx abs.now found.items) }
 {

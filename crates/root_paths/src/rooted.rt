@@ -5,10 +5,10 @@ ghost use Rattle.root_paths.specs.Rooted.{outside as outside_of, rooted as roote
 use omega_kinds::Mem;
 use omega_types::{Ty, TyNode, next_level};
 
-// The variable that a normal type is, applied to exactly the `count` innermost variables in order; as it is written
-// outside these. `None` where the type is none.
+/// The index of the variable that a normal type is, applied to exactly the `count` innermost variables in order; as it is
+/// written outside these. `None` where the type is none. `Err` is want of memory.
 #[cycle(rooted)]
-pub(crate) fn rooted(ty: &Ty, count: u64) -> Result<Option<u64>, Mem>
+pub fn rooted(ty: &Ty, count: u64) -> Result<Option<u64>, Mem>
     ensures { IfOk result (λ own. own ≡ rooted_of count ty.now) }
 {
     match ty.node() {

@@ -9,7 +9,7 @@ ghost use Rattle.root_paths.specs.Seek.{seek, seek_abs, seek_row, behind, merged
 
 use crate::least::{least_in_sig, lesser};
 use crate::rooted::rooted;
-use omega_kinds::{Effect, Kind, Kinds, Mem};
+use omega_kinds::{Effect, Kinds, Mem};
 use omega_types::Ty;
 use semantic_sigs::{Abs, Item, Path, Sig, SigFields, SigNode};
 use std::alloc::Global;

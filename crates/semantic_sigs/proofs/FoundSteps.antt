@@ -1,45 +1,26 @@
 -- The entry at the place of a name, and what it stands for.
-use Rattle.std.specs.Prelude.{ℕ, zero, suc, ◌+◌, ◌-◌, ◌<◌, ◌≤◌, ◌≡◌, ◌==◌, List, [], ◌∷◌, ◌++◌, ◌↔◌, Bool, true, false, cond, Option, Some, None, IsSome, length, map, reverse, take}
-use Rattle.std.specs.HashMap.{HashMap, Updates, get}
+use Rattle.std.specs.Prelude.{ℕ, zero, suc, ◌+◌, ◌-◌, ◌<◌, ◌≤◌, ◌≡◌, ◌==◌, List, [], ◌∷◌, ◌++◌, ◌↔◌, Bool, true, false, Some, None, length, take}
+use Rattle.std.specs.HashMap.{HashMap, get}
 use Rattle.std.specs.Cmp.Lexicographic.{pointwise}
-use Rattle.std.specs.Map.{lookup}
-use Rattle.std.specs.Option.{option_to_list}
-use Rattle.std.specs.Ordering.{is_eq}
-use Rattle.std.specs.declared.cmp.Ordering.{Ordering}
-use Rattle.std.specs.declared.cmp.Ordering.TheVariants.{Less, Equal, Greater}
 use Rattle.std.proofs.Common.{get_or, arith, subst}
 use Rattle.std.proofs.lemmas.Bool.{false≢true}
-use Rattle.std.proofs.lemmas.Cmp.{nat_list_cmp_total, tied_itself}
-use Rattle.std.proofs.lemmas.List.{length-map, length-reverse, map-append, reverse-append}
-use Rattle.std.proofs.lemmas.Map.Lookups.{exact_bytes}
-use Rattle.std.proofs.Math.Path.{refl, sym, ◌∙◌, ap, ap₂, fun_ext}
+use Rattle.std.proofs.Math.Path.{refl, sym, ◌∙◌, ap, ap₂}
 use Rattle.omega_kinds.specs.Kind.{Kind}
-use Rattle.omega_kinds.specs.View.{kind_tree}
 use Rattle.omega_kinds.specs.declared.kind.Kind.{Kind as SharedKind}
-use Rattle.omega_kinds.specs.declared.label.Label.{Label}
-use Rattle.omega_kinds.proofs.NameLaws.{same_name-true, same_name-itself}
-use Rattle.omega_kinds.specs.Name.{Name, same_name}
-use Rattle.omega_types.specs.Ty.{Ty, lift}
+use Rattle.omega_kinds.specs.Name.{Name}
+use Rattle.omega_types.specs.Ty.{Ty}
 use Rattle.omega_types.specs.EtaLong.{eta}
-use Rattle.omega_types.specs.Scope.{scope_of}
 use Rattle.omega_types.specs.Index.{bump, shift}
-use Rattle.omega_types.specs.Substitution.{rename}
-use Rattle.omega_types.proofs.Algebra.{rename-weaken}
 use Rattle.omega_terms.specs.Term.{Term}
-use Rattle.omega_terms.specs.TermSubst.{ren_term, same_index}
-use Rattle.omega_terms.specs.PartTerms.{one_field, type_term, value_term}
-use Rattle.omega_terms.specs.Bound.{type_bound, term_bound}
-use Rattle.omega_terms.proofs.OneIndex.{ren_term-same}
+use Rattle.omega_terms.specs.PartTerms.{type_term, value_term}
 use Rattle.signatures.specs.Signatures.Sig.{Sig}
 use Rattle.signatures.specs.Signatures.SigSubst.{rename_sig}
-use Rattle.signatures.specs.Env.{Entry, Env, find, kinds, past_type, past_term, type_param, first_kind}
-use Rattle.sig_laws.proofs.Algebra.SigAlgebra.{rename-rename_sig, rename_sig-id}
+use Rattle.signatures.specs.Env.{Entry, Env, find, type_param, first_kind}
 use Rattle.semantic_sigs.specs.declared.env.Entry.{Entry as CodeEntry}
 use Rattle.semantic_sigs.specs.declared.env.Entry.TheVariants as entry
 use Rattle.semantic_sigs.specs.declared.env.Slot.{Slot}
 use Rattle.semantic_sigs.specs.Entries.{entry_of, is_named, type_vars, term_vars, here, here_first, seen}
-use Rattle.semantic_sigs.specs.Slots.{with_slots, type_count, term_count, place_of, hidden_by, IsSlot, AreSlots, Keeps, IsKept}
-use Rattle.semantic_sigs.proofs.TermAlgebra.{ren-ren_term}
+use Rattle.semantic_sigs.specs.Slots.{with_slots, type_count, term_count, place_of, IsSlot, IsKept}
 use Rattle.semantic_sigs.proofs.SeenSteps.{seen-none, found-if, past-if, find-named, find-other, same-counts, seen-param}
 use Rattle.semantic_sigs.proofs.SlotSteps.{with-take, take-all, length-slots, slot-at, length-scope}
 

@@ -1,5 +1,6 @@
 -- What the changes are: renamings, and the normal form of a substitution.
-use Rattle.std.specs.Prelude.{ℕ, zero, suc, ◌-◌, ◌≡◌, List, [], ◌∷◌}
+use Rattle.std.specs.Prelude.{ℕ, zero, suc, ◌+◌, ◌-◌, ◌≡◌, List, [], ◌∷◌, length}
+use Rattle.std.proofs.Common.{arith}
 use Rattle.std.proofs.Math.Path.{refl, sym, ◌∙◌, ap, ap₂, subst, fun_ext}
 use Rattle.omega_kinds.specs.Kind.{Kind}
 use Rattle.omega_kinds.specs.declared.label.Label.{Label}
@@ -16,7 +17,7 @@ use Rattle.omega_types.specs.Normality.Normal.{n_lam, n_int, n_bool, n_text, n_a
 use Rattle.omega_types.specs.Normality.Normals.{n_end, n_more}
 use Rattle.omega_types.specs.Normality.Neutral.{n_var, n_apply}
 use Rattle.omega_types.specs.Normaliser.{hsubst}
-use Rattle.omega_types.specs.Normalises.{NormalForm}
+use Rattle.omega_types.specs.Normalises.{NormalForm, Maps}
 use Rattle.omega_types.specs.Binders.{extend, lifts, unders, front, puts, NormalForms}
 use Rattle.omega_types.proofs.Single.{substitute_at-zero}
 use Rattle.omega_types.proofs.Hereditary.{hsubst-gives}
@@ -24,7 +25,9 @@ use Rattle.omega_types.proofs.Preservation.{maps-suc, normal-rename, neutral-ren
 use Rattle.signatures.specs.Signatures.Sig.{Sig, Abs, SigRow}
 use Rattle.signatures.specs.Signatures.SigSubst.{rename_sig, rename_abs, rename_sig_row, substitute_sig, substitute_abs, substitute_sig_row}
 use Rattle.signatures.specs.Signatures.Alike.{AlikeSig, AlikeAbs, AlikeRow, IsSigAt, NormalSig, NormalAbs, NormalSigRow}
+use Rattle.sig_laws.proofs.Algebra.AlikeLaws.{normal_sig-rename, normal_abs-rename}
 use Rattle.semantic_sigs.specs.View.{kinds_of, body_of}
+use Rattle.semantic_sigs.proofs.SigSteps.{sinks-sunk}
 use Rattle.semantic_sigs.specs.Changes.{Head, stands, came, tree, raised, apply_head, under_head, sunk, sinks, head_in, row_in, ty_in, sig_in, abs_in, sig_row_in, front_head, put_heads, raising, lowering, putting}
 
 -- renamings
@@ -87,6 +90,12 @@ abs-raised by from x = ap (λ h. abs_in h x) (sunk-raising by from) ∙ abs-rena
 
 pub sig-lowered : (by : ℕ) (s : Sig) → sig_in (sunk 0 (lowering by)) s ≡ rename_sig (λ i. i - by) s
 sig-lowered by s = sig-renamed (λ i. i - by) s
+
+pub sig-raised-normal : (by from : ℕ) (given raised : Sig) → raised ≡ rename_sig (bump by from) given → (ctx other : List Kind) → Maps ctx other (bump by from) → NormalSig ctx given → NormalSig other raised
+sig-raised-normal by from given raised e ctx other h n = subst (NormalSig other) (sym e) (normal_sig-rename (bump by from) h given n)
+
+pub abs-raised-normal : (by from : ℕ) (given raised : Abs) → raised ≡ rename_abs (bump by from) given → (ctx other : List Kind) → Maps ctx other (bump by from) → NormalAbs ctx given → NormalAbs other raised
+abs-raised-normal by from given raised e ctx other h n = subst (NormalAbs other) (sym e) (normal_abs-rename (bump by from) h given n)
 
 -- normal types put in for variables
 
@@ -181,3 +190,12 @@ sig-put ctx ks ts s n ns = sig-in (good-puts ns (good-vars ctx)) s n
 pub instantiated : (x : Abs) (ts : List Ty) (body s : Sig) → body ≡ body_of x → s ≡ sig_in (sunk 0 (putting ts)) body → (ctx : List Kind) → NormalAbs ctx x → NormalForms ctx ts (kinds_of x) ts → IsSigAt ctx (body_of x) ts s
 instantiated (Abs.Ex ks b) ts body s eb es ctx n ns =
     subst (λ u. AlikeSig NormalForm ctx (substitute_sig (puts ts Ty.Var) b) u) (sym (es ∙ ap (sig_in (sunk 0 (putting ts))) eb)) (sig-put ctx ks ts b n ns)
+
+pub instantiated-value : (x : Abs) (ts : List Ty) (body s : Sig) → body ≡ body_of x → s ≡ sig_in (sunk 0 (putting ts)) body → s ≡ sig_in (putting ts) (body_of x)
+instantiated-value x ts body s eb es = es ∙ ap (sig_in (putting ts)) eb
+
+-- a normal type below binders, at normal types of the right kinds for the variables outside of them
+pub ty-put : (depth : ℕ) (ts : List Ty) (t put : Ty) → put ≡ ty_in (sunk depth (putting ts)) t → (inner ctx ks : List Kind) (k : Kind) → length inner ≡ depth → NormalForms ctx ts ks ts → Normal (extend (extend ctx ks) inner) t k → NormalForm (extend ctx inner) (substitute (unders inner (puts ts Ty.Var)) t) k put
+ty-put depth ts t put e inner ctx ks k len ns n =
+    let h : sinks inner (putting ts) ≡ sunk depth (putting ts) = sinks-sunk inner zero (putting ts) ∙ ap (λ d. sunk d (putting ts)) (omega (arith, len)) in
+    subst (λ u. NormalForm (extend ctx inner) (substitute (unders inner (puts ts Ty.Var)) t) k u) (ap (λ g. ty_in g t) h ∙ sym e) (in-normal (good-sinks inner (good-puts ns (good-vars ctx))) n)

@@ -1,46 +1,25 @@
 -- Slots of an environment, and what is kept beside them: one entry more, and one less.
-use Rattle.std.specs.Prelude.{ℕ, zero, suc, ◌+◌, ◌-◌, ◌<◌, ◌≤◌, ◌≡◌, ◌==◌, List, [], ◌∷◌, ◌++◌, ◌↔◌, Bool, true, false, cond, Option, Some, None, IsSome, length, map, reverse, take}
+use Rattle.std.specs.Prelude.{ℕ, zero, suc, ◌+◌, ◌-◌, ◌<◌, ◌≤◌, ◌≡◌, ◌==◌, List, [], ◌∷◌, ◌++◌, ◌↔◌, Bool, true, false, cond, Option, Some, None, IsSome, length, map, take}
 use Rattle.std.specs.HashMap.{HashMap, Updates, get}
 use Rattle.std.specs.Bool.{one_answer}
 use Rattle.std.specs.Cmp.Lexicographic.{pointwise, bytes_decides}
-use Rattle.std.specs.Map.{lookup}
-use Rattle.std.specs.Option.{option_to_list}
-use Rattle.std.specs.Ordering.{is_eq}
-use Rattle.std.specs.declared.cmp.Ordering.{Ordering}
-use Rattle.std.specs.declared.cmp.Ordering.TheVariants.{Less, Equal, Greater}
 use Rattle.std.proofs.Common.{get_or, arith, subst}
 use Rattle.std.proofs.lemmas.Bool.{false≢true}
-use Rattle.std.proofs.lemmas.Cmp.{nat_list_cmp_total, tied_itself}
-use Rattle.std.proofs.lemmas.List.{length-map, length-reverse, map-append, reverse-append}
-use Rattle.std.proofs.lemmas.Map.Lookups.{exact_bytes}
-use Rattle.std.proofs.Math.Path.{refl, sym, ◌∙◌, ap, ap₂, fun_ext}
-use Rattle.omega_kinds.specs.Kind.{Kind}
+use Rattle.std.proofs.lemmas.List.{length-map, length-reverse}
+use Rattle.std.proofs.Math.Path.{refl, sym, ◌∙◌, ap, ap₂}
 use Rattle.omega_kinds.specs.View.{kind_tree}
 use Rattle.omega_kinds.specs.declared.kind.Kind.{Kind as SharedKind}
-use Rattle.omega_kinds.specs.declared.label.Label.{Label}
 use Rattle.omega_kinds.proofs.NameLaws.{same_name-true, same_name-itself}
 use Rattle.omega_kinds.specs.Name.{Name, same_name}
-use Rattle.omega_types.specs.Ty.{Ty, lift}
-use Rattle.omega_types.specs.EtaLong.{eta}
+use Rattle.omega_types.specs.Ty.{Ty}
 use Rattle.omega_types.specs.Scope.{scope_of}
-use Rattle.omega_types.specs.Index.{bump, shift}
-use Rattle.omega_types.specs.Substitution.{rename}
-use Rattle.omega_types.proofs.Algebra.{rename-weaken}
-use Rattle.omega_terms.specs.Term.{Term}
-use Rattle.omega_terms.specs.TermSubst.{ren_term, same_index}
-use Rattle.omega_terms.specs.PartTerms.{one_field, type_term, value_term}
-use Rattle.omega_terms.specs.Bound.{type_bound, term_bound}
-use Rattle.omega_terms.proofs.OneIndex.{ren_term-same}
 use Rattle.signatures.specs.Signatures.Sig.{Sig}
-use Rattle.signatures.specs.Signatures.SigSubst.{rename_sig}
-use Rattle.signatures.specs.Env.{Entry, Env, find, kinds, past_type, past_term, type_param, first_kind}
-use Rattle.sig_laws.proofs.Algebra.SigAlgebra.{rename-rename_sig, rename_sig-id}
+use Rattle.signatures.specs.Env.{Entry, Env, kinds}
 use Rattle.semantic_sigs.specs.declared.env.Entry.{Entry as CodeEntry}
 use Rattle.semantic_sigs.specs.declared.env.Entry.TheVariants as entry
 use Rattle.semantic_sigs.specs.declared.env.Slot.{Slot}
-use Rattle.semantic_sigs.specs.Entries.{entry_of, is_named, type_vars, term_vars, here, here_first, seen}
+use Rattle.semantic_sigs.specs.Entries.{entry_of, is_named, term_vars}
 use Rattle.semantic_sigs.specs.Slots.{with_slots, type_count, term_count, place_of, hidden_by, IsSlot, AreSlots, Keeps, IsKept}
-use Rattle.semantic_sigs.proofs.TermAlgebra.{ren-ren_term}
 use Rattle.semantic_sigs.proofs.SeenSteps.{found-if, past-if}
 
 -- the slots
@@ -101,14 +80,8 @@ equal-name y x =
 
 -- what is kept
 
-scope-last : (scope : List SharedKind) (k : SharedKind) → scope_of (scope ++ k ∷ []) ≡ kind_tree k ∷ scope_of scope
-scope-last scope k = ap reverse (map-append kind_tree scope (k ∷ [])) ∙ reverse-append (map kind_tree scope) (kind_tree k ∷ [])
-
 pub length-scope : (scope : List SharedKind) → length (scope_of scope) ≡ length scope
 length-scope scope = length-reverse (map kind_tree scope) ∙ length-map scope kind_tree
-
-pub keeps-type : {S : Type 0} → (old new : List SharedKind) (before after : HashMap Name ℕ S) (k : SharedKind) (g : Env) → new ≡ old ++ k ∷ [] → after.entries ≡ before.entries → Keeps old before g → Keeps new after (Entry.TypeVar (kind_tree k) ∷ g)
-keeps-type old new before after k g en em h = (ap scope_of en ∙ (scope-last old k ∙ ap (λ ks. kind_tree k ∷ ks) h.0), λ x. ap (lookup (pointwise ◌==◌ x)) em ∙ h.1 x)
 
 pub keeps-name : {S : Type 0} → (list new : List SharedKind) (before after : HashMap Name ℕ S) (y : Name) (at : ℕ) (e : Entry) (g : Env) → ((x : Name) → is_named x e ≡ same_name x y) → kinds (e ∷ g) ≡ kinds g → new ≡ list
     → Updates (pointwise ◌==◌) before after y (Some at) → length g ≡ at → Keeps list before g → Keeps new after (e ∷ g)
@@ -116,20 +89,6 @@ keeps-name list new before after y at e g named same en u lg h = (ap scope_of en
   where
     go : (x : Name) → cond (pointwise ◌==◌ y x) (Some at) (get (pointwise ◌==◌) before x) ≡ cond (is_named x e) (Some (length g)) (place_of g x)
     go x = ap₂ (λ b o. cond b (Some at) o) (equal-name y x ∙ sym (named x)) (h.1 x) ∙ ap (λ n. cond (is_named x e) (Some n) (place_of g x)) (sym lg)
-
-pub kinds-less : (old new : List SharedKind) (r : Option SharedKind) (k : Kind) (ks : List Kind) → old ≡ new ++ option_to_list r → (IsSome r ↔ (0 < length old)) → scope_of old ≡ k ∷ ks → scope_of new ≡ ks
-kinds-less old new (Some k') k ks eo variant h = tails (sym (scope-last new k') ∙ (sym (ap scope_of eo) ∙ h))
-  where
-    tails : {j : Kind} {js : List Kind} → j ∷ js ≡ k ∷ ks → js ≡ ks
-    tails e = cc
-kinds-less [] new None k ks eo variant h = absurd (empty h)
-  where
-    empty : {j : Kind} {js : List Kind} → [] ≡ j ∷ js → ⊥
-    empty e = cc
-kinds-less (o ∷ os) new None k ks eo variant h = absurd (false≢true (variant.1 (omega arith)))
-
-pub back-type : {S : Type 0} → (old new : List SharedKind) (before after : HashMap Name ℕ S) (r : Option SharedKind) (k : Kind) (g : Env) → old ≡ new ++ option_to_list r → (IsSome r ↔ (0 < length old)) → after.entries ≡ before.entries → Keeps old before (Entry.TypeVar k ∷ g) → Keeps new after g
-back-type old new before after r k g eo variant em h = (kinds-less old new r k (kinds g) eo variant h.0, λ x. ap (lookup (pointwise ◌==◌ x)) em ∙ h.1 x)
 
 is-some : {A : Type 0} (o : Option A) (x : A) → o ≡ Some x → IsSome o
 is-some (Some y) x e = refl
@@ -167,9 +126,6 @@ hidden-is list before y hidden e n eh g h = eh ∙ (h.1 y ∙ sym (n.2 g))
 
 pub forgotten : {S : Type 0} → (list : List SharedKind) (before after : HashMap Name ℕ S) (y : Name) (hidden : Option ℕ) (e : Entry) → IsOf e y → (IsSome (get (pointwise ◌==◌) before y) → Updates (pointwise ◌==◌) before after y hidden) → (g : Env) → hidden ≡ hidden_by e g → Keeps list before (e ∷ g) → Keeps list after g
 forgotten list before after y hidden e n u g eh h = back-name list list before after y hidden e g n.0 (n.1 g) refl (eh ∙ n.2 g) u h
-
-pub kept-same : {S : Type 0} → (slots same : List Slot) (list again : List SharedKind) (before after : HashMap Name ℕ S) (terms : ℕ) → same ≡ slots → again ≡ list → after.entries ≡ before.entries → IsKept slots list before terms → IsKept same again after terms
-kept-same slots same list again before after terms es el em kept = subst (λ all. IsKept all again after terms) (sym es) (kept.0, (ap scope_of el ∙ kept.1.0, λ x. ap (lookup (pointwise ◌==◌ x)) em ∙ kept.1.1 x), kept.2)
 
 -- one entry more, and one less
 

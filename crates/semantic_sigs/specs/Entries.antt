@@ -1,5 +1,5 @@
 -- The entries of the code's environments, and what one of them alone stands for.
-use Rattle.std.specs.Prelude.{ℕ, zero, List, [], ◌∷◌, Bool, false, Option, Some, None}
+use Rattle.std.specs.Prelude.{ℕ, zero, [], ◌∷◌, Bool, false, Option, Some, None}
 use Rattle.omega_kinds.specs.Name.{Name, same_name}
 use Rattle.omega_kinds.specs.View.{kind_tree}
 use Rattle.omega_types.specs.Index.{bump}

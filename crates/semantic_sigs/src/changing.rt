@@ -1,8 +1,12 @@
 // Operations on the variables in signatures: raised, lowered, and types put in for the hidden ones.
 ghost use Rattle.std.specs.Prelude.{◌≡◌, ℕ, ◌+◌, ◌-◌, ◌<◌, ◌++◌, IfOk, List, length};
 ghost use Rattle.omega_kinds.specs.Kind.{Kind as KindTree};
-ghost use Rattle.omega_types.specs.Binders.{NormalForms};
+ghost use Rattle.omega_types.specs.Binders.{NormalForms, extend, puts, unders};
 ghost use Rattle.omega_types.specs.Index.{bump};
+ghost use Rattle.omega_types.specs.Normalises.{Maps, NormalForm};
+ghost use Rattle.omega_types.specs.Normality.{Normal};
+ghost use Rattle.omega_types.specs.Substitution.{substitute};
+ghost use Rattle.omega_types.specs.Ty.{Var};
 ghost use Rattle.signatures.specs.Signatures.Alike.{IsSigAt, NormalSig, NormalAbs};
 ghost use Rattle.signatures.specs.Signatures.SigMentions.{MentionsSig};
 ghost use Rattle.signatures.specs.Signatures.SigSubst.{rename_sig, rename_abs};
@@ -17,50 +21,56 @@ use omega_kinds::{Kinds, Mem};
 use std::alloc::Global;
 use type_normal::NormalTy;
 
-/// The body of an abstract signature with normal types put in for its hidden ones, one for each, the first for the
-/// outermost: the normal form of the substitution. The types stand in the context of the abstract signature.
+/// The body of an abstract signature with normal types put in for the innermost variables, one for each, the first for
+/// the outermost, whatever types they are. Where they are one for each hidden type and of its kind, and stand as the
+/// signature in the context `ctx`, in which it is normal, it is the normal form of the substitution.
 /// `Err` is want of memory, also where an index would pass the last number.
 ///
 /// Rossberg, Russo and Dreyer, "F-ing modules", section 4, Signature matching: a signature at types for its variables.
 pub fn instantiate(alloc: Global, abs: &Abs, types: &[NormalTy]) -> Result<Sig, Mem>
-    ensures { IfOk result (λ s. (ctx : List KindTree) → NormalAbs ctx abs.now → NormalForms ctx types.now (kinds_of abs.now) types.now → IsSigAt ctx (body_of abs.now) types.now s) }
+    ensures value { IfOk result (λ s. s ≡ sig_in (putting types.now) (body_of abs.now)) }
+    ensures normal { IfOk result (λ s. (ctx : List KindTree) → NormalAbs ctx abs.now → NormalForms ctx types.now (kinds_of abs.now) types.now → IsSigAt ctx (body_of abs.now) types.now s) }
 {
     changed_sig(alloc, abs.body(), Change::Put(types), 0)
 }
 
 /// A type below `depth` binders, with normal types put in for the innermost variables outside these binders, one for
-/// each, the first for the outermost: what the definition of putting in gives, which is the normal form of the
-/// substitution where the types have the kinds of the variables. `Err` is want of memory, also where an index would pass
-/// the last number.
+/// each, the first for the outermost, whatever types they are. Where the types have the kinds of the variables in the
+/// context `ctx` outside of both, and the type is normal under both, it is the normal form of the substitution under the
+/// binders `inner`. `Err` is want of memory, also where an index would pass the last number.
 pub fn put_types(
     alloc: Global,
     ty: &NormalTy,
     types: &[NormalTy],
     depth: u64,
 ) -> Result<NormalTy, Mem>
-    ensures { IfOk result (λ t. t ≡ ty_in (sunk depth (putting types.now)) ty.now) }
+    ensures value { IfOk result (λ t. t ≡ ty_in (sunk depth (putting types.now)) ty.now) }
+    ensures normal { IfOk result (λ t. (inner ctx ks : List KindTree) (k : KindTree) → length inner ≡ depth → NormalForms ctx types.now ks types.now → Normal (extend (extend ctx ks) inner) ty.now k → NormalForm (extend ctx inner) (substitute (unders inner (puts types.now Var)) ty.now) k t) }
 {
     change_ty(alloc, ty, Change::Put(types), depth)
 }
 
-/// The signature with `by` added to each free index that is at least `from`. It stands in each context to which the shift
-/// takes one of the argument's. `Err` is want of memory, also where an index would pass the last number.
+/// The signature with `by` added to each free index that is at least `from`. Its types are normal in each context to
+/// which the shift takes one where the argument's are. `Err` is want of memory, also where an index would pass the last
+/// number.
 pub fn raise_sig(alloc: Global, sig: &Sig, by: u64, from: u64) -> Result<Sig, Mem>
-    ensures { IfOk result (λ s. s ≡ rename_sig (bump by from) sig.now) }
+    ensures value { IfOk result (λ s. s ≡ rename_sig (bump by from) sig.now) }
+    ensures normal { IfOk result (λ s. (ctx other : List KindTree) → Maps ctx other (bump by from) → NormalSig ctx sig.now → NormalSig other s) }
 {
     changed_sig(alloc, sig, Change::Raise(by), from)
 }
 
 /// The same for an abstract signature.
 pub fn raise_abs(alloc: Global, abs: &Abs, by: u64, from: u64) -> Result<Abs, Mem>
-    ensures { IfOk result (λ x. x ≡ rename_abs (bump by from) abs.now) }
+    ensures value { IfOk result (λ x. x ≡ rename_abs (bump by from) abs.now) }
+    ensures normal { IfOk result (λ x. (ctx other : List KindTree) → Maps ctx other (bump by from) → NormalAbs ctx abs.now → NormalAbs other x) }
 {
     changed_abs(alloc, abs, Change::Raise(by), from)
 }
 
-/// The signature with each free index less by `by`. Where it mentions no index below `by`, it is the one signature
-/// which, raised by `by` from 0, is the given one, and its types are normal in the context without the `by` innermost
-/// variables. `Err` is want of memory.
+/// The signature with each free index less by `by`, an index below `by` becoming 0. Where it mentions no index below
+/// `by`, it is a signature which, raised by `by` from 0, is the given one, and its types are normal in the context
+/// without the `by` innermost variables. `Err` is want of memory.
 pub fn lower_sig(alloc: Global, sig: &Sig, by: u64) -> Result<Sig, Mem>
     ensures value { IfOk result (λ s. s ≡ rename_sig (λ i. i - by) sig.now) }
     ensures raised { IfOk result (λ s. ((i : ℕ) → i < by → MentionsSig i sig.now → ⊥) → rename_sig (bump by 0) s ≡ sig.now) }

@@ -27,7 +27,7 @@ use type_normal::{NormalTy, normal, plain, raise};
 
 /// An entry of an environment: a type variable of a kind; a name for a module of a signature, whose term is a new term
 /// variable; a name for a value of a type, which is a new term variable; or a name for the type variable of the entry
-/// just before.
+/// just before. Where no type variable stands just before, that last one stands for index 0, at kind `*`.
 ///
 /// Rossberg, Russo and Dreyer, "F-ing modules", section 4, Elaboration: its environments map names to signatures.
 #[derive(Drop)]

@@ -6,7 +6,8 @@ use omega_terms::Term;
 use type_normal::NormalTy;
 
 /// What is made of a module: its effect, its signature and its term. Where it is pure, `types` are the types of the
-/// variables that its signature hides, beside the term; an impure one has none, and they are packed into its term.
+/// variables that its signature hides, beside the term; an impure one has none, and they are packed into its term. So
+/// elaboration makes it: the fields are public, and no invariant says it.
 ///
 /// Rossberg, Russo and Dreyer, "F-ing modules", section 7, Applicative functors; the types beside the term are this
 /// project's own.

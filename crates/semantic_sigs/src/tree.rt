@@ -32,7 +32,8 @@ pub struct Sig {
     made: Rc<Made>,
 }
 
-// A node with its extent, in which each form counts `LEVELS`, and those of types and kinds one, and with its encoding.
+// A node with its extent, in which each form counts `LEVELS`, and those of types and of the kind of a `Typ` one, and with
+// its encoding.
 #[cycle(sig)]
 #[derive(Drop)]
 struct Made {
@@ -168,8 +169,8 @@ impl Model for Abs {
 }
 
 impl Sig {
-    /// The signature that a node makes. `Err` is want of memory, also for a signature that is too high or too
-    /// large (`Extent::over`).
+    /// The signature that a node makes, with its encoding, in time linear in the node's fields and quantifiers. `Err` is
+    /// want of memory, also where the signature or its encoding is too high or too large (`Extent::over`).
     pub fn make(alloc: Global, node: SigNode) -> Result<Sig, Mem>
         ensures { IfOk result (λ s. s ≡ sig_of node) }
     {
@@ -201,8 +202,9 @@ impl Sig {
         self.bound
     }
 
-    /// How high and how large the signature is: each of its forms counts three in the height, and each form of its
-    /// types and of kinds one. Takes one step. No signature is higher than 4,096.
+    /// How high and how large the signature is, or more: each of its forms counts three in the height, and each form of
+    /// its types one. The kinds of the variables of functors and of abstract signatures do not count; the kind of a `Typ`
+    /// may. Takes one step. No signature is higher than 4,096.
     pub fn extent(&self) -> Extent
         ensures height { sig_height self.now ≤ result.height }
         ensures high { result.height ≤ 4096 }
@@ -364,7 +366,8 @@ impl Abs {
         self.bound
     }
 
-    /// How high and how large the signature is, counted as in `Sig::extent`. Takes one step.
+    /// How high and how large the signature is, or more, counted as in `Sig::extent`: the kinds of the hidden types do not
+    /// count. Takes one step.
     pub fn extent(&self) -> Extent
         ensures height { abs_height self.now ≤ result.height }
         ensures high { result.height ≤ 4096 }

@@ -2,7 +2,7 @@
 use Rattle.std.proofs.Common.{◌≡◌, ℕ, ◌+◌, ◌<◌, ◌≤◌, List, ◌∷◌, length, get_or, drop, sym, subst, drop_of_length-le}
 use Rattle.omega_kinds.specs.Name.{Name}
 use Rattle.signatures.specs.Explicit.SigPath.{PartAt}
-use Rattle.signatures.specs.Signatures.Sig.{NoField, Sig, SigRow}
+use Rattle.signatures.specs.Signatures.Sig.{Sig}
 use Rattle.sig_rules.specs.Refinement.{Lacks, Leads, LeavesAt, here, there}
 use Rattle.semantic_sigs.proofs.PartSteps.{left-more}
 use Rattle.sig_calls.specs.Hidden.{IsAt}
@@ -29,7 +29,3 @@ step-lost s w path i l lt el n f = f.1 l (subst (λ names. Leaves s names l) (sy
 
 pub path-done : (s w : Sig) (path : List Name) (i : ℕ) → length path ≤ i → Follows s (drop i path) w path → Leads w path s
 path-done s w path i le f = f.0 s (subst (λ names. Leads s names s) (sym (drop_of_length-le path le)) PartAt.end)
-
--- what a structure has under a name, and what another signature lacks
-pub lacks-field : (s : Sig) (l : Name) (fs : SigRow) → s ≡ Sig.Str fs → NoField l fs → Lacks s l
-lacks-field s l fs e n = subst (λ u. Lacks u l) (sym e) n

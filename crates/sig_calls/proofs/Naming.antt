@@ -1,5 +1,5 @@
 -- Names that are new, tried one after the other.
-use Rattle.std.proofs.Common.{◌≡◌, ◌↔◌, ℕ, ◌+◌, ◌<◌, ◌≤◌, List, length, get_or, drop, sym, subst, drop_of_length-le}
+use Rattle.std.proofs.Common.{◌≡◌, ◌↔◌, ℕ, ◌+◌, ◌<◌, ◌≤◌, List, length, get_or, drop, sym, subst}
 use Rattle.omega_kinds.specs.Name.{Name}
 use Rattle.semantic_sigs.specs.Fields.{SigPairs, sig_row}
 use Rattle.semantic_sigs.proofs.PartSteps.{left-more}
@@ -15,9 +15,6 @@ not-found l names i m lt em n f =
     let e = left-more names i m lt em in
     (λ h. f.0 (subst (IsNew l) (sym e) (n, h)), λ h. (subst (IsNew l) e (f.1 h)).1)
 
-pub all-tried : (l : Name) (names : List Name) (i : ℕ) → length names ≤ i → (IsNew l (drop i names) ↔ IsNew l names) → IsNew l names
-all-tried l names i le f = f.0 (subst (IsNew l) (sym (drop_of_length-le names le)) tt)
-
 -- what holds of the fields that are left holds of all
 abbrev pub Passes : List Name → SigPairs → SigPairs → Type 0
 Passes before rest all = (AreNew (sig_row rest) before → AreNew (sig_row all) before) × ((l : Name) → FirstOld (sig_row rest) before l → FirstOld (sig_row all) before l)
@@ -29,6 +26,3 @@ pub one-passed : (before : List Name) (fields : SigPairs) (i : ℕ) (x : Name ×
 one-passed before fields i x lt e n p =
     let f = left-more fields i x lt e in
     (λ a. p.0 (subst (λ (xs : SigPairs). AreNew (sig_row xs) before) (sym f) (n, a)), λ l o. p.1 l (subst (λ (xs : SigPairs). FirstOld (sig_row xs) before l) (sym f) (there n o)))
-
-pub all-passed : (before : List Name) (fields : SigPairs) (i : ℕ) → length fields ≤ i → Passes before (drop i fields) fields → AreNew (sig_row fields) before
-all-passed before fields i le p = p.0 (subst (λ (xs : SigPairs). AreNew (sig_row xs) before) (sym (drop_of_length-le fields le)) tt)

@@ -1,7 +1,8 @@
 // The laws of semantic signatures: substitution, normal forms, encoding, lifting and coercions.
 // Stands on signatures.
-// Proved: substitution keeps shapes, parts, root paths, well-formedness and explicitness; each signature has one normal
-// form; encodings are convertible exactly where the signatures are; each coercion has the type that its rule says.
+// Proved: substitution keeps shapes, parts, root paths, well-formedness and explicitness (`substitution`); each signature
+// has one normal form, and encodings are convertible exactly where the signatures are (`normal_signatures`); each coercion
+// has the type that its rule says (`coercions`).
 #![tactic(auto)]
 
 ghost use Rattle.sig_laws.specs.SigLaws.{SubstituteId, SubstituteTwice, SubstituteAgree, SizeKept, PartKept, RootKept, WellFormedKept, ResultsKept, ExplicitKept, WellFormedConv, NormalSigGives, EncNormal, EncInjective, ConvExactly, OperatorFound};
@@ -35,7 +36,8 @@ pub fn substitution()
 
 /// Conversion keeps signatures well formed; each well formed signature has exactly one normal form, whose encoding is
 /// normal; signatures of one encoding are the same; two well formed signatures are convertible exactly where their
-/// encodings are; and at most one operator, applied to the variables of binders, is convertible to a given type.
+/// encodings are; and at most one normal operator, applied to the variables of binders, is convertible to a given
+/// normal type.
 pub fn normal_signatures()
     ensures conv { WellFormedConv }
     ensures normal { NormalSigGives }

@@ -34,13 +34,13 @@ use Rattle.sig_match.specs.declared.refusal.Matched.{Matched}
 use Rattle.sig_match.specs.declared.refusal.MatchRefusal.{MatchRefusal as CodeRefusal}
 use Rattle.sig_match.specs.Coerced.{IsAbsCoercion}
 use Rattle.sig_match.specs.Put.{AreNormal, filled, MayPut, EachPut, MayPutUnder, EachPutUnder}
-use Rattle.sig_match.specs.Refusals.{Gives, Holds, inside, plain_refusal, want_of_memory}
+use Rattle.sig_match.specs.Refusals.{Gives, Holds, inside, plain_refusal}
 use Rattle.root_paths.specs.Roots.{AreRoots}
 use Rattle.sig_match.specs.Looking.{Ends, Looks, LookSides, Refusing, lam_found, MayLook, EachLook, MayLookInto, EachLookInto, FirstFound, NextSides, MayLookNext, EachLookNext, EachLookAll, IfMatched, IsTarget}
 use Rattle.sig_match.specs.Outcomes.{MayMatch, EachMatch, SubGives, MaySub, EachSub, MaySubAbs, EachSubAbs, ResultGives, ResultHolds, MayResult, EachResult, EachField}
 use Rattle.sig_match.proofs.Given.{holds-given, holds-map, holds-within}
 use Rattle.sig_match.proofs.LookSteps.{end-looks, part-sides, part-looks, left-lacks, right-lacks, put-right, res-looks, other-arg, other-meta, no-left_functor, no-right_functor, not-pure, refused-looks, matched-looks, result-sides, nothing-put}
-use Rattle.sig_match.proofs.NextSteps.{next-sides, next-some, next-none, rooted, first-none, first-more, first-all}
+use Rattle.sig_match.proofs.NextSteps.{next-sides, next-some, next-none, first-none, first-more, first-all}
 use Rattle.sig_match.proofs.SubSteps.{clashed, Parts, parts-next, item-right, field-refused, field-later, fields-same, meta-there, meta-back, meta-same, param-sides, result_sides, effects-clash, param-no, outer-no, functor-same, abs-under, abs-same, abs-no, match-put, match-at, match-right, match-ok, match-no}
 
 -- matching
@@ -113,9 +113,6 @@ next-lacks depth s x ts p q index e eq ei g k = λ ctx c v.
     holds-given (RefusesMatch ctx s x) (Some (NoRoot index p)) (plain_refusal e) g
     (subst (λ i. RefusesMatch ctx s x (NoRoot i p)) (sym ei) (next-none ctx s x ts p v (λ n a. subst (λ z. Looks ctx s z n None) eq (k ctx c (next-sides x (Some p) v) n a))))
 
-pub next-unrooted : (depth : ℕ) (s : Sig) (x : Abs) (ts : List Ty) (o : Result Ty CodeRefusal) → EachLookNext depth s x ts None o
-next-unrooted depth s x ts o = λ ctx c v. absurd (rooted ctx s x ts v)
-
 -- as the code has the root and the sides
 
 look-same : (depth : ℕ) (s r q : Sig) (p : SigPath) (ks js : List Kind) (ts : List Ty) (o : Option Ty) → ks ≡ js → r ≡ q → EachLook depth s p ks r ts o → EachLook depth s p js q ts o
@@ -132,12 +129,6 @@ root-has depth s r x ts root p q ks t e ek er eq k =
 pub root-lacks : (depth : ℕ) (s r : Sig) (x : Abs) (ts : List Ty) (root : Option SigPath) (p q : SigPath) (ks : List Kind) (index : ℕ) (g : CodeRefusal) → root ≡ Some p → ks ≡ kinds_of x → r ≡ body_of x → q ≡ p → index ≡ length ts → Gives (Some (NoRoot index p)) (plain_refusal g) → EachLook depth s q ks r ts None → EachLookNext depth s x ts root (Err g)
 root-lacks depth s r x ts root p q ks index g e ek er eq ei gi k =
     subst (λ z. EachLookNext depth s x ts z (Err g)) (sym e) (next-lacks depth s x ts p q index g eq ei gi (look-same depth s r (body_of x) q ks (kinds_of x) ts None ek er k))
-
-pub root-none : (depth : ℕ) (s : Sig) (x : Abs) (ts : List Ty) (root : Option SigPath) (o : Result Ty CodeRefusal) → root ≡ None → EachLookNext depth s x ts root o
-root-none depth s x ts root o e = subst (λ z. EachLookNext depth s x ts z o) (sym e) (next-unrooted depth s x ts o)
-
-pub no-memory : (P : MatchRefusal → Type 0) (e : CodeRefusal) → e ≡ want_of_memory → Holds P (plain_refusal e)
-no-memory P e h = subst (λ z. Holds P (plain_refusal z)) (sym h) tt
 
 pub none-below : {A : Type 0} (xs : List A) → length xs < 1 → xs ≡ []
 none-below [] lt = refl

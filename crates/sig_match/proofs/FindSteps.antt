@@ -47,13 +47,6 @@ none-all (x ∷ xs) (suc i) l a b = (a.0, none-all xs i l a.1 b)
 abbrev pub Sought : SigPairs → Name → (low high : ℕ) → Type 0
 Sought xs l low high = (low ≤ high) × (high ≤ length xs) × NoField l (sig_row (take low xs)) × NoField l (sig_row (drop high xs))
 
-pub sought-first : (xs : SigPairs) (l : Name) → Sought xs l 0 (length xs)
-sought-first xs l = (omega arith, omega arith, tt, none xs)
-  where
-    none : (xs : SigPairs) → NoField l (sig_row (drop (length xs) xs))
-    none [] = tt
-    none (x ∷ xs) = none xs
-
 pub sought-found : (xs : SigPairs) (i : ℕ) (x : Name × Sig) (l : Name) → Rises xs → i < length xs → x ≡ get_or xs i x → l ≡ x.0 → HasField (sig_row xs) l x.1
 sought-found xs i x l r lt e el = subst (λ m. HasField (sig_row xs) m x.1) (sym el) (subst (λ y. HasField (sig_row xs) y.0 y.1) (sym e) (has-at xs i x r lt))
 

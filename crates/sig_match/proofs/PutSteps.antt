@@ -54,18 +54,10 @@ filled-more kinds ts i kind t types grown lt ek et eg e =
     one : (i : ℕ) → suc i ≡ i + 1
     one i = omega arith
 
-pub filled-first : (kinds : List SharedKind) (ts : List Ty) → take 0 (filled (map kind_tree kinds) ts) ≡ []
-filled-first [] ts = refl
-filled-first (k ∷ kinds) [] = refl
-filled-first (k ∷ kinds) (t ∷ ts) = refl
-
 -- types put in for hidden ones
 
 pub put-found : (ks : List Kind) (s n : Sig) (ts us : List Ty) (x : Abs) → x ≡ Abs.Ex ks s → us ≡ ts → EachPut (kinds_of x) (body_of x) us n → EachPut ks s ts n
 put-found ks s n ts us x e eu h = subst (λ z. EachPut (kinds_of z) (body_of z) ts n) e (subst (λ v. EachPut (kinds_of x) (body_of x) v n) eu h)
-
-pub may-put_found : (ks : List Kind) (s : Sig) (ts us : List Ty) (x : Abs) → x ≡ Abs.Ex ks s → us ≡ ts → MayPut ks s ts → MayPut (kinds_of x) (body_of x) us
-may-put_found ks s ts us x e eu h = subst (λ z. MayPut (kinds_of z) (body_of z) us) (sym e) (subst (MayPut ks s) (sym eu) h)
 
 pub put-at : (x : Abs) (ts : List Ty) (n : Sig) → ((ctx : List Kind) → NormalAbs ctx x → NormalForms ctx ts (kinds_of x) ts → IsSigAt ctx (body_of x) ts n) → EachPut (kinds_of x) (body_of x) ts n
 put-at (Abs.Ex ks r) ts n h = h

@@ -16,9 +16,10 @@ use std::alloc::Global;
 /// normal.
 ///
 /// Ok gives types and the coercion at which the left side is a subtype of the right side's body, exactly where there are
-/// such. `NoRoot` is answered exactly where a hidden type of the right side is not found on the left along its least root
-/// path, with the first one; `Clash` exactly where all are found and the sides do not agree at these types, with the first
-/// place in the order of tests. `Mem` is want of memory, also where an index would pass the last number.
+/// such. Where a hidden type of the right side is not found on the left along its least root path, `NoRoot` tells the first
+/// one. Where all are found and the sides do not agree at these types, the first place in the order of tests is told: by
+/// `Clash`; or, where parts that are matched in their turn have no match, by the refusal of that match, the way to them
+/// standing before its path. `Mem` is want of memory, also where an index would pass the last number.
 ///
 /// Rossberg, Russo and Dreyer, "F-ing modules", sections 4, Signature matching, and 5, Decidability; here through results
 /// of pure functors too.

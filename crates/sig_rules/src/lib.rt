@@ -1,7 +1,7 @@
 // The rules of signatures and declarations: what each makes of premises that are elaborated already, and how it is refused.
 // Specifications and their laws only; the calls that follow them stand in a crate of their own above.
 // Stands on signatures and premise_laws.
-// Proved: each rule has exactly one conclusion or exactly one refusal.
+// Proved: each rule has exactly one conclusion or exactly one refusal (`signature_rules`).
 #![tactic(auto)]
 
 ghost use Rattle.sig_rules.specs.OneOutcome.{OneValue, OneType, OneAbstract, OneModule, OneSignature, OneInclude, OneDistinct, OneDeclarations, OneGenerative, OneWhere};

@@ -6,7 +6,6 @@ use Rattle.omega_scopes.specs.Scoped.{fits, ty_scoped}
 use Rattle.omega_scopes.proofs.ScopeTests.{below, two, under_true, ty-sound, ty-complete}
 use Rattle.signatures.specs.Matching.MatchRefusal.{Why}
 use Rattle.signatures.specs.Signatures.Sig.{Sig, Abs, SigRow}
-use Rattle.semantic_sigs.specs.View.{kinds_of, body_of}
 use Rattle.sig_text.specs.SigInScope.{SigInScope, AbsInScope, SigRowInScope}
 use Rattle.fing_syntax.specs.Phrase.{Span}
 use Rattle.fing_refusals.specs.Refusal.{ElabWhy}
@@ -17,9 +16,6 @@ use Rattle.sig_scopes.specs.SigDepth.{sig_depth, abs_depth, sig_row_depth}
 use Rattle.sig_scopes.specs.ReasonScoped.{clash_scoped, reason_scoped, given_scoped, clash_depth, reason_depth, given_depth}
 
 -- signatures
-
-pub abs-parts : (n : ℕ) (x : Abs) → abs_scoped n x ≡ (fits (n + length (kinds_of x)) && sig_scoped (n + length (kinds_of x)) (body_of x))
-abs-parts n (Abs.Ex ks s) = refl
 
 mutual
   pub sig-sound : (n : ℕ) (s : Sig) → n < 2 ^ 64 → sig_scoped n s ≡ true → SigInScope n s

@@ -1,6 +1,6 @@
 -- The sides of the worked matches are good ones.
 use Rattle.std.specs.Prelude.{[], ◌∷◌, ◌≡◌}
-use Rattle.std.proofs.Common.{subst, sym, refl}
+use Rattle.std.proofs.Common.{subst, sym}
 use Rattle.omega_kinds.specs.Kind.{Kind}
 use Rattle.omega_types.specs.Kinding.{here}
 use Rattle.omega_types.specs.Kinding.HasKind.{k_var, k_int}

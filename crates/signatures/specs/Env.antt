@@ -1,4 +1,5 @@
--- Environments of elaboration. The first entry is the innermost, as in all contexts here.
+-- Environments of elaboration (Rossberg, Russo, Dreyer, F-ing modules, section 4). The first entry is the innermost, as in
+-- all contexts here.
 use Rattle.std.specs.Prelude.{zero, suc, List, [], ◌∷◌, cond, Option, Some, None}
 use Rattle.omega_kinds.specs.Kind.{Kind}
 use Rattle.omega_kinds.specs.Name.{Name, same_name}

@@ -1,4 +1,5 @@
--- The term of a module with the types that its signature hides packed into it.
+-- The term of a module with the types that its signature hides packed into it (Rossberg, Russo, Dreyer, F-ing modules,
+-- sections 4 and 7).
 use Rattle.std.specs.Prelude.{List, []}
 use Rattle.omega_kinds.specs.Kind.{Kind}
 use Rattle.omega_kinds.specs.declared.effect.Effect.TheVariants.{Pure, Impure}

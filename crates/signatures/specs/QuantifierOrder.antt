@@ -1,4 +1,5 @@
--- The order of the quantifiers of a package type, and the signature with its quantifiers in that order.
+-- The order of the quantifiers of a package type, and the signature with its quantifiers in that order: packages are those
+-- of Rossberg, Russo, Dreyer, F-ing modules, section 6, the order is own.
 use Rattle.std.specs.Prelude.{ℕ, zero, suc, List, [], ◌∷◌, ◌≢◌, ◌<◌, ◌==◌, nat_lt, cond, length, map}
 use Rattle.omega_kinds.specs.Kind.{Kind}
 use Rattle.omega_kinds.specs.declared.effect.Effect.TheVariants.{Pure, Impure}

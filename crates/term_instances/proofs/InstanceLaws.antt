@@ -4,12 +4,11 @@ use Rattle.std.proofs.Common.{arith}
 use Rattle.std.proofs.Math.Path.{sym, subst}
 use Rattle.omega_kinds.specs.Kind.{Kind}
 use Rattle.omega_types.specs.Ty.{Ty}
-use Rattle.omega_types.specs.Substitution.{under}
 use Rattle.omega_types.specs.Binders.{extend, puts, NormalForms}
 use Rattle.omega_terms.specs.Term.{Term, TermRow}
 use Rattle.omega_terms.specs.Instance.{TyInstance, Instance, Instances}
 use Rattle.sig_laws.specs.Good.{NormalTerm}
-use Rattle.semantic_sigs.specs.Changes.{Head, ty_in, under_head, sunk, putting}
+use Rattle.semantic_sigs.specs.Changes.{Head, ty_in, sunk, putting}
 use Rattle.semantic_sigs.proofs.HeadLaws.{Good, good-under, in-normal, good-puts, good-vars}
 use Rattle.term_instances.specs.TermChanges.{term_in, fields_in}
 

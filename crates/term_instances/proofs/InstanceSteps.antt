@@ -1,6 +1,5 @@
 -- What putting in does at each form of term, with indexes counted as the code counts them.
 use Rattle.std.proofs.Common.{◌≡◌, ℕ, suc, ◌+◌, ◌≤◌, [], ◌∷◌, refl, ap, ap₂, arith}
-use Rattle.omega_kinds.specs.declared.label.Label.{Label}
 use Rattle.omega_terms.specs.Term.{Term, TermRow}
 use Rattle.omega_terms.specs.Bound.{type_bound, row_type_bound}
 use Rattle.omega_terms.specs.Fields.{TermPairs, term_row}

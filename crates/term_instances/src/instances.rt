@@ -17,9 +17,9 @@ use semantic_sigs::put_types;
 use std::alloc::Global;
 use type_normal::{NormalTy, as_normal, plain};
 
-/// A term with normal types put in for its innermost type variables, one for each, the first for the outermost; each
-/// type in the result is in normal form. The types stand outside of these variables. `Err` is want of memory, also where
-/// an index would pass the last number.
+/// A term whose types are normal, with normal types of the right kinds put in for its innermost type variables, one for
+/// each, the first for the outermost; each type in the result is in normal form. The types stand outside of these
+/// variables. `Err` is want of memory, also where an index would pass the last number.
 ///
 /// Rossberg, Russo and Dreyer, "F-ing modules", section 7, Applicative functors: the hidden types of a pure module put
 /// into what comes after it.

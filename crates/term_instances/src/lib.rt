@@ -1,6 +1,6 @@
 // Normal types put in for the type variables of a term, each type in the term being brought to normal form at once.
 // Stands on semantic_sigs, which puts types into types.
-// Proved: the result is the instance of the term that the definitions speak of.
+// Proved: `instance` gives the instance of the term that the definitions speak of.
 #![tactic(auto)]
 
 pub mod instances;

@@ -10,10 +10,10 @@ use Rattle.omega_types.specs.Index.{i_here}
 use Rattle.omega_types.specs.Normality.{Normal}
 use Rattle.omega_types.specs.Normaliser.{hsubst}
 use Rattle.omega_types.specs.Normalises.{NormalForm}
-use Rattle.omega_types.specs.Binders.{extend, raise, ex_over}
+use Rattle.omega_types.specs.Binders.{ex_over}
 use Rattle.omega_types.proofs.Single.{substitute_at-zero}
 use Rattle.omega_types.proofs.Hereditary.{hsubst-gives}
-use Rattle.omega_types.proofs.BinderPuts.{NormalTypes, forms-types, forms-kinds, ex_over-hsubst}
+use Rattle.omega_types.proofs.BinderPuts.{NormalTypes, forms-types, ex_over-hsubst}
 use Rattle.omega_types.proofs.BinderPuts.NormalTypes.{none, next}
 use Rattle.omega_terms.specs.Term.{Term}
 use Rattle.omega_terms.specs.Shorthands.{Packs, opens_after, opens, ty_lam_over}

@@ -120,8 +120,8 @@ fn pack_one(
     }
 }
 
-/// All hidden types of a term, so many, opened in a body, whose innermost term variable is what is left; `from` is the
-/// type of the term.
+/// All hidden types of a term, so many, opened in a body, whose innermost term variable is what is left. For none of them
+/// the variable is let be the term, at the type `from`; for more, `from` is not used.
 #[tactic(auto, using(crate::proofs::PackSteps::opens_opened))]
 pub fn opens(alloc: Global, count: u64, term: Term, from: &Ty, body: Term) -> Result<Term, Mem>
     ensures value { IfOk result (λ e. e ≡ opened count term from.now body) }

@@ -14,9 +14,9 @@ use omega_kinds::Mem;
 use omega_types::{Ty, TyFields, TyNode, next_level};
 use std::alloc::Global;
 
-/// The type with each free index less by `by`. Where it mentions no index below `by`, it is the one type which, raised
-/// by `by` from 0, is the given one, and it is normal in the context without the `by` innermost variables.
-/// `Err` is want of memory.
+/// The type with each free index less by `by`, an index below `by` becoming 0. Where it mentions no index below `by`, it
+/// is a type which, raised by `by` from 0, is the given one, and it is normal in the context without the `by` innermost
+/// variables. `Err` is want of memory.
 pub fn lower(alloc: Global, ty: &NormalTy, by: u64) -> Result<NormalTy, Mem>
     ensures value { IfOk result (λ t. t ≡ lower by ty.now) }
     ensures raised { IfOk result (λ t. ((i : ℕ) → i < by → Mentions i ty.now → ⊥) → shift by 0 t ≡ ty.now) }

@@ -21,9 +21,6 @@ use Rattle.elab_exact.proofs.Rules.Generic.{Sound}
 pub at-kind : {g : Env} {a : TyEx} {t : Ty} {k j : Kind} → k ≡ j → TyMeans g a t k → TyMeans g a t j
 at-kind {g} {a} {t} e p = subst (λ k. TyMeans g a t k) e p
 
-pub at-type : {g : Env} {a : Exp} {t u : Ty} {e : Term} → t ≡ u → ExpMeans g a t e → ExpMeans g a u e
-at-type {g} {a} {e = e} q p = subst (λ t. ExpMeans g a t e) q p
-
 pub at-sig : {g : Env} {m : Mod} {f : Effect} {ks : List Kind} {s t : Sig} {ts : List Ty} {e : Term} → s ≡ t → ModMeans g m (made f (Abs.Ex ks s) ts e) → ModMeans g m (made f (Abs.Ex ks t) ts e)
 at-sig {g} {m} {f} {ks} {ts = ts} {e = e} q p = subst (λ s. ModMeans g m (made f (Abs.Ex ks s) ts e)) q p
 

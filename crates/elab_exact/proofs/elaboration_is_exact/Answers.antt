@@ -1,4 +1,5 @@
 use Rattle.elab_exact.proofs.elaboration_is_exact.Goals as goal
+use Rattle.elab_exact.proofs.GoodRefusals.{refusals_are_good}
 use Rattle.elab_exact.proofs.Theorems.{steps-say-the-rules, each-answered, outcomes-equal, exclusive, refusals-equal, total, each-program, answers-exact}
 
 pub returns-clause-rules : goal.returns-clause-rules
@@ -24,3 +25,6 @@ returns-clause-programs c = each-program
 
 pub returns-clause-answers : goal.returns-clause-answers
 returns-clause-answers c = answers-exact
+
+pub returns-clause-good : goal.returns-clause-good
+returns-clause-good c = refusals_are_good

@@ -1,4 +1,5 @@
--- Whole programs: what a program means, and how it is refused.
+-- Whole programs: what a program means, and how it is refused (Rossberg, Russo, Dreyer, F-ing modules, section 4; refusals
+-- are own).
 use Rattle.std.specs.Prelude.{[]}
 use Rattle.omega_terms.specs.Term.{Term}
 use Rattle.signatures.specs.Signatures.Sig.{Module}

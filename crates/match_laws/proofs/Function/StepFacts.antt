@@ -1,24 +1,20 @@
 -- The tests of the functions by the facts that a program finds out, and what looking up depends on.
-use Rattle.std.specs.Prelude.{ℕ, suc, ◌+◌, List, [], ◌≡◌, Option, Some, None, length}
+use Rattle.std.specs.Prelude.{suc, ◌+◌, List, [], ◌≡◌, Option, Some, None, length}
 use Rattle.std.proofs.Common.{arith}
 use Rattle.std.proofs.Math.Path.{refl, sym, ◌∙◌, ap, subst, fun_ext}
 use Rattle.omega_kinds.specs.Kind.{Kind}
 use Rattle.omega_kinds.specs.declared.effect.Effect.TheVariants.{Pure}
 use Rattle.omega_kinds.specs.Name.{Name}
 use Rattle.omega_types.specs.Ty.{Ty}
-use Rattle.omega_types.specs.Binders.{extend, past}
-use Rattle.omega_terms.specs.Term.{Term}
-use Rattle.signatures.specs.Signatures.Sig.{Sig, Abs, SigRow, HasField, NoField}
+use Rattle.omega_types.specs.Binders.{extend}
+use Rattle.signatures.specs.Signatures.Sig.{Sig, Abs, SigRow, HasField}
 use Rattle.signatures.specs.Signatures.SigSubst.{raise_abs, sig_at_under}
 use Rattle.signatures.specs.Signatures.SigSize.{size}
 use Rattle.sig_laws.specs.NormalSig.{normal_sig}
 use Rattle.signatures.specs.Explicit.SigPath.{SigPath}
 use Rattle.signatures.specs.Explicit.RootPath.{RootPath, LeastRoot, least}
-use Rattle.sig_laws.proofs.Algebra.BinderLaws.{past-length}
 use Rattle.signatures.specs.Matching.LookUp.{Found}
-use Rattle.signatures.specs.Matching.MatchRefusal.{MatchRefusal}
-use Rattle.match_laws.specs.RootSearch.{where_both}
-use Rattle.match_laws.specs.MatchFunction.{Outcome, MatchFn, find_field, look_field, look_result, look, where_same, where_both_same, match_sig}
+use Rattle.match_laws.specs.MatchFunction.{MatchFn, find_field, look_field, look_result, look, match_sig}
 use Rattle.match_laws.specs.MatchClaims.{LookGives, LaterTypesDoNotMatter}
 use Rattle.match_laws.proofs.OneMatch.Views.{field-unique}
 use Rattle.match_laws.proofs.OneMatch.Agree.{Agree, root-agreed}
@@ -28,49 +24,12 @@ use Rattle.match_laws.proofs.LookUp.Refused.{no-field}
 use Rattle.match_laws.proofs.Function.LookSound.{FieldOk, has, lacks, find_field-ok, LookOk, look_found, look_none, look-ok, at-form}
 use Rattle.match_laws.proofs.Function.FunctionSound.{match_sig-ok}
 
-pub same-yes : {A : Type 0} (d : Dec A) (f : Term) (q : MatchRefusal) → A → where_same d f q ≡ Outcome.coerced f
-same-yes (yes a) f q h = refl
-same-yes (no n) f q h = absurd (n h)
-
-pub same-no : {A : Type 0} (d : Dec A) (f : Term) (q : MatchRefusal) → (A → ⊥) → where_same d f q ≡ Outcome.refused q
-same-no (yes a) f q h = absurd (h a)
-same-no (no n) f q h = refl
-
-pub both_same-yes : {A B : Type 0} (d : Dec A) (c : Dec B) (f : Term) (q : MatchRefusal) → A → B → where_both_same d c f q ≡ Outcome.coerced f
-both_same-yes (yes a) c f q h g = same-yes c f q g
-both_same-yes (no n) c f q h g = absurd (n h)
-
-pub both_same-no : {A B : Type 0} (d : Dec A) (c : Dec B) (f : Term) (q : MatchRefusal) → (A → B → ⊥) → where_both_same d c f q ≡ Outcome.refused q
-both_same-no (yes a) c f q h = same-no c f q (h a)
-both_same-no (no n) c f q h = refl
-
-pub both-yes : {A B : Type 0} (d : Dec A) (c : Dec B) (o : Option SigPath) → A → B → where_both d c o ≡ o
-both-yes (yes a) (yes b) o h g = refl
-both-yes (yes a) (no n) o h g = absurd (n g)
-both-yes (no n) c o h g = absurd (n h)
-
-pub both-no : {A B : Type 0} (d : Dec A) (c : Dec B) (o : Option SigPath) → (A → B → ⊥) → where_both d c o ≡ None
-both-no (yes a) (yes b) o h = absurd (h a b)
-both-no (yes a) (no n) o h = refl
-both-no (no n) c o h = refl
-
 pub field-has : {fs : SigRow} {l : Name} {s : Sig} → HasField fs l s → find_field l fs ≡ Some s
 field-has {fs} {l} {s} h = go (find_field-ok l fs)
   where
     go : {o : Option Sig} → FieldOk fs l o → o ≡ Some s
     go (has g) = ap Some (field-unique g h)
     go (lacks n) = absurd (no-field h n)
-
-pub field-lacks : (fs : SigRow) (l : Name) → NoField l fs → find_field l fs ≡ None
-field-lacks fs l n = go (find_field-ok l fs)
-  where
-    go : {o : Option Sig} → FieldOk fs l o → o ≡ None
-    go (has g) = absurd (no-field g n)
-    go (lacks m) = refl
-
--- the search for roots by the number of binders so far
-pub depth-more : (ks : List Kind) (m : ℕ) → Path (ℕ → ℕ) (λ x. past ks (m + x)) (λ x. (length ks + m) + x)
-depth-more ks m = fun_ext (λ x. let e = past-length ks (m + x) in omega arith)
 
 -- looking up reads on the right only what stands on the path
 

@@ -8,11 +8,9 @@ use Rattle.omega_kinds.specs.declared.effect.Effect.{Effect}
 use Rattle.omega_kinds.specs.declared.effect.Effect.TheVariants.{Pure, Impure}
 use Rattle.omega_kinds.specs.Name.{Name}
 use Rattle.omega_types.specs.Ty.{Ty}
-use Rattle.omega_types.specs.Substitution.{instantiate}
-use Rattle.omega_types.specs.Normalises.{NormalForm}
 use Rattle.omega_types.specs.Binders.{extend, raise}
 use Rattle.omega_terms.specs.Term.{Term, TermRow}
-use Rattle.omega_terms.specs.Shorthands.{Packs, opens}
+use Rattle.omega_terms.specs.Shorthands.{opens}
 use Rattle.omega_terms.specs.Coercions.{same_part, meta_part, fields_part, functor_part, MatchPart, AbsPart}
 use Rattle.signatures.specs.Signatures.Sig.{Sig, Abs, SigRow, HasField, here, there}
 use Rattle.signatures.specs.Signatures.SigSubst.{raise_abs, sig_at, abs_at_under}

@@ -1,5 +1,5 @@
 use Rattle.premise_laws.proofs.premises.Goals as goal
-use Rattle.premise_laws.proofs.Determined.{match-verdict, norm-one, lift-one, packed-one}
+use Rattle.premise_laws.proofs.Determined.{match-verdict, norm-one, lift-one, packed-one, instance-one}
 
 pub returns-clause-matching : goal.returns-clause-matching
 returns-clause-matching c = match-verdict
@@ -12,3 +12,6 @@ returns-clause-lift c = lift-one
 
 pub returns-clause-packed : goal.returns-clause-packed
 returns-clause-packed c = packed-one
+
+pub returns-clause-instance : goal.returns-clause-instance
+returns-clause-instance c = instance-one

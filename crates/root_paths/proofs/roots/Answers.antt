@@ -1,4 +1,4 @@
-use Rattle.std.proofs.Common.{◌≡◌, List, [], length, map, Option, Some, None, sym, ap, ap₂, ◌∙◌, subst}
+use Rattle.std.proofs.Common.{◌≡◌, List, [], length, map, reverse, Option, Some, None, sym, ap, ap₂, ◌∙◌, subst}
 use Rattle.std.proofs.lemmas.List.{length-reverse}
 use Rattle.omega_kinds.specs.Kind.{Kind}
 use Rattle.signatures.specs.Explicit.SigPath.{SigPath}
@@ -6,8 +6,13 @@ use Rattle.semantic_sigs.specs.Items.{item_of}
 use Rattle.semantic_sigs.specs.View.{kinds_of}
 use Rattle.root_paths.specs.Roots.{AreRoots}
 use Rattle.root_paths.specs.Seek.{unless_barred, seek, behind, merged}
-use Rattle.root_paths.proofs.WalkLaws.{found-length, roots-found}
+use Rattle.root_paths.proofs.WalkLaws.{found-length, roots-found, roots-value}
 use Rattle.root_paths.proofs.roots.Goals as goal
+
+pub returns-clause-value : goal.returns-clause-value
+returns-clause-value c =
+    let found = c.into_found-found.ensures ∙ (c.in_ok-visit.ensures.found ∙ ap₂ (λ steps before. merged (λ own. behind (map item_of steps) (unless_barred None own (seek own 0 c.body.result.now))) before) c.in_ok-walk.ensures.0 (c.in_ok-walk.ensures.1 ∙ ap (λ (ks : List Kind). map {A = Kind} {B = Option SigPath} (λ k. None) ks) c.kinds.ensures)) in
+    c.reverse.ensures.items ∙ ap reverse (roots-value c.args.abs.now c.body.result.now c.into_found-found.result.items c.body.ensures found)
 
 pub returns-clause-count : goal.returns-clause-count
 returns-clause-count c =

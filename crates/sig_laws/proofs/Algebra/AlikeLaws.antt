@@ -161,10 +161,6 @@ mutual
   conv_row-gives end = end
   conv_row-gives (more s fs) = more (conv_sig-gives s) (conv_row-gives fs)
 
--- convertible signatures have one normal form, and only they
-pub conv_sig-same : {ctx : List Kind} {x y : Sig} → ConvSig ctx x y → normal_sig ctx x ≡ normal_sig ctx y
-conv_sig-same c = form_sig-unique (conv_sig-gives c) (conv-form_sig c (conv_sig-gives (conv_sig-sym c)))
-
 pub same-conv_sig : {ctx : List Kind} {x y : Sig} → ConvSig ctx x x → ConvSig ctx y y → normal_sig ctx x ≡ normal_sig ctx y → ConvSig ctx x y
 same-conv_sig {ctx} {x} {y} c d e = conv_sig-trans (form-conv_sig (conv_sig-gives c)) (subst (λ n. ConvSig ctx n y) (sym e) (conv_sig-sym (form-conv_sig (conv_sig-gives d))))
 

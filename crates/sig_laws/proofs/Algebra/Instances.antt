@@ -3,10 +3,9 @@ use Rattle.omega_types.proofs.BinderPuts.{NormalTypes, front-convertible, front-
 use Rattle.omega_types.proofs.BinderPuts.NormalTypes.{none, next}
 use Rattle.std.specs.Prelude.{ℕ, suc, List, [], ◌∷◌, ◌≡◌, length}
 use Rattle.std.proofs.Common.{arith}
-use Rattle.std.proofs.Math.Path.{refl, ◌∙◌, ap, subst, fun_ext}
+use Rattle.std.proofs.Math.Path.{refl, ◌∙◌, ap, fun_ext}
 use Rattle.omega_kinds.specs.Kind.{Kind}
 use Rattle.omega_types.specs.Ty.{Ty}
-use Rattle.omega_types.specs.Substitution.{substitute}
 use Rattle.omega_types.specs.Kinding.HasKind.{k_var}
 use Rattle.omega_types.specs.Normaliser.{normal}
 use Rattle.omega_types.specs.Binders.{extend, past, front, puts, OfKinds, NormalForms}
@@ -14,10 +13,10 @@ use Rattle.omega_types.proofs.Preservation.{Substitutes, Convertible}
 use Rattle.omega_types.proofs.Hereditary.{normal-gives}
 use Rattle.signatures.specs.Signatures.Sig.{Sig, Abs}
 use Rattle.signatures.specs.Signatures.SigSubst.{substitute_sig, substitute_abs, raise_sig, raise_abs, sig_at, abs_at}
-use Rattle.signatures.specs.Signatures.Alike.{ConvSig, NormalSigForm, NormalAbsForm}
+use Rattle.signatures.specs.Signatures.Alike.{ConvSig, NormalSigForm}
 use Rattle.sig_laws.proofs.Algebra.BinderLaws.{puts-past, past-length}
-use Rattle.sig_laws.proofs.Algebra.SigAlgebra.{substitute-rename_sig, substitute-rename_abs, substitute-substitute_sig, substitute-substitute_abs, substitute_sig-id, substitute_abs-id}
-use Rattle.sig_laws.proofs.Algebra.AlikeLaws.{conv_sig-sym, form-conv_sig, form-conv_abs, conv-form_sig, conv-form_abs, conv_sig-substitute, conv_abs-substitute, substitutes-convertible}
+use Rattle.sig_laws.proofs.Algebra.SigAlgebra.{substitute-rename_sig, substitute-rename_abs, substitute_sig-id, substitute_abs-id}
+use Rattle.sig_laws.proofs.Algebra.AlikeLaws.{conv_sig-sym, conv-form_sig, conv_sig-substitute, substitutes-convertible}
 use Rattle.sig_laws.proofs.Algebra.EtaLaws.{some_type, some_type-normal}
 use Rattle.omega_types.proofs.BinderLaws.{past-maps}
 
@@ -78,13 +77,3 @@ at-raise_sig ks ts s e = puts-raise_sig ks ts Ty.Var s e ∙ substitute_sig-id s
 
 pub at-raise_abs : (ks : List Kind) (ts : List Ty) (x : Abs) → length ts ≡ length ks → abs_at ts (raise_abs ks x) ≡ x
 at-raise_abs ks ts x e = puts-raise_abs ks ts Ty.Var x e ∙ substitute_abs-id x
-
--- normal forms in between make no difference
-
-pub form-then_sig : {other third : List Kind} {n m : Sig} (f g : ℕ → Ty) (s : Sig) → NormalSigForm other (substitute_sig f s) n → Substitutes other third g → NormalSigForm third (substitute_sig g n) m → NormalSigForm third (substitute_sig (λ i. substitute g (f i)) s) m
-form-then_sig {other} {third} {n} {m} f g s a h b = subst (λ x. NormalSigForm third x m) (substitute-substitute_sig g f s)
-    (conv-form_sig (conv_sig-substitute g g (substitutes-convertible h) (form-conv_sig a)) b)
-
-pub form-then_abs : {other third : List Kind} {n m : Abs} (f g : ℕ → Ty) (s : Abs) → NormalAbsForm other (substitute_abs f s) n → Substitutes other third g → NormalAbsForm third (substitute_abs g n) m → NormalAbsForm third (substitute_abs (λ i. substitute g (f i)) s) m
-form-then_abs {other} {third} {n} {m} f g s a h b = subst (λ x. NormalAbsForm third x m) (substitute-substitute_abs g f s)
-    (conv-form_abs (conv_abs-substitute g g (substitutes-convertible h) (form-conv_abs a)) b)

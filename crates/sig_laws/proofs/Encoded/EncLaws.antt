@@ -1,11 +1,7 @@
 -- The encoding goes with substitution and renaming, and it has kind *.
-use Rattle.std.specs.Prelude.{suc, List, ◌∷◌, ◌≡◌, ◌≢◌, true, IsTrue}
-use Rattle.std.proofs.Math.Path.{ap, subst, sym}
+use Rattle.std.specs.Prelude.{suc, List, ◌∷◌, ◌≡◌, ◌≢◌}
 use Rattle.omega_kinds.specs.Kind.{Kind}
 use Rattle.omega_kinds.specs.declared.label.Label.{Label}
-use Rattle.omega_kinds.specs.Name.{Name}
-use Rattle.omega_kinds.specs.LabelOrder.{name_before, spelling}
-use Rattle.omega_kinds.proofs.LabelLaws.{irreflexive}
 use Rattle.omega_types.specs.Ty.{Ty}
 use Rattle.omega_types.specs.Substitution.{rename}
 use Rattle.omega_types.specs.Kinding.{HasKind, HasKinds, here}

@@ -27,12 +27,12 @@ use Rattle.omega_kinds.proofs.NameLaws.{name-irreflexive}
 use Rattle.signatures.specs.Signatures.Sig.{Sig, Abs, SigRow}
 use Rattle.signatures.specs.Signatures.SigSubst.{rename_sig, rename_abs, substitute_sig, substitute_abs, substitute_sig_row}
 use Rattle.signatures.specs.Signatures.Encoding.{one_part, shown_type, enc, enc_abs, enc_row}
-use Rattle.sig_laws.specs.NormalSig.{normal_sig, normal_abs}
+use Rattle.sig_laws.specs.NormalSig.{normal_sig}
 use Rattle.signatures.specs.Signatures.Alike.{AlikeRow, val, typ, meta, str, fun, ex, end, more, ConvBetween, ConvSig, ConvAbs, NormalSig, NormalAbs, NormalSigRow}
 use Rattle.signatures.specs.Explicit.WellFormed.{BeforeAll, Rising, WellFormed, WellFormedRow, WellFormedAbs, Explicit, abs, explicit}
 use Rattle.sig_laws.proofs.Algebra.SigAlgebra.{substitute-vars_sig, substitute-vars_abs}
-use Rattle.sig_laws.proofs.Algebra.AlikeLaws.{form-conv_sig, form-conv_abs, form_sig-normal, form_abs-normal, conv_sig-gives, conv_abs-gives, same-conv_sig}
-use Rattle.sig_laws.proofs.Formed.WellFormedLaws.{well_formed-kinds, well_formed-conv, explicit-kinds, explicit-conv}
+use Rattle.sig_laws.proofs.Algebra.AlikeLaws.{form-conv_sig, form_sig-normal, conv_sig-gives, same-conv_sig}
+use Rattle.sig_laws.proofs.Formed.WellFormedLaws.{well_formed-kinds, well_formed-conv}
 use Rattle.omega_types.proofs.BinderLaws.{all_over-substitute, ex_over-substitute}
 use Rattle.omega_types.proofs.BinderPuts.{all_over-normal, conv-all_over, conv-ex_over, ex_over-normal}
 
@@ -156,12 +156,6 @@ enc-normal_sig {ctx} {s} w =
     let f = conv_sig-gives (well_formed-kinds w) in
     let c = form-conv_sig f in
     same-normal (enc-conv w c) ∙ normal_of_normal ctx (enc (normal_sig ctx s)) Kind.Star (enc-normal (well_formed-conv w c) (form_sig-normal f))
-
-pub enc_abs-normal_abs : {ctx : List Kind} {x : Abs} → Explicit ctx x → normal ctx (enc_abs x) ≡ enc_abs (normal_abs ctx x)
-enc_abs-normal_abs {ctx} {x} w =
-    let f = conv_abs-gives (explicit-kinds w) in
-    let c = form-conv_abs f in
-    same-normal (enc_abs-conv w c) ∙ normal_of_normal ctx (enc_abs (normal_abs ctx x)) Kind.Star (enc_abs-normal (explicit-conv w c) (form_abs-normal f))
 
 -- the encoding shows the signature
 

@@ -266,9 +266,6 @@ pub record GoodAbs (ctx : List Kind) (x : Abs) : Type 0 where
 pub good-rename : {ctx other : List Kind} {s : Sig} (r : ℕ → ℕ) → Maps ctx other r → Good ctx s → Good other (rename_sig r s)
 good-rename {s = s} r m g = record { normal = normal_sig-rename r s m g.normal; shape = shape-rename r s g.shape }
 
-pub good_abs-rename : {ctx other : List Kind} {x : Abs} (r : ℕ → ℕ) → Maps ctx other r → GoodAbs ctx x → GoodAbs other (rename_abs r x)
-good_abs-rename {x = x} r m g = record { normal = normal_abs-rename r x m g.normal; shape = shape_abs-rename r x g.shape }
-
 pub good-normal : {ctx : List Kind} {s : Sig} → Good ctx s → Normal ctx (enc s) Kind.Star
 good-normal {s = s} g = enc-normal s g.normal g.shape
 

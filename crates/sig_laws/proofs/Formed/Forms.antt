@@ -1,5 +1,5 @@
 -- Conditions that are decided, with the one value that they have.
-use Rattle.std.specs.Prelude.{List, [], ◌∷◌, ◌≡◌, ◌≢◌, ◌⊎◌, Option, Some, None}
+use Rattle.std.specs.Prelude.{List, [], ◌∷◌, ◌≡◌, ◌≢◌, ◌⊎◌}
 use Rattle.std.proofs.Common.{inl, inr}
 use Rattle.std.proofs.Math.Path.{refl, sym, subst}
 use Rattle.omega_kinds.specs.Kind.{Kind, Kind-discrete}
@@ -140,10 +140,6 @@ sig-functor (Sig.Val t) = none (λ p e. cc)
 sig-functor (Sig.Typ t k) = none (λ p e. cc)
 sig-functor (Sig.Meta x) = none (λ p e. cc)
 sig-functor (Sig.Str fs) = none (λ p e. cc)
-
-pub option-some : {A : Type 0} (o : Option A) → Perhaps (λ x. o ≡ Some x)
-option-some None = none (λ p e. cc)
-option-some (Some x) = one x refl (λ p e. cc)
 
 -- fields
 

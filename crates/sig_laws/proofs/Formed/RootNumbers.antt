@@ -6,7 +6,7 @@ use Rattle.omega_kinds.specs.Kind.{Kind}
 use Rattle.omega_types.specs.Binders.{extend, own}
 use Rattle.signatures.specs.Signatures.Sig.{Sig}
 use Rattle.signatures.specs.Explicit.SigPath.{SigPath}
-use Rattle.signatures.specs.Explicit.RootPath.{Rooted, ParamsAvoid, RootOf, root_of, RootPath, root_path}
+use Rattle.signatures.specs.Explicit.RootPath.{Rooted, ParamsAvoid, root_of, RootPath, root_path}
 
 -- the later of two hidden variables stands inside of the other
 pub own_falls : (ks : List Kind) (i j : ℕ) → i ≤ j → own ks j ≤ own ks i

@@ -1,4 +1,5 @@
--- Paths into signatures, their order, and what a path leads to.
+-- Paths into signatures, their order, and what a path leads to (Rossberg, Russo, Dreyer, F-ing modules, section 5; here
+-- they go on through results of pure functors).
 use Rattle.std.specs.Prelude.{List, [], ◌∷◌, ◌++◌, IsTrue}
 use Rattle.omega_kinds.specs.Kind.{Kind}
 use Rattle.omega_kinds.specs.declared.effect.Effect.TheVariants.{Pure}

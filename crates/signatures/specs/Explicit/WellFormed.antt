@@ -1,4 +1,5 @@
--- Well formed signatures, and those ordered explicit: each hidden type can be found again, one after the other.
+-- Well formed signatures, and those ordered explicit: each hidden type can be found again, one after the other (Rossberg,
+-- Russo, Dreyer, F-ing modules, section 5, explicit signatures; that the order counts is own).
 use Rattle.std.specs.Prelude.{ℕ, List, [], ◌<◌, length, IsTrue}
 use Rattle.omega_kinds.specs.Kind.{Kind}
 use Rattle.omega_kinds.specs.declared.effect.Effect.TheVariants.{Pure, Impure}

@@ -1,4 +1,4 @@
--- How matching and subtyping are refused, at the first place that fails.
+-- How matching and subtyping are refused, at the first place that fails. The reasons and their order are own.
 use Rattle.std.specs.Prelude.{ℕ, List, [], ◌∷◌, ◌≡◌, ◌≢◌, ◌<◌, length}
 use Rattle.omega_kinds.specs.Kind.{Kind}
 use Rattle.omega_kinds.specs.declared.effect.Effect.{Effect}
@@ -46,7 +46,7 @@ form (Sig.Meta x) = signature
 form (Sig.Str fs) = structure
 form (Sig.Fun e ks s x) = functor
 
--- a functor of one effect may stand for one of the other
+-- a functor of the first effect may stand for one of the second: always but for an impure one in place of a pure one
 abbrev pub MayStandFor : Effect → Effect → Type 0
 MayStandFor Impure Pure = ⊥
 MayStandFor e d = Unit {0}

@@ -51,7 +51,7 @@ NormalSigForm = AlikeSig NormalForm
 abbrev pub NormalAbsForm : List Kind → Abs → Abs → Type 0
 NormalAbsForm = AlikeAbs NormalForm
 
--- n is s at the types ts: they are put in for its variables
+-- n is the normal form of s with the types ts put in for its variables, the first for the outermost
 abbrev pub IsSigAt : List Kind → Sig → List Ty → Sig → Type 0
 IsSigAt ctx s ts n = NormalSigForm ctx (sig_at ts s) n
 

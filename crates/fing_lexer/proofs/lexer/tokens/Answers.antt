@@ -48,7 +48,7 @@ pub scan-preserved : goal.scan-preserved
 scan-preserved c =
     let s : StandsAs (drop c.scan.at c.args.bytes.now) (is.Found c.in-Found.len c.in-Found.what) = subst₂ StandsAs (from_place c.args.bytes.now c.scan.at) c.in-Found.is c.in_ok-len.ensures in
     let depth : total (counted c.scan.nest c.in-Found.what) ≤ 1000 = subst (λ n. total n ≤ 1000) c.count.ensures.counted (omega (arith, c.count.ensures.total)) in
-    let nest : opened (counted c.scan.nest c.in-Found.what) c.in-Found.what ≡ c.open.new.self = ap (λ n. opened n c.in-Found.what) (sym c.count.ensures.counted) ∙ sym c.in_ok-open-in-Found.ensures in
+    let nest : opened (counted c.scan.nest c.in-Found.what) c.in-Found.what ≡ c.open.new.self = ap (λ n. opened n c.in-Found.what) (sym c.count.ensures.counted) ∙ sym c.in_ok-open-in-Found.ensures.ok in
     let items : c.scan.found.items ++ token_at c.scan.at c.in-Found.len c.in-Found.what ∷ [] ≡ c.push.new.self.items = ap (λ t. c.scan.found.items ++ t ∷ []) (sym c.token_from.ensures) ∙ sym c.in_ok-push-in-Found.ensures.items in
     record {
       within = found_within c.args.bytes.now c.scan.at c.in-Found.len c.in-Found.what c.scan.invariant.within s.0;

@@ -1,8 +1,9 @@
-use Rattle.std.proofs.Common.{Some, None, sym, ap, ap₂, ◌∙◌, reverse}
+use Rattle.std.proofs.Common.{Some, None, sym, ap, ap₂, ◌∙◌}
 use Rattle.omega_types.specs.Scope.{scope_of}
 use Rattle.omega_terms.specs.Fields.{term_row}
 use Rattle.omega_terms.proofs.OneIndex.{left-smaller}
 use Rattle.omega_checker.specs.Found.{synth_in, synth_row}
+use Rattle.omega_checker.specs.Vars.{types_of}
 use Rattle.std.proofs.lemmas.Result.{IfOk-weaker, on_ok_weaker}
 use Rattle.omega_terms.specs.View.{term_of}
 use Rattle.omega_checker.proofs.CallSteps.{without-argument, plain-call, let-call, let-differs, no-function}
@@ -12,12 +13,12 @@ use Rattle.omega_checker.proofs.synthesis.+synth.Goals as goal
 pub synth_fields-loop-field-preserved : goal.synth_fields-loop-field-preserved
 synth_fields-loop-field-preserved t c =
     let i = c.loop-field.invariant in
-    let at = ap₂ (λ k v. synth_in k (reverse v) c.field-item.result.1) i.same_kinds i.same_vars in
+    let at = ap₂ (λ k v. synth_in k (types_of v) c.field-item.result.1) i.same_kinds i.same_vars in
     let ty = c.in_ok-share-2.ensures ∙ c.plain.ensures in
     record {
       same_kinds = c.in_ok-ty.ensures.kinds ∙ i.same_kinds;
       same_vars = c.in_ok-ty.ensures.vars ∙ i.same_vars;
-      found = found-more (scope_of c.args.kinds.now.items) (reverse c.args.vars.now.items) c.loop-field.field-index c.items-field-items.result.now c.loop-field.types c.push.new.self c.field-item.result c.in_ok-share.field-0 c.in_ok-share-2.field-0 _ i.found c.loop-field-test.true c.field-item.is c.in_ok-share.ensures (ap Some ty ∙ (sym c.in-Some.is ∙ (c.in_ok-ty.ensures.found ∙ at))) c.in_ok-push.ensures.ok;
+      found = found-more (scope_of c.args.kinds.now.items) (types_of c.args.vars.now) c.loop-field.field-index c.items-field-items.result.now c.loop-field.types c.push.new.self c.field-item.result c.in_ok-share.field-0 c.in_ok-share-2.field-0 _ i.found c.loop-field-test.true c.field-item.is c.in_ok-share.ensures (ap Some ty ∙ (sym c.in-Some.is ∙ (c.in_ok-ty.ensures.found ∙ at))) c.in_ok-push.ensures.ok;
       labels = labels-more c.loop-field.field-index c.items-field-items.result.now c.loop-field.types c.push.new.self c.field-item.result c.in_ok-share.field-0 c.in_ok-share-2.field-0 i.labels c.loop-field-test.true c.field-item.is c.in_ok-share.ensures c.in_ok-push.ensures.ok;
       size = left-smaller _ _;
     }
@@ -29,27 +30,27 @@ synth_fields-push-requires t c =
 pub synth_fields-returns-in_default-clause-found : goal.synth_fields-returns-in_default-clause-found
 synth_fields-returns-in_default-clause-found t c =
     let i = c.loop-field.invariant in
-    let at = ap₂ (λ k v. synth_in k (reverse v) c.field-item.result.1) i.same_kinds i.same_vars in
+    let at = ap₂ (λ k v. synth_in k (types_of v) c.field-item.result.1) i.same_kinds i.same_vars in
     let none = none-is c.in_ok-ty.field-0 c.in_default.not-Some ∙ (c.in_ok-ty.ensures.found ∙ at) in
-    let whole = found-none (scope_of c.args.kinds.now.items) (reverse c.args.vars.now.items) c.loop-field.field-index c.items-field-items.result.now c.loop-field.types c.field-item.result _ i.found c.loop-field-test.true c.field-item.is none in
-    record-type None _ c.items-field-items.result.now c.args.fields.now c.items-field-items.ensures.rising c.items-field-items.ensures.value (whole ∙ ap (λ f. synth_row (scope_of c.args.kinds.now.items) (reverse c.args.vars.now.items) (term_row f)) c.items-field-items.ensures.value)
+    let whole = found-none (scope_of c.args.kinds.now.items) (types_of c.args.vars.now) c.loop-field.field-index c.items-field-items.result.now c.loop-field.types c.field-item.result _ i.found c.loop-field-test.true c.field-item.is none in
+    record-type None _ c.items-field-items.result.now c.args.fields.now c.items-field-items.ensures.rising c.items-field-items.ensures.value (whole ∙ ap (λ f. synth_row (scope_of c.args.kinds.now.items) (types_of c.args.vars.now) (term_row f)) c.items-field-items.ensures.value)
 
 pub synth_fields-returns-clause-found : goal.synth_fields-returns-clause-found
 synth_fields-returns-clause-found t c =
-    let whole = found-all (scope_of c.args.kinds.now.items) (reverse c.args.vars.now.items) c.loop-field.field-index c.items-field-items.result.now c.loop-field.types _ c.loop-field.invariant.found c.loop-field-test.false in
-    ap Some c.in_ok-make.ensures ∙ record-type _ _ c.items-field-items.result.now c.args.fields.now c.items-field-items.ensures.rising c.items-field-items.ensures.value (whole ∙ ap (λ f. synth_row (scope_of c.args.kinds.now.items) (reverse c.args.vars.now.items) (term_row f)) c.items-field-items.ensures.value)
+    let whole = found-all (scope_of c.args.kinds.now.items) (types_of c.args.vars.now) c.loop-field.field-index c.items-field-items.result.now c.loop-field.types _ c.loop-field.invariant.found c.loop-field-test.false in
+    ap Some c.in_ok-make.ensures ∙ record-type _ _ c.items-field-items.result.now c.args.fields.now c.items-field-items.ensures.rising c.items-field-items.ensures.value (whole ∙ ap (λ f. synth_row (scope_of c.args.kinds.now.items) (types_of c.args.vars.now) (term_row f)) c.items-field-items.ensures.value)
 
 pub synth_call-returns-in_default-clause-found : goal.synth_call-returns-in_default-clause-found
 synth_call-returns-in_default-clause-found t c =
-    without-argument (scope_of c.args.kinds.now.items) (reverse c.args.vars.now.items) c.args.function.now c.args.arg.now (none-is c.in_ok-found.field-0 c.in_default.not-Some ∙ c.in_ok-found.ensures.found)
+    without-argument (scope_of c.args.kinds.now.items) (types_of c.args.vars.now) c.args.function.now c.args.arg.now (none-is c.in_ok-found.field-0 c.in_default.not-Some ∙ c.in_ok-found.ensures.found)
 
 pub synth_call-returns-then-agree-clause-found : goal.synth_call-returns-then-agree-clause-found
 synth_call-returns-then-agree-clause-found t c =
-    IfOk-weaker c.synth_bound.result _ _ (λ o h. let-call (scope_of c.args.kinds.now.items) _ c.args.vars.now.items _ c.args.function.now c.args.arg.now _ _ c.in-Some.found _ o (sym c.node.ensures ∙ ap term_of c.in-Lam.is) c.in_ok-found.ensures.kinds c.in_ok-found.ensures.vars (sym c.in-Some.is ∙ c.in_ok-found.ensures.found) c.in_ok-part-in-Lam.ensures (sym c.agree-in-Lam.ensures ∙ c.if-agree.true) h) c.synth_bound.ensures.found
+    IfOk-weaker c.synth_bound.result _ _ (λ o h. let-call (scope_of c.args.kinds.now.items) _ c.args.vars.now _ c.args.function.now c.args.arg.now _ _ c.in-Some.found _ o (sym c.node.ensures ∙ ap term_of c.in-Lam.is) c.in_ok-found.ensures.kinds c.in_ok-found.ensures.vars (sym c.in-Some.is ∙ c.in_ok-found.ensures.found) c.in_ok-part-in-Lam.ensures (sym c.agree-in-Lam.ensures ∙ c.if-agree.true) h) c.synth_bound.ensures.found
 
 pub synth_call-returns-else-agree-clause-found : goal.synth_call-returns-else-agree-clause-found
 synth_call-returns-else-agree-clause-found t c =
-    IfOk-weaker c.synth_applied.result _ _ (λ o h. let-differs (scope_of c.args.kinds.now.items) _ c.args.vars.now.items _ c.args.function.now c.args.arg.now _ _ c.in-Some.found _ o (sym c.node.ensures ∙ ap term_of c.in-Lam.is) c.in_ok-found.ensures.kinds c.in_ok-found.ensures.vars (sym c.in-Some.is ∙ c.in_ok-found.ensures.found) c.in_ok-part-in-Lam.ensures (sym c.agree-in-Lam.ensures ∙ c.if-agree.false) h) c.synth_applied.ensures.found
+    IfOk-weaker c.synth_applied.result _ _ (λ o h. let-differs (scope_of c.args.kinds.now.items) _ c.args.vars.now _ c.args.function.now c.args.arg.now _ _ c.in-Some.found _ o (sym c.node.ensures ∙ ap term_of c.in-Lam.is) c.in_ok-found.ensures.kinds c.in_ok-found.ensures.vars (sym c.in-Some.is ∙ c.in_ok-found.ensures.found) c.in_ok-part-in-Lam.ensures (sym c.agree-in-Lam.ensures ∙ c.if-agree.false) h) c.synth_applied.ensures.found
 
 pub synth_call-returns-in_default-node : goal.synth_call-returns-in_default-node
 synth_call-returns-in_default-node t c =
@@ -57,5 +58,5 @@ synth_call-returns-in_default-node t c =
     record {
       kinds = on_ok_weaker called.result (λ e. e ∙ c.in_ok-found.ensures.kinds) called.ensures.kinds;
       vars = on_ok_weaker called.result (λ e. e ∙ c.in_ok-found.ensures.vars) called.ensures.vars;
-      found = IfOk-weaker called.result _ _ (λ o h. plain-call (scope_of c.args.kinds.now.items) _ c.args.vars.now.items _ c.args.function.now c.args.arg.now c.in-Some.found o (no-function c.node.result.now c.args.function.now c.node.ensures c.in_default-node.not-Lam) c.in_ok-found.ensures.kinds c.in_ok-found.ensures.vars (sym c.in-Some.is ∙ c.in_ok-found.ensures.found) h) called.ensures.found;
+      found = IfOk-weaker called.result _ _ (λ o h. plain-call (scope_of c.args.kinds.now.items) _ c.args.vars.now _ c.args.function.now c.args.arg.now c.in-Some.found o (no-function c.node.result.now c.args.function.now c.node.ensures c.in_default-node.not-Lam) c.in_ok-found.ensures.kinds c.in_ok-found.ensures.vars (sym c.in-Some.is ∙ c.in_ok-found.ensures.found) h) called.ensures.found;
     }

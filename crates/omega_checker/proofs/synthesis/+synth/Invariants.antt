@@ -1,9 +1,10 @@
-use Rattle.std.proofs.Common.{◌≡◌, ◌≤◌, ◌+◌, ◌*◌, drop, map, reverse, take}
+use Rattle.std.proofs.Common.{◌≡◌, ◌≤◌, ◌+◌, ◌*◌, drop, map, take}
 use Rattle.std.specs.Option.{option_map}
 use Rattle.omega_types.specs.Scope.{scope_of}
 use Rattle.omega_terms.specs.Fields.{term_row}
 use Rattle.omega_terms.specs.Size.{term_size, pairs_size}
 use Rattle.omega_checker.specs.Found.{synth_row}
+use Rattle.omega_checker.specs.Vars.{types_of}
 use Rattle.omega_checker.proofs.FieldLoop.{row_after}
 use Rattle.omega_checker.proofs.synthesis.+synth.Given as goal
 
@@ -46,11 +47,11 @@ decreases-synth_fields l = 3 * pairs_size l.fields.now + 1
 abbrev pub invariant-synth_fields-loop-field : goal.invariant-synth_fields-loop-field
 invariant-synth_fields-loop-field l =
     let scope = scope_of l.initial.kinds.items in
-    let vars = l.initial.vars.items in
+    let vars = l.initial.vars in
     record {
       same_kinds : scope_of l.kinds.items ≡ scope;
-      same_vars : l.vars.items ≡ vars;
-      found : option_map (row_after l.types) (synth_row scope (reverse vars) (term_row (drop l.field-index l.field-items))) ≡ synth_row scope (reverse vars) (term_row l.field-items);
+      same_vars : l.vars ≡ vars;
+      found : option_map (row_after l.types) (synth_row scope (types_of vars) (term_row (drop l.field-index l.field-items))) ≡ synth_row scope (types_of vars) (term_row l.field-items);
       labels : map (λ x. x.0) l.types ≡ map (λ x. x.0) (take l.field-index l.field-items);
       size : pairs_size (drop l.field-index l.field-items) ≤ pairs_size l.field-items;
     }

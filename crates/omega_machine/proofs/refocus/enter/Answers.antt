@@ -6,7 +6,7 @@ use Rattle.omega_terms.specs.Size.{pairs_size}
 use Rattle.omega_machine.specs.Contexts.{with_done, left}
 use Rattle.omega_machine.specs.Moves.{Begun, Moves}
 use Rattle.omega_machine.proofs.Canonical.{no-variable}
-use Rattle.omega_machine.proofs.Moved.{first-begun, enter-fields, enter-leaf}
+use Rattle.omega_machine.proofs.Moved.{first-begun, enter-fields}
 use Rattle.omega_machine.proofs.refocus.enter.Goals as goal
 
 pub next_field-requires : goal.next_field-requires
@@ -19,6 +19,3 @@ unreachable-requires c = no-variable c.args.term.now _ (ap term_of (sym c.in-Var
 pub returns-in_ok-share-in-Fields : goal.returns-in_ok-share-in-Fields
 returns-in_ok-share-in-Fields c =
     IfOk-weaker _ _ _ (λ m h. enter-fields c.node.result.now _ c.args.term.now _ m c.in-Fields.is c.node.ensures c.in_ok-share-in-Fields.ensures (subst (λ ds. Moves (with_done c.in_ok-share-in-Fields.field-0 ds) (3 * pairs_size (left c.in_ok-share-in-Fields.field-0 ds) + 1) m) c.new.ensures h)) c.next_field.ensures
-
-pub returns-in_ok-share-in-Int : goal.returns-in_ok-share-in-Int
-returns-in_ok-share-in-Int c = enter-leaf c.node.result.now c.args.term.now _ c.in-Int.is c.node.ensures c.in_ok-share-in-Int.ensures

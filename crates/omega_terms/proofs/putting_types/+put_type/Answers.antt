@@ -1,10 +1,8 @@
-use Rattle.std.proofs.Common.{◌≡◌, IfOk, subst, sym, ap, ap₂, ◌∙◌}
+use Rattle.std.proofs.Common.{◌≡◌, ◌∙◌}
 use Rattle.omega_types.specs.Index.{put}
 use Rattle.omega_terms.specs.Term.{Term}
-use Rattle.omega_terms.specs.TermSubst.{put_type, sub_fields}
-use Rattle.omega_terms.specs.View.{term_of}
+use Rattle.omega_terms.specs.TermSubst.{sub_fields}
 use Rattle.omega_terms.proofs.OneIndex.{row-put_type, row-more, left-smaller, row-done}
-use Rattle.omega_terms.proofs.Unchanged.{ap₃}
 use Rattle.omega_terms.proofs.putting_types.+put_type.Goals as goal
 
 pub put_in_fields-loop-field-preserved : goal.put_in_fields-loop-field-preserved

@@ -1,9 +1,6 @@
-use Rattle.std.proofs.Common.{◌≡◌, IfOk, subst, sym, ap, ap₂, ◌∙◌}
-use Rattle.omega_terms.specs.Term.{Term}
-use Rattle.omega_terms.specs.TermSubst.{ren_term, ren_fields}
-use Rattle.omega_terms.specs.View.{term_of}
+use Rattle.std.proofs.Common.{◌≡◌, ◌∙◌}
+use Rattle.omega_terms.specs.TermSubst.{ren_fields}
 use Rattle.omega_terms.proofs.OneIndex.{row-more, left-smaller, row-done, row-raised}
-use Rattle.omega_terms.proofs.Unchanged.{ap₃}
 use Rattle.omega_terms.proofs.shifting.+shift.Goals as goal
 
 pub shift_in_fields-loop-field-preserved : goal.shift_in_fields-loop-field-preserved

@@ -7,7 +7,7 @@ returns-in-TypeVar c = found-type c.args.slots.now c.args.at c.args.types c.args
 
 pub returns-in_ok-term-in-Named : goal.returns-in_ok-term-in-Named
 returns-in_ok-term-in-Named c =
-    found-module c.args.slots.now c.args.at c.args.types c.args.terms c.index-slots-at.result c.in-Named.field-0 c.in-Named.sig c.in_ok-sig-in-Named.sig c.in_ok-term-in-Named.term c.requires c.in-Named.is c.in_ok-sig-in-Named.ensures c.in_ok-term-in-Named.ensures
+    found-module c.args.slots.now c.args.at c.args.types c.args.terms c.index-slots-at.result c.in-Named.field-0 c.in-Named.sig c.in_ok-sig-in-Named.sig c.in_ok-term-in-Named.term c.requires c.in-Named.is c.in_ok-sig-in-Named.ensures.value c.in_ok-term-in-Named.ensures
 
 pub returns-in_ok-term-in-Value : goal.returns-in_ok-term-in-Value
 returns-in_ok-term-in-Value c =

@@ -341,10 +341,10 @@ pub sub_abs_in-returns-in_err-abs_coercion : goal.sub_abs_in-returns-in_err-abs_
 sub_abs_in-returns-in_err-abs_coercion t c = let p = err_from_is_err_and c.from_residual-in_err-abs_coercion.result c.from_residual-in_err-abs_coercion.ensures.1 in rw (p.1, p.2) (λ ctx l w v. tt)
 
 pub sub_abs_in-match_in-requires : goal.sub_abs_in-match_in-requires
-sub_abs_in-match_in-requires t c = (omega (arith, abs-size c.args.left.now, ap size c.body.ensures, ap size_abs (c.in_ok-raised.ensures ∙ raised-past (kinds_of c.args.left.now) c.count-by.result c.args.right.now (sym (c.count-by.ensures ∙ ap length c.kinds.ensures))), size_abs-rename (past (kinds_of c.args.left.now)) c.args.right.now, c.decreases), rw c.body.ensures (abs-may c.args.depth c.count-by.result c.in_ok-sum.field-0 c.args.left.now c.args.right.now c.in_ok-raised.raised (c.count-by.ensures ∙ ap length c.kinds.ensures) c.in_ok-sum.ensures (c.in_ok-raised.ensures ∙ raised-past (kinds_of c.args.left.now) c.count-by.result c.args.right.now (sym (c.count-by.ensures ∙ ap length c.kinds.ensures))) c.requires))
+sub_abs_in-match_in-requires t c = (omega (arith, abs-size c.args.left.now, ap size c.body.ensures, ap size_abs (c.in_ok-raised.ensures.value ∙ raised-past (kinds_of c.args.left.now) c.count-by.result c.args.right.now (sym (c.count-by.ensures ∙ ap length c.kinds.ensures))), size_abs-rename (past (kinds_of c.args.left.now)) c.args.right.now, c.decreases), rw c.body.ensures (abs-may c.args.depth c.count-by.result c.in_ok-sum.field-0 c.args.left.now c.args.right.now c.in_ok-raised.raised (c.count-by.ensures ∙ ap length c.kinds.ensures) c.in_ok-sum.ensures (c.in_ok-raised.ensures.value ∙ raised-past (kinds_of c.args.left.now) c.count-by.result c.args.right.now (sym (c.count-by.ensures ∙ ap length c.kinds.ensures))) c.requires))
 
 pub sub_abs_in-returns-in_err-inner : goal.sub_abs_in-returns-in_err-inner
-sub_abs_in-returns-in_err-inner t c = let p = err_from_is_err_and c.from_residual-in_err-inner.result c.from_residual-in_err-inner.ensures.1 in rw (p.1, p.2) (abs-refused c.args.depth c.count-by.result c.in_ok-sum.field-0 c.args.left.now c.args.right.now c.in_ok-raised.raised c.in_err-inner.field-0.0 (c.count-by.ensures ∙ ap length c.kinds.ensures) c.in_ok-sum.ensures (c.in_ok-raised.ensures ∙ raised-past (kinds_of c.args.left.now) c.count-by.result c.args.right.now (sym (c.count-by.ensures ∙ ap length c.kinds.ensures))) (rw c.body.ensures at c.in_err-inner.ensures))
+sub_abs_in-returns-in_err-inner t c = let p = err_from_is_err_and c.from_residual-in_err-inner.result c.from_residual-in_err-inner.ensures.1 in rw (p.1, p.2) (abs-refused c.args.depth c.count-by.result c.in_ok-sum.field-0 c.args.left.now c.args.right.now c.in_ok-raised.raised c.in_err-inner.field-0.0 (c.count-by.ensures ∙ ap length c.kinds.ensures) c.in_ok-sum.ensures (c.in_ok-raised.ensures.value ∙ raised-past (kinds_of c.args.left.now) c.count-by.result c.args.right.now (sym (c.count-by.ensures ∙ ap length c.kinds.ensures))) (rw c.body.ensures at c.in_err-inner.ensures))
 
 pub sub_abs_in-returns : goal.sub_abs_in-returns
-sub_abs_in-returns t c = abs-ok c.args.depth c.count-by.result c.in_ok-sum.field-0 c.args.left.now c.args.right.now c.in_ok-raised.raised c.in_ok-inner.inner c.in_ok-abs_coercion.field-0 (c.count-by.ensures ∙ ap length c.kinds.ensures) c.in_ok-sum.ensures (c.in_ok-raised.ensures ∙ raised-past (kinds_of c.args.left.now) c.count-by.result c.args.right.now (sym (c.count-by.ensures ∙ ap length c.kinds.ensures))) (rw c.body.ensures at c.in_ok-inner.ensures) c.in_ok-abs_coercion.ensures
+sub_abs_in-returns t c = abs-ok c.args.depth c.count-by.result c.in_ok-sum.field-0 c.args.left.now c.args.right.now c.in_ok-raised.raised c.in_ok-inner.inner c.in_ok-abs_coercion.field-0 (c.count-by.ensures ∙ ap length c.kinds.ensures) c.in_ok-sum.ensures (c.in_ok-raised.ensures.value ∙ raised-past (kinds_of c.args.left.now) c.count-by.result c.args.right.now (sym (c.count-by.ensures ∙ ap length c.kinds.ensures))) (rw c.body.ensures at c.in_ok-inner.ensures) c.in_ok-abs_coercion.ensures

@@ -5,7 +5,6 @@ use Rattle.std.proofs.lemmas.Result.{IfOk-weaker}
 use Rattle.omega_kinds.specs.Kind.{Kind}
 use Rattle.omega_types.specs.Ty.{Ty}
 use Rattle.omega_types.specs.Binders.{extend, puts, NormalForms}
-use Rattle.omega_terms.specs.Term.{Term}
 use Rattle.omega_terms.specs.Instance.{Instance}
 use Rattle.sig_laws.specs.Good.{NormalTerm}
 use Rattle.term_instances.proofs.InstanceLaws.{instance_at_none}

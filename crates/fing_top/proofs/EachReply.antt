@@ -1,0 +1,136 @@
+-- Each command has a reply to all bytes.
+use Rattle.std.proofs.Common.{◌≡◌, ◌⊎◌, inl, inr, ℕ, List, [], Bool, true, false, Option, Some, None, refl}
+use Rattle.std.specs.Prelude.{codes}
+use Rattle.omega_kinds.specs.Kind.{Kind}
+use Rattle.omega_kinds.specs.declared.effect.Effect.{Effect}
+use Rattle.omega_types.specs.Ty.{Ty}
+use Rattle.omega_terms.specs.Term.{Term}
+use Rattle.omega_terms.specs.OmegaText.{omega_text}
+use Rattle.omega_terms.specs.Steps.{End, Result, Outcome as Ends}
+use Rattle.omega_terms.specs.Typing.{HasType}
+use Rattle.omega_laws.proofs.Runs.{outcome}
+use Rattle.omega_checker.specs.Found.{normal_at, synth_in}
+use Rattle.omega_checker.specs.SameTy.{same_ty}
+use Rattle.omega_checker.proofs.Exact.{unkinded, untyped, differs, typed}
+use Rattle.omega_machine.specs.ValueText.{value_text}
+use Rattle.omega_spelling.specs.Omega.{IsOmega}
+use Rattle.omega_spelling.specs.Refusals.{is_too_deep}
+use Rattle.omega_spelling.specs.Refused.{Refused as TextRefused, Refuses as TextRefuses}
+use Rattle.omega_spelling.proofs.Answering.{answered as text_answered}
+use Rattle.fing_lexer.specs.declared.token.Token.{Token}
+use Rattle.fing_lexer.specs.Tokens.{TokensOf, Outcome, Good, Bad, Lexes}
+use Rattle.fing_lexer.specs.Nest.{whole_file}
+use Rattle.fing_lexer.proofs.Laws.{has_one_outcome}
+use Rattle.signatures.specs.Signatures.Encoding.{enc_abs}
+use Rattle.signatures.specs.Signatures.Sig.{Abs, Module, made}
+use Rattle.signatures.specs.Verdict.{holds, refuses}
+use Rattle.fing_syntax.specs.Phrase.{Binds as Program}
+use Rattle.fing_grammar.specs.Grammar.{Binds}
+use Rattle.fing_grammar.specs.Program.{Refused as NoProgram}
+use Rattle.fing_grammar.specs.Tree.{Phrase}
+use Rattle.fing_grammar.proofs.Answer.{one_answer}
+use Rattle.elab_rules.specs.Judgments.Program.{ProgramMeans}
+use Rattle.elab_laws.proofs.TypedClaims.{whole_is_typed}
+use Rattle.elab_exact.specs.Claims.{ProgramExactly}
+use Rattle.elab_exact.proofs.Theorems.{each-program}
+use Rattle.sig_text.specs.SigText.{elab_text}
+use Rattle.fing_words.specs.declared.command_line.CommandLine.{CommandLine}
+use Rattle.fing_words.specs.declared.command_line.CommandLine.TheVariants as command
+use Rattle.fing_top.specs.Counts.{most_steps, bind_count, node_count, counts_line}
+use Rattle.fing_top.specs.Refusing.{numbered}
+use Rattle.fing_top.specs.declared.status.Status.{Status}
+use Rattle.fing_top.specs.declared.status.Status.TheVariants as status
+use Rattle.fing_top.specs.Reply.{Reply, answered, accepted, refused, Spells, Telling, TellsSignature, TellsTerm, TellsOutcome, TellsCounts, fault_line, Refuses, ProgramReplies, VerifyReplies, text_line, Replies, EachReplied}
+use Rattle.fing_top.proofs.Replies.{one_reply}
+
+-- ---- `check`, `emit`, `run` and `gen`
+
+-- something is told of a program that has a meaning
+record Told (Tells : Telling) (bs : Program) (f : Effect) (x : Abs) (whole : Term) : Type 0 where
+  status : Status
+  text : List ℕ
+  tells : Tells bs f x whole status text
+
+abbrev EachTold : Telling → Type 0
+EachTold Tells = (bs : Program) (f : Effect) (x : Abs) (whole : Term) → HasType [] [] whole (enc_abs x) → Told Tells bs f x whole
+
+-- a reply to the bytes of a source
+abbrev AReply : Telling → List ℕ → Type 0
+AReply Tells bytes = (r : Reply) × ProgramReplies Tells bytes r
+
+of_meaning : (Tells : Telling) → EachTold Tells → (bytes : List ℕ) (bs : Program) → Spells bytes bs → (m : Module) (whole : Term) → ProgramMeans bs m whole → AReply Tells bytes
+of_meaning Tells each bytes bs p (made f x ts e) whole h =
+    let t = each bs f x whole (whole_is_typed bs f x ts e whole h) in
+    (answered t.status (enc_abs x) whole t.text, ProgramReplies.meant p h t.tells)
+
+of_program : (Tells : Telling) → EachTold Tells → (bytes : List ℕ) (bs : Program) → Spells bytes bs → ProgramExactly bs → AReply Tells bytes
+of_program Tells each bytes bs p (holds o h only never) = of_meaning Tells each bytes bs p o.0 o.1 h
+of_program Tells each bytes bs p (refuses r h only never) = (_, ProgramReplies.refuses (Refuses.meaningless p h))
+
+of_tokens : (Tells : Telling) → EachTold Tells → (bytes : List ℕ) (ts : List Token) → TokensOf bytes ts → ((p : Program) × Phrase Binds ts p) ⊎ NoProgram ts → AReply Tells bytes
+of_tokens Tells each bytes ts h (inl (bs, tree)) = of_program Tells each bytes bs (record { tokens = ts; lexed = h; tree = tree }) (each-program bs)
+of_tokens Tells each bytes ts h (inr none) = (_, ProgramReplies.refuses (Refuses.syntax_error h none.farthest none.none))
+
+of_outcome : (Tells : Telling) → EachTold Tells → (bytes : List ℕ) (o : Outcome) → Lexes 0 whole_file bytes o → AReply Tells bytes
+of_outcome Tells each bytes (Good ts) h = of_tokens Tells each bytes ts h (one_answer ts)
+of_outcome Tells each bytes (Bad why) h = (_, ProgramReplies.refuses (Refuses.no_tokens h))
+
+program_replied : (Tells : Telling) → EachTold Tells → (bytes : List ℕ) → AReply Tells bytes
+program_replied Tells each bytes = let one = has_one_outcome bytes in of_outcome Tells each bytes one.outcome one.holds
+
+each_signature : EachTold TellsSignature
+each_signature bs f x whole h = record { status = status.Ok; text = elab_text f x; tells = (refl, refl) }
+
+each_term : EachTold TellsTerm
+each_term bs f x whole h = record { status = status.Ok; text = omega_text (enc_abs x) whole; tells = (refl, refl) }
+
+of_result : (budget : ℕ) (bs : Program) (f : Effect) (x : Abs) (whole : Term) (r : Result) → Ends whole budget r → Told (TellsOutcome budget) bs f x whole
+of_result budget bs f x whole (Result.ended (End.the_value v) steps) o = record { status = status.Ok; text = value_text v; tells = TellsOutcome.value o }
+of_result budget bs f x whole (Result.ended (End.the_fault why) steps) o = record { status = status.Faulted; text = fault_line why; tells = TellsOutcome.fault o }
+of_result budget bs f x whole Result.spent o = record { status = status.Spent; text = numbered (codes "spent ") budget; tells = TellsOutcome.spent o }
+
+each_outcome : (budget : ℕ) → EachTold (TellsOutcome budget)
+each_outcome budget bs f x whole h = let o = outcome budget whole (enc_abs x) h in of_result budget bs f x whole o.0 o.1
+
+count_of_result : (budget : ℕ) (bs : Program) (f : Effect) (x : Abs) (whole : Term) (r : Result) → Ends whole budget r → Told (TellsCounts budget) bs f x whole
+count_of_result budget bs f x whole (Result.ended (End.the_value v) steps) o = record { status = status.Ok; text = counts_line (bind_count bs) (node_count whole) steps; tells = TellsCounts.counts o }
+count_of_result budget bs f x whole (Result.ended (End.the_fault why) steps) o = record { status = status.Faulted; text = fault_line why; tells = TellsCounts.no_value (TellsOutcome.fault o) (λ e. cc) }
+count_of_result budget bs f x whole Result.spent o = record { status = status.Spent; text = numbered (codes "spent ") budget; tells = TellsCounts.no_value (TellsOutcome.spent o) (λ e. cc) }
+
+each_counts : (budget : ℕ) → EachTold (TellsCounts budget)
+each_counts budget bs f x whole h = let o = outcome budget whole (enc_abs x) h in count_of_result budget bs f x whole o.0 o.1
+
+-- ---- `verify`
+
+-- a closed term has a closed type by the typing rules, or it has not
+typed_or_not : (e : Term) (t : Ty) → HasType [] [] e t ⊎ (HasType [] [] e t → ⊥)
+typed_or_not e t = by (normal_at [] t Kind.Star) refl (synth_in [] [] e) refl
+  where
+    compared : (n s : Ty) → Some n ≡ normal_at [] t Kind.Star → Some s ≡ synth_in [] [] e → (b : Bool) → same_ty s n ≡ b → HasType [] [] e t ⊎ (HasType [] [] e t → ⊥)
+    compared n s p q true d = inl (typed e t s n p q d)
+    compared n s p q false d = inr (differs e t s n p q d)
+
+    by : (o : Option Ty) → o ≡ normal_at [] t Kind.Star → (found : Option Ty) → found ≡ synth_in [] [] e → HasType [] [] e t ⊎ (HasType [] [] e t → ⊥)
+    by None p found q = inr (unkinded e t None (λ n i. cc) p)
+    by (Some n) p None q = inr (untyped e t None (λ s i. cc) q)
+    by (Some n) p (Some s) q = compared n s p q (same_ty s n) refl
+
+of_text : (bytes : List ℕ) → (IsOmega bytes × (is_too_deep bytes ≡ false)) ⊎ ((r : TextRefused) × TextRefuses bytes r) → (r : Reply) × VerifyReplies bytes r
+of_text bytes (inr (why, h)) = (refused (text_line why), VerifyReplies.no_text why h)
+of_text bytes (inl ((t, e, h), d)) = by (typed_or_not e t)
+  where
+    by : HasType [] [] e t ⊎ (HasType [] [] e t → ⊥) → (r : Reply) × VerifyReplies bytes r
+    by (inl p) = (accepted t e (codes "well typed\n"), VerifyReplies.well_typed h d p)
+    by (inr n) = (refused (codes "refused IllTyped\n"), VerifyReplies.ill_typed h d n)
+
+-- ---- each command
+
+replied : (c : CommandLine) (bytes : List ℕ) → (r : Reply) × Replies c bytes r
+replied command.Check bytes = program_replied TellsSignature each_signature bytes
+replied command.Emit bytes = program_replied TellsTerm each_term bytes
+replied (command.Run budget) bytes = program_replied (TellsOutcome budget) (each_outcome budget) bytes
+replied command.Verify bytes = of_text bytes (text_answered bytes)
+replied (command.Gen size) bytes = program_replied (TellsCounts most_steps) (each_counts most_steps) bytes
+
+pub each_replied : EachReplied
+each_replied c bytes = let r = replied c bytes in (r.0, record { replies = r.1; only = λ other p. one_reply c bytes r.0 other r.1 p })
