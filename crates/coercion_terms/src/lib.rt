@@ -8,4 +8,4 @@ pub mod packing;
 pub mod parts;
 
 pub use packing::{abs_part, match_part};
-pub use parts::{fields_part, functor_part, meta_part, same_part};
+pub use parts::{Functors, fields_part, functor_part, meta_part, same_part};

@@ -64,29 +64,39 @@ fn coerced_part(alloc: Global, label: &Label, coercion: &Term) -> Result<Term, M
     Term::make(alloc, TermNode::Call(coercion.share()?, part))
 }
 
-/// The coercion of a functor, whose encoding is `from`, of effect `left`, to one of effect `right` whose variables have
-/// `kinds` and whose parameter has the encoding `param` under them. Under these variables `types` are the types of the
-/// left functor's, `inner` coerces the parameter and `outer` the result at `types`. `Err` is want of memory.
+/// A left functor and the right one to which it is coerced.
+#[derive(Clone, Copy)]
+pub struct Functors<'a> {
+    /// The encoding of the left functor.
+    pub from: &'a Ty,
+    /// The effect of the left functor.
+    pub left: Effect,
+    /// The effect of the right functor.
+    pub right: Effect,
+    /// The kinds of the right functor's variables.
+    pub kinds: &'a Kinds,
+    /// The encoding of the right functor's parameter, under these variables.
+    pub param: &'a Ty,
+}
+
+/// The coercion of a functor to another. Under the right one's variables `types` are the types of the left functor's,
+/// `inner` coerces the parameter and `outer` the result at `types`. `Err` is want of memory.
 pub fn functor_part(
     alloc: Global,
-    from: &Ty,
-    left: Effect,
-    right: Effect,
-    kinds: &Kinds,
-    param: &Ty,
+    sides: &Functors<'_>,
     types: &[NormalTy],
     inner: &Term,
     outer: &Term,
 ) -> Result<Term, Mem>
-    ensures value { IfOk result (λ e. e ≡ functor_part_of from.now left right kinds.now param.now types.now inner.now outer.now) }
-    ensures typed { IfOk result (λ e. HasFunctorType from.now left right kinds.now param.now types.now inner.now outer.now e) }
+    ensures value { IfOk result (λ e. e ≡ functor_part_of sides.now.from.now sides.now.left sides.now.right sides.now.kinds.now sides.now.param.now types.now inner.now outer.now) }
+    ensures typed { IfOk result (λ e. HasFunctorType sides.now.from.now sides.now.left sides.now.right sides.now.kinds.now sides.now.param.now types.now inner.now outer.now e) }
 {
-    let found = applied(alloc, left, types, inner)?;
+    let found = applied(alloc, sides.left, types, inner)?;
     let coerced = Term::make(alloc, TermNode::Call(outer.share()?, found))?;
-    let body = one_field(alloc, result_label(right), coerced)?;
-    let function = Term::make(alloc, TermNode::Lam(param.share()?, body))?;
-    let whole = ty_lam_over(alloc, kinds, function)?;
-    Term::make(alloc, TermNode::Lam(from.share()?, whole))
+    let body = one_field(alloc, result_label(sides.right), coerced)?;
+    let function = Term::make(alloc, TermNode::Lam(sides.param.share()?, body))?;
+    let whole = ty_lam_over(alloc, sides.kinds, function)?;
+    Term::make(alloc, TermNode::Lam(sides.from.share()?, whole))
 }
 
 // The result of the left functor, which is variable 1, at types and at the coerced argument, which is variable 0.

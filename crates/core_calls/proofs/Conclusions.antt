@@ -1,5 +1,5 @@
 -- From the conditions of a rule to its conclusion, and from one that fails to the refusal.
-use Rattle.std.proofs.Common.{◌≡◌, ◌≢◌, List, ◌∷◌, zero, Option, Some, None, MatchOption, Result, IfErr, IfSome, IsErrAnd, refl, sym, ap, ◌∙◌, subst}
+use Rattle.std.proofs.Common.{◌≡◌, ◌≢◌, List, ◌∷◌, zero, Option, Some, None, MatchOption, Result, Ok, Err, IfErr, IfOk, IfSome, IsErrAnd, refl, sym, ap, ◌∙◌, subst, subst₂}
 use Rattle.std.proofs.lemmas.Result.{err_from_is_err_and}
 use Rattle.omega_kinds.specs.Kind.{Kind}
 use Rattle.omega_kinds.specs.Name.{Name}
@@ -35,6 +35,11 @@ exit {T} F w Q f r e out h =
     let p = err_from_is_err_and r out in
     let P : Result T CoreRefusal → Type 0 = λ s. IfErr s (λ y. IfSome (plain_why y) Q) in
     subst P (sym p.1) (subst (λ y. IfSome (plain_why y) Q) (sym p.2) (some-weaker (plain_why e) (λ why. F × (why ≡ w)) Q (λ why g. subst Q (sym g.1) (f g.0)) h))
+
+-- what holds of both parts that a last call gives
+pub both-given : {T E A B : Type 0} (f : T → A) (g : T → B) (Q : A → B → Type 0) (r : Result T E) (a : A) (b : B) → IfOk r (λ x. f x ≡ a) → IfOk r (λ x. g x ≡ b) → Q a b → IfOk r (λ x. Q (f x) (g x))
+both-given f g Q (Ok x) a b e h q = subst₂ Q (sym e) (sym h) q
+both-given f g Q (Err w) a b e h q = tt
 
 -- a normal operator at a normal argument
 pub beta-gives : {ctx : List Kind} {f a : Ty} {k j : Kind} → Normal ctx f (Kind.Arrow k j) → Normal ctx a k → NormalForm ctx (Ty.Apply f a) j (beta f a)

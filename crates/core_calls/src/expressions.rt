@@ -1,5 +1,5 @@
 // The rules of expressions.
-ghost use Rattle.std.specs.Prelude.{◌≡◌, ◌↔◌, IfErr, IfOk, IfSome, List, MatchOption, None};
+ghost use Rattle.std.specs.Prelude.{◌≡◌, ◌↔◌, IfErr, IfOk, IfSome, List, MatchOption};
 ghost use Rattle.omega_kinds.specs.Kind.{Kind as KindTree};
 ghost use Rattle.omega_kinds.specs.View.{kind_tree};
 ghost use Rattle.omega_types.specs.Fields.{row};
@@ -39,15 +39,14 @@ pub(crate) fn typed(alloc: Global, ty: TyNode, term: TermNode) -> Result<Typed, 
     })
 }
 
-/// A number, a truth value or a text. The only refusal is want of memory.
-pub fn literal_exp(alloc: Global, what: Literal) -> Result<Typed, CoreRefusal>
-    ensures given { IfOk result (λ o. LiteralGives (plain_literal what) o.ty o.term) }
-    ensures refused { IfErr result (λ e. plain_why e ≡ None) }
+/// A number, a truth value or a text. `Err` is want of memory.
+pub fn literal_exp(alloc: Global, what: Literal) -> Result<Typed, Mem>
+    ensures { IfOk result (λ o. LiteralGives (plain_literal what) o.ty o.term) }
 {
     match what {
-        Literal::Int(number) => Ok(typed(alloc, TyNode::Int, TermNode::Int(number))?),
-        Literal::Bool(truth) => Ok(typed(alloc, TyNode::Bool, TermNode::Bool(truth))?),
-        Literal::Text(text) => Ok(typed(alloc, TyNode::Text, TermNode::Text(text))?),
+        Literal::Int(number) => typed(alloc, TyNode::Int, TermNode::Int(number)),
+        Literal::Bool(truth) => typed(alloc, TyNode::Bool, TermNode::Bool(truth)),
+        Literal::Text(text) => typed(alloc, TyNode::Text, TermNode::Text(text)),
     }
 }
 
@@ -66,10 +65,9 @@ pub fn lam_exp(alloc: Global, param: &Kinded, body: Typed) -> Result<Typed, Core
     Ok(Typed { ty, term })
 }
 
-/// `fun [X : K] => E`, E under X. The only refusal is want of memory.
-pub fn ty_lam_exp(alloc: Global, kind: &Kind, body: Typed) -> Result<Typed, CoreRefusal>
-    ensures given { IfOk result (λ o. TypeFunctionGives (kind_tree kind.now) body.ty body.term o.ty o.term) }
-    ensures refused { IfErr result (λ e. plain_why e ≡ None) }
+/// `fun [X : K] => E`, E under X. `Err` is want of memory.
+pub fn ty_lam_exp(alloc: Global, kind: &Kind, body: Typed) -> Result<Typed, Mem>
+    ensures { IfOk result (λ o. TypeFunctionGives (kind_tree kind.now) body.ty body.term o.ty o.term) }
 {
     let ty = made(alloc, TyNode::All(kind.share()?, plain(&body.ty).share()?))?;
     let term = Term::make(alloc, TermNode::TyLam(kind.share()?, body.term))?;

@@ -1,10 +1,9 @@
 // The rules of types.
-ghost use Rattle.std.specs.Prelude.{◌≡◌, None, IfErr, IfOk, IfSome};
+ghost use Rattle.std.specs.Prelude.{◌≡◌, IfErr, IfOk, IfSome, List};
 ghost use Rattle.omega_kinds.specs.Kind.{Kind as KindTree};
 ghost use Rattle.omega_kinds.specs.View.{kind_tree};
 ghost use Rattle.omega_types.specs.Normality.{Normal};
 ghost use Rattle.omega_types.specs.Normaliser.{beta};
-ghost use Rattle.omega_types.specs.Scope.{scope_of};
 ghost use Rattle.omega_types.specs.View.{ty_of};
 ghost use Rattle.core_rules.specs.TypeRules.{BaseGives, ArrowGives, ArrowRefuses, AllGives, AllRefuses, OperatorGives, AppliedGives, AppliedRefuses};
 ghost use Rattle.core_calls.specs.Plain.{plain_base, plain_why};
@@ -36,15 +35,14 @@ pub(crate) fn of_values(alloc: Global, node: TyNode) -> Result<Kinded, Mem>
     })
 }
 
-/// `Int`, `Bool` and `Text`. The only refusal is want of memory.
-pub fn base_ty(alloc: Global, what: Base) -> Result<Kinded, CoreRefusal>
-    ensures given { IfOk result (λ o. BaseGives (plain_base what) o.ty (kind_tree o.kind)) }
-    ensures refused { IfErr result (λ e. plain_why e ≡ None) }
+/// `Int`, `Bool` and `Text`. `Err` is want of memory.
+pub fn base_ty(alloc: Global, what: Base) -> Result<Kinded, Mem>
+    ensures { IfOk result (λ o. BaseGives (plain_base what) o.ty (kind_tree o.kind)) }
 {
     match what {
-        Base::Int => Ok(of_values(alloc, TyNode::Int)?),
-        Base::Bool => Ok(of_values(alloc, TyNode::Bool)?),
-        Base::Text => Ok(of_values(alloc, TyNode::Text)?),
+        Base::Int => of_values(alloc, TyNode::Int),
+        Base::Bool => of_values(alloc, TyNode::Bool),
+        Base::Text => of_values(alloc, TyNode::Text),
     }
 }
 
@@ -72,10 +70,9 @@ pub fn all_ty(alloc: Global, kind: &Kind, body: &Kinded) -> Result<Kinded, CoreR
     Ok(of_values(alloc, node)?)
 }
 
-/// `fun (X : K) => T`, T under X. The only refusal is want of memory.
-pub fn lam_ty(alloc: Global, kind: &Kind, body: &Kinded) -> Result<Kinded, CoreRefusal>
-    ensures given { IfOk result (λ o. OperatorGives (kind_tree kind.now) body.now.ty (kind_tree body.now.kind) o.ty (kind_tree o.kind)) }
-    ensures refused { IfErr result (λ e. plain_why e ≡ None) }
+/// `fun (X : K) => T`, T under X. `Err` is want of memory.
+pub fn lam_ty(alloc: Global, kind: &Kind, body: &Kinded) -> Result<Kinded, Mem>
+    ensures { IfOk result (λ o. OperatorGives (kind_tree kind.now) body.now.ty (kind_tree body.now.kind) o.ty (kind_tree o.kind)) }
 {
     let node = TyNode::Lam(kind.share()?, plain(&body.ty).share()?);
     Ok(Kinded {
@@ -97,18 +94,12 @@ fn applied(alloc: Global, operator: &NormalTy, arg: &NormalTy) -> Result<NormalT
     )
 }
 
-/// `T U`, in normal form; both are normal in the context `_ctx`, which lists the kinds of the type variables in scope, the
-/// innermost last. `NotOperator` comes exactly where T has kind `*`, and `KindDiffer` where U has not the kind that T
-/// takes: the kind of U, and that of T's argument.
-pub fn apply_ty(
-    alloc: Global,
-    _ctx: &[Kind],
-    operator: &Kinded,
-    arg: &Kinded,
-) -> Result<Kinded, CoreRefusal>
-    ensures given { IfOk result (λ o. Normal (scope_of _ctx.now) operator.now.ty (kind_tree operator.now.kind)
-        → Normal (scope_of _ctx.now) arg.now.ty (kind_tree arg.now.kind)
-        → AppliedGives (scope_of _ctx.now) operator.now.ty (kind_tree operator.now.kind) arg.now.ty (kind_tree arg.now.kind) o.ty (kind_tree o.kind)) }
+/// `T U`, in normal form; both are normal in one context. `NotOperator` comes exactly where T has kind `*`, and
+/// `KindDiffer` where U has not the kind that T takes: the kind of U, and that of T's argument.
+pub fn apply_ty(alloc: Global, operator: &Kinded, arg: &Kinded) -> Result<Kinded, CoreRefusal>
+    ensures given { IfOk result (λ o. (ctx : List KindTree) → Normal ctx operator.now.ty (kind_tree operator.now.kind)
+        → Normal ctx arg.now.ty (kind_tree arg.now.kind)
+        → AppliedGives ctx operator.now.ty (kind_tree operator.now.kind) arg.now.ty (kind_tree arg.now.kind) o.ty (kind_tree o.kind)) }
     ensures refused { IfErr result (λ e. IfSome (plain_why e) (λ why. AppliedRefuses operator.now.ty (kind_tree operator.now.kind) arg.now.ty (kind_tree arg.now.kind) why)) }
 {
     match &operator.kind {

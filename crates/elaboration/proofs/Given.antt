@@ -1,6 +1,6 @@
 -- What is given along the way: good environments, and answers where the environment is as before.
-use Rattle.std.proofs.Common.{◌≡◌, ◌≢◌, inl, inr, ◌∷◌, Result, IfErr, IsErrAnd, sym, subst}
-use Rattle.std.proofs.lemmas.Result.{err_from_is_err_and}
+use Rattle.std.proofs.Common.{◌≡◌, ◌≢◌, inl, inr, ◌∷◌, Result, Ok, Err, IfErr, IfOk, IsErrAnd, OnOk, sym, subst}
+use Rattle.std.proofs.lemmas.Result.{IfErr-weaker, IfOk-weaker, err_from_is_err_and}
 use Rattle.omega_kinds.specs.Kind.{Kind}
 use Rattle.omega_kinds.specs.Name.{Name}
 use Rattle.omega_types.specs.Ty.{Ty}
@@ -21,6 +21,25 @@ use Rattle.elaboration.proofs.Placing.{if_some-map}
 -- the exit with a refusal
 pub exit : {T E : Type 0} (Q : E → Type 0) (r : Result T E) (e : E) → IsErrAnd r (λ y. y ≡ e) → Q e → IfErr r Q
 exit Q r e out h = let p = err_from_is_err_and r out in subst (λ s. IfErr s Q) (sym p.1) (subst Q (sym p.2) h)
+
+-- from what a last call answers
+pub ok-map : {T E : Type 0} {P Q : T → Type 0} (r : Result T E) → IfOk r P → ((x : T) → P x → Q x) → IfOk r Q
+ok-map {P = P} {Q = Q} r h f = IfOk-weaker r P Q f h
+
+pub err-map : {T E : Type 0} {P Q : E → Type 0} (r : Result T E) → IfErr r P → ((e : E) → P e → Q e) → IfErr r Q
+err-map {P = P} {Q = Q} r h f = IfErr-weaker r P Q f h
+
+-- the same at each place
+pub ok-at : {T E A : Type 0} {P : T → Type 0} {Q : T → A → Type 0} (r : Result T E) → IfOk r P → ((x : T) → P x → (a : A) → Q x a) → IfOk r (λ x. (a : A) → Q x a)
+ok-at {A = A} {P = P} {Q = Q} r h f = IfOk-weaker r P (λ x. (a : A) → Q x a) f h
+
+pub err-at : {T E A : Type 0} {P : E → Type 0} {Q : E → A → Type 0} (r : Result T E) → IfErr r P → ((e : E) → P e → (a : A) → Q e a) → IfErr r (λ e. (a : A) → Q e a)
+err-at {A = A} {P = P} {Q = Q} r h f = IfErr-weaker r P (λ e. (a : A) → Q e a) f h
+
+-- whatever it answers
+pub stays : {T E P : Type 0} (r : Result T E) → P → OnOk r P
+stays (Ok x) h = h
+stays (Err e) h = tt
 
 pub value-env : {g : Env} {a : TyEx} {t : Ty} (x : Name) → OkEnv g → TyMeans g a t Kind.Star → OkEnv (Value x t ∷ g)
 value-env {g} {a} {t} x h m = (type_ok g a t Kind.Star h m, h)

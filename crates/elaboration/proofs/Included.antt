@@ -20,11 +20,10 @@ use Rattle.sig_laws.proofs.Encoded.EnvTyping.{kinds-named_fields}
 use Rattle.premise_laws.proofs.Environments.{good-module, good-fields, bound-module, bound-fields}
 use Rattle.semantic_sigs.specs.Fields.{sig_row}
 use Rattle.semantic_sigs.specs.View.{body_of, kinds_of}
-use Rattle.fing_syntax.specs.Leaves.{place}
-use Rattle.fing_syntax.specs.Phrase.{Span, SigEx, Mod, Bind, BindAt, BindWhat, BindInclude, Binds, NoBinds, MoreBinds}
+use Rattle.fing_syntax.specs.Phrase.{Span, SigEx, Mod, Bind, BindAt, BindInclude, Binds, NoBinds, MoreBinds}
 use Rattle.fing_syntax.specs.Place.{mod_span}
 use Rattle.fing_syntax.specs.Size.{bind_size, mod_size}
-use Rattle.fing_syntax.specs.View.{bind_of, bind_what_of, binds as binds_of}
+use Rattle.fing_syntax.specs.View.{bind_of, binds as binds_of}
 use Rattle.fing_syntax.specs.declared.tree.BindWhat.{BindWhat as BindNode}
 use Rattle.fing_text.specs.declared.span.Span.{Span as SpanAt}
 use Rattle.fing_refusals.specs.Refusal.{ElabWhy, NotStructure}
@@ -54,12 +53,6 @@ pub body-module : (g : Env) (a : SigEx) (b : Mod) (x : Name) (y : Abs) (M : Modu
 body-module g a b x (Abs.Ex ks s) M h p q = module-under g ks M (mod_ok (with_module g ks x s) b M (param-env g a (Abs.Ex ks s) x h p) q)
 
 -- what a binding is
-
-at-place : (a p : Span) (x : BindWhat) (b : Bind) (m : Mod) → BindAt a x ≡ b → b ≡ BindAt p (BindInclude m) → BindAt a (BindInclude m) ≡ b
-at-place a p x b m e q = cc
-
-pub include-at : (s : SpanAt) (w : BindNode) (b : Bind) (m : Mod) → bind_of s w ≡ b → (p : Span) × (b ≡ BindAt p (BindInclude m)) → BindAt (place s) (BindInclude m) ≡ b
-include-at s w b m e q = at-place (place s) q.0 (bind_what_of w) b m e q.1
 
 pub include-size : (b : Bind) (m : Mod) → (p : Span) × (b ≡ BindAt p (BindInclude m)) → mod_size m + 1 ≡ bind_size b
 include-size b m q = sym (ap bind_size q.1)

@@ -9,7 +9,6 @@ pub mod Included
 pub mod LeftPaths
 pub mod Means
 pub mod Moved
-pub mod NameKeys
 pub mod Newness
 pub mod Placing
 pub mod Refuse

@@ -1,5 +1,5 @@
 -- Conclusions and refusals over whole signatures and modules, as the code has them.
-use Rattle.std.proofs.Common.{◌≡◌, Bool, true, false, List, [], ◌∷◌, refl, subst}
+use Rattle.std.proofs.Common.{◌≡◌, Bool, true, false, List, refl, subst}
 use Rattle.omega_kinds.specs.Kind.{Kind}
 use Rattle.omega_kinds.specs.Name.{Name}
 use Rattle.omega_kinds.specs.declared.effect.Effect.{Effect}

@@ -1,5 +1,5 @@
 -- From a rule's reason, and its place, to a refusal of the rule.
-use Rattle.std.proofs.Common.{◌≡◌, ◌≢◌, Option, Some, None, IfSome, ap, ◌∙◌}
+use Rattle.std.proofs.Common.{◌≡◌, Option, Some, None, IfSome, ap, ◌∙◌}
 use Rattle.std.specs.Option.{option_map}
 use Rattle.signatures.specs.Env.{Env}
 use Rattle.fing_syntax.specs.Phrase.{Span}

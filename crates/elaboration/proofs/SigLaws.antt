@@ -1,5 +1,5 @@
 -- Declarations in a row, and what the rules over signatures give in an environment.
-use Rattle.std.proofs.Common.{◌≡◌, ℕ, ◌+◌, ◌<◌, ◌≤◌, get_or, true, Result, Ok, Err, IfOk, List, [], length, drop, map, refl, sym, ap, ◌∙◌, subst, subst₂}
+use Rattle.std.proofs.Common.{◌≡◌, ℕ, ◌+◌, ◌<◌, ◌≤◌, get_or, true, Result, IfOk, List, [], length, drop, map, refl, sym, ap, ◌∙◌, subst, subst₂}
 use Rattle.omega_kinds.specs.Kind.{Kind}
 use Rattle.omega_kinds.specs.Name.{Name}
 use Rattle.omega_kinds.specs.View.{kind_tree}
@@ -37,6 +37,7 @@ use Rattle.refusal_lines.specs.declared.refusal.Refusal.{Refusal as CodeRefusal}
 use Rattle.elaboration.specs.Answered.{RefusedAs}
 use Rattle.elaboration.specs.Fields.{fields_in}
 use Rattle.elaboration.proofs.Entering.{left-type_vars, left-module, left-fields}
+use Rattle.elaboration.proofs.Given.{ok-map}
 use Rattle.elaboration.proofs.Means.{applicative-means, decl-structure, decl-whole, param-env}
 use Rattle.elaboration.proofs.Slices.{empty, first-rest, rest-of}
 
@@ -136,12 +137,8 @@ lifted-means {g} {z = z} {a = a} {b = b} x y w o p q f =
 
 -- a declaration that hides a type
 
-if_ok-map : {A E : Type 0} {P Q : A → Type 0} (r : Result A E) → ((a : A) → P a → Q a) → IfOk r P → IfOk r Q
-if_ok-map (Ok a) f h = f a h
-if_ok-map (Err e) f h = tt
-
 pub abstract-means : {E : Type 0} (g : Env) (d : Decl) (w : DeclNode) (at : SpanAt) (x : NameAt) (k : SharedKind) (r : Result Abs E) → decl_of at w ≡ d → w ≡ decl_what_in.TyOf x k → IfOk r (λ y. AbstractGives x.name (kind_tree k) y) → IfOk r (λ y. DeclMeans g d y)
-abstract-means g d w at x k r ed ew h = if_ok-map r (λ y p. subst (λ e. DeclMeans g e y) (ap (decl_of at) (sym ew) ∙ ed) (DeclMeans.decl_of p)) h
+abstract-means g d w at x k r ed ew h = ok-map r h (λ y p. subst (λ e. DeclMeans g e y) (ap (decl_of at) (sym ew) ∙ ed) (DeclMeans.decl_of p))
 
 -- declarations in a list
 

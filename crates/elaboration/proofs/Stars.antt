@@ -1,5 +1,5 @@
 -- Kinds that are no `*`.
-use Rattle.std.proofs.Common.{◌≡◌, ◌≢◌, refl, subst, ◌∙◌}
+use Rattle.std.proofs.Common.{◌≡◌, ◌≢◌, refl, subst}
 use Rattle.omega_kinds.specs.Kind.{Kind}
 use Rattle.signatures.specs.Env.{Env}
 use Rattle.fing_syntax.specs.Phrase.{Span}

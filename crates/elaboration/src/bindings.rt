@@ -9,7 +9,6 @@ ghost use Rattle.semantic_sigs.specs.View.{body_of, kinds_of};
 ghost use Rattle.elab_rules.specs.Judgments.Meaning.{BindMeans, BindsMean};
 ghost use Rattle.elab_rules.specs.Operators.{include_name};
 ghost use Rattle.elab_rules.specs.Refusals.Task.{a_bind, binds as binds_task};
-ghost use Rattle.fing_syntax.specs.Leaves.{place};
 ghost use Rattle.fing_syntax.specs.Phrase.{BindAt, BindInclude, MoreBinds, Span as Place};
 ghost use Rattle.fing_syntax.specs.View.{binds as binds_of};
 ghost use Rattle.elaboration.specs.Answered.{RefusedAs};
@@ -24,7 +23,6 @@ use crate::sets::{NameSet, with_names};
 use crate::sigs::sig;
 use crate::types::ty;
 use fing_syntax::{Bind, BindWhat, Mod};
-use fing_text::Span;
 use module_calls::{bind_sig, bind_type, bind_val, seq_bind};
 use omega_kinds::{Mem, Name, name_of};
 use refusal_lines::{ElabWhy, Refusal};
@@ -50,10 +48,7 @@ pub fn binds(
     ensures same { OnOk result (env.new ≡ env.old) }
 {
     match list {
-        [] => {
-            let whole = end_rule(alloc, env, &before)?;
-            Ok(whole)
-        }
+        [] => Ok(end_rule(alloc, env, &before)?),
         [first, rest @ ..] => binds_from(alloc, env, before, first, rest),
     }
 }
@@ -76,7 +71,7 @@ fn binds_from(
     let Some(whole) = include_of(first) else {
         return bound(alloc, env, before, first, rest);
     };
-    included(alloc, env, before, first.span, whole, rest)
+    included(alloc, env, before, whole, rest)
 }
 
 // The module that a binding includes; `None` exactly for a single binding.
@@ -107,8 +102,7 @@ fn bound(
 {
     let own = bind(alloc, env, first)?;
     let tail = binds_under(alloc, env, before, &own.0, &own.1.sig, rest)?;
-    let whole = seq_bind(alloc, own.1, tail)?;
-    Ok(whole)
+    Ok(seq_bind(alloc, own.1, tail)?)
 }
 
 // The rest of a structure, under a binding of a name and a signature before it.
@@ -141,14 +135,13 @@ fn included(
     alloc: Global,
     env: &mut Env,
     before: NameSet,
-    at: Span,
     whole: &Mod,
     rest: &[Bind],
 ) -> Result<Module, Refusal>
     requires env { OkEnv env.old }
     requires names { GoodNames env.old before }
-    ensures given { IfOk result (λ m. BindsMean env.old before (MoreBinds (BindAt (place at) (BindInclude whole.now)) (binds_of rest.now)) (module_of m)) }
-    ensures refused { IfErr result (λ e. RefusedAs env.old (binds_task before (MoreBinds (BindAt (place at) (BindInclude whole.now)) (binds_of rest.now))) e) }
+    ensures given { IfOk result (λ m. (at : Place) → BindsMean env.old before (MoreBinds (BindAt at (BindInclude whole.now)) (binds_of rest.now)) (module_of m)) }
+    ensures refused { IfErr result (λ e. (at : Place) → RefusedAs env.old (binds_task before (MoreBinds (BindAt at (BindInclude whole.now)) (binds_of rest.now))) e) }
     ensures same { OnOk result (env.new ≡ env.old) }
 {
     let head = module(alloc, env, whole)?;
@@ -156,8 +149,7 @@ fn included(
         return Err(refuse(env, whole.span, ElabWhy::NotStructure));
     };
     let tail = included_under(alloc, env, before, &head.sig, fields, rest)?;
-    let made = include_rule(alloc, head, tail)?;
-    Ok(made)
+    Ok(include_rule(alloc, head, tail)?)
 }
 
 // The rest of a structure, under an included module of a signature, which has a hidden name, and then each of its fields.
@@ -190,8 +182,7 @@ fn push_included(alloc: Global, env: &mut Env, head: &Abs, fields: &SigFields) -
 {
     let hidden = name_of(alloc, b"%4")?;
     push_module(env, &hidden, head)?;
-    push_fields(env, fields)?;
-    Ok(())
+    push_fields(env, fields)
 }
 
 // A single binding: its name, and what it binds. An include is none: the rest of a structure takes it.

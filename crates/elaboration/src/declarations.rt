@@ -9,7 +9,7 @@ ghost use Rattle.semantic_sigs.specs.View.{body_of, kinds_of};
 ghost use Rattle.elab_rules.specs.Judgments.Meaning.{DeclMeans, DeclsMean};
 ghost use Rattle.elab_rules.specs.Refusals.Task.{a_decl, decls as decls_task};
 ghost use Rattle.fing_syntax.specs.Leaves.{place, spelled};
-ghost use Rattle.fing_syntax.specs.Phrase.{DeclAt, DeclInclude, DeclModule, DeclSignature, DeclTyIs, DeclTyOf, DeclVal};
+ghost use Rattle.fing_syntax.specs.Phrase.{DeclAt, DeclInclude, DeclModule, DeclSignature, DeclTyIs, DeclTyOf, DeclVal, Span as Place};
 ghost use Rattle.fing_syntax.specs.Place.{decl_span};
 ghost use Rattle.fing_syntax.specs.View.{decls as decls_of};
 ghost use Rattle.elaboration.specs.Answered.{RefusedAs};
@@ -38,109 +38,79 @@ fn decl(alloc: Global, env: &mut Env, phrase: &Decl) -> Result<Abs, Refusal>
     ensures refused { IfErr result (λ e. RefusedAs env.old (a_decl phrase.now) e) }
     ensures same { OnOk result (env.new ≡ env.old) }
 {
-    let at = phrase.span;
     match &phrase.what {
-        DeclWhat::Val(name, of) => decl_val(alloc, env, at, name, of),
-        DeclWhat::TyIs(name, of) => decl_is(alloc, env, at, name, of),
+        DeclWhat::Val(name, of) => decl_val(alloc, env, name, of),
+        DeclWhat::TyIs(name, of) => decl_is(alloc, env, name, of),
         DeclWhat::TyOf(name, kind) => abstract_rule(alloc, &name.name, kind),
-        DeclWhat::Module(name, of) => decl_module(alloc, env, at, name, of),
-        DeclWhat::Signature(name, of) => decl_signature(alloc, env, at, name, of),
-        DeclWhat::Include(of) => decl_include(alloc, env, at, of),
+        DeclWhat::Module(name, of) => decl_module(alloc, env, name, of),
+        DeclWhat::Signature(name, of) => decl_signature(alloc, env, name, of),
+        DeclWhat::Include(of) => decl_include(alloc, env, of),
     }
 }
 
 // `val X : T`.
 #[cycle(elab)]
 #[inline(never)]
-fn decl_val(
-    alloc: Global,
-    env: &mut Env,
-    at: Span,
-    name: &SpanName,
-    of: &TyEx,
-) -> Result<Abs, Refusal>
+fn decl_val(alloc: Global, env: &mut Env, name: &SpanName, of: &TyEx) -> Result<Abs, Refusal>
     requires { OkEnv env.old }
-    ensures given { IfOk result (λ x. DeclMeans env.old (DeclAt (place at) (DeclVal (spelled name.now) of.now)) x) }
-    ensures refused { IfErr result (λ e. RefusedAs env.old (a_decl (DeclAt (place at) (DeclVal (spelled name.now) of.now))) e) }
+    ensures given { IfOk result (λ x. (at : Place) → DeclMeans env.old (DeclAt at (DeclVal (spelled name.now) of.now)) x) }
+    ensures refused { IfErr result (λ e. (at : Place) → RefusedAs env.old (a_decl (DeclAt at (DeclVal (spelled name.now) of.now))) e) }
     ensures same { OnOk result (env.new ≡ env.old) }
 {
     let found = ty(alloc, env, of)?;
-    let whole = value_rule(alloc, env, of.span, &name.name, &found)?;
-    Ok(whole)
+    value_rule(alloc, env, of.span, &name.name, &found)
 }
 
 // `type X = T`.
 #[cycle(elab)]
 #[inline(never)]
-fn decl_is(
-    alloc: Global,
-    env: &mut Env,
-    at: Span,
-    name: &SpanName,
-    of: &TyEx,
-) -> Result<Abs, Refusal>
+fn decl_is(alloc: Global, env: &mut Env, name: &SpanName, of: &TyEx) -> Result<Abs, Refusal>
     requires { OkEnv env.old }
-    ensures given { IfOk result (λ x. DeclMeans env.old (DeclAt (place at) (DeclTyIs (spelled name.now) of.now)) x) }
-    ensures refused { IfErr result (λ e. RefusedAs env.old (a_decl (DeclAt (place at) (DeclTyIs (spelled name.now) of.now))) e) }
+    ensures given { IfOk result (λ x. (at : Place) → DeclMeans env.old (DeclAt at (DeclTyIs (spelled name.now) of.now)) x) }
+    ensures refused { IfErr result (λ e. (at : Place) → RefusedAs env.old (a_decl (DeclAt at (DeclTyIs (spelled name.now) of.now))) e) }
     ensures same { OnOk result (env.new ≡ env.old) }
 {
     let found = ty(alloc, env, of)?;
-    let whole = type_rule(alloc, &name.name, &found)?;
-    Ok(whole)
+    type_rule(alloc, &name.name, &found)
 }
 
 // `module X : S`.
 #[cycle(elab)]
 #[inline(never)]
-fn decl_module(
-    alloc: Global,
-    env: &mut Env,
-    at: Span,
-    name: &SpanName,
-    of: &SigEx,
-) -> Result<Abs, Refusal>
+fn decl_module(alloc: Global, env: &mut Env, name: &SpanName, of: &SigEx) -> Result<Abs, Refusal>
     requires { OkEnv env.old }
-    ensures given { IfOk result (λ x. DeclMeans env.old (DeclAt (place at) (DeclModule (spelled name.now) of.now)) x) }
-    ensures refused { IfErr result (λ e. RefusedAs env.old (a_decl (DeclAt (place at) (DeclModule (spelled name.now) of.now))) e) }
+    ensures given { IfOk result (λ x. (at : Place) → DeclMeans env.old (DeclAt at (DeclModule (spelled name.now) of.now)) x) }
+    ensures refused { IfErr result (λ e. (at : Place) → RefusedAs env.old (a_decl (DeclAt at (DeclModule (spelled name.now) of.now))) e) }
     ensures same { OnOk result (env.new ≡ env.old) }
 {
     let found = sig(alloc, env, of)?;
-    let whole = module_rule(alloc, &name.name, &found)?;
-    Ok(whole)
+    module_rule(alloc, &name.name, &found)
 }
 
 // `signature X = S`.
 #[cycle(elab)]
 #[inline(never)]
-fn decl_signature(
-    alloc: Global,
-    env: &mut Env,
-    at: Span,
-    name: &SpanName,
-    of: &SigEx,
-) -> Result<Abs, Refusal>
+fn decl_signature(alloc: Global, env: &mut Env, name: &SpanName, of: &SigEx) -> Result<Abs, Refusal>
     requires { OkEnv env.old }
-    ensures given { IfOk result (λ x. DeclMeans env.old (DeclAt (place at) (DeclSignature (spelled name.now) of.now)) x) }
-    ensures refused { IfErr result (λ e. RefusedAs env.old (a_decl (DeclAt (place at) (DeclSignature (spelled name.now) of.now))) e) }
+    ensures given { IfOk result (λ x. (at : Place) → DeclMeans env.old (DeclAt at (DeclSignature (spelled name.now) of.now)) x) }
+    ensures refused { IfErr result (λ e. (at : Place) → RefusedAs env.old (a_decl (DeclAt at (DeclSignature (spelled name.now) of.now))) e) }
     ensures same { OnOk result (env.new ≡ env.old) }
 {
     let found = sig(alloc, env, of)?;
-    let whole = signature_rule(alloc, &name.name, &found)?;
-    Ok(whole)
+    signature_rule(alloc, &name.name, &found)
 }
 
 // `include S`.
 #[cycle(elab)]
 #[inline(never)]
-fn decl_include(alloc: Global, env: &mut Env, at: Span, of: &SigEx) -> Result<Abs, Refusal>
+fn decl_include(alloc: Global, env: &mut Env, of: &SigEx) -> Result<Abs, Refusal>
     requires { OkEnv env.old }
-    ensures given { IfOk result (λ x. DeclMeans env.old (DeclAt (place at) (DeclInclude of.now)) x) }
-    ensures refused { IfErr result (λ e. RefusedAs env.old (a_decl (DeclAt (place at) (DeclInclude of.now))) e) }
+    ensures given { IfOk result (λ x. (at : Place) → DeclMeans env.old (DeclAt at (DeclInclude of.now)) x) }
+    ensures refused { IfErr result (λ e. (at : Place) → RefusedAs env.old (a_decl (DeclAt at (DeclInclude of.now))) e) }
     ensures same { OnOk result (env.new ≡ env.old) }
 {
     let found = sig(alloc, env, of)?;
-    let whole = include_rule(alloc, env, of.span, &found)?;
-    Ok(whole)
+    include_rule(env, of.span, &found)
 }
 
 // The place that a declaration's label is refused at.
@@ -174,10 +144,9 @@ pub(crate) fn decls(
         [] => Ok(no_fields(alloc)?),
         [first, rest @ ..] => {
             let head = decl(alloc, env, first)?;
-            distinct_rule(alloc, env, decl_place(first), &before, &head)?;
+            distinct_rule(env, decl_place(first), &before, &head)?;
             let tail = decls_under(alloc, env, before, &head, rest)?;
-            let whole = declarations_rule(alloc, &head, &tail)?;
-            Ok(whole)
+            declarations_rule(alloc, &head, &tail)
         }
     }
 }

@@ -20,7 +20,7 @@ use core_calls::{
     op_exp, ty_lam_exp,
 };
 use fing_text::Span;
-use omega_kinds::{Kind, Mem, Name};
+use omega_kinds::{Kind, Name};
 use omega_terms::Op;
 use omega_types::{Ty, TyNode};
 use refusal_lines::{ElabWhy, Refusal};
@@ -108,10 +108,7 @@ pub(crate) fn literal_rule(alloc: Global, what: Literal) -> Result<Typed, Refusa
     ensures given { IfOk result (λ o. LiteralGives (plain_literal what) o.ty o.term) }
     ensures refused { IfErr result (λ e. plain_refusal e ≡ None) }
 {
-    match literal_exp(alloc, what) {
-        Ok(made) => Ok(made),
-        Err(_) => Err(Refusal::from(Mem)),
-    }
+    Ok(literal_exp(alloc, what)?)
 }
 
 /// `fun (X : T) => E`.
@@ -136,10 +133,7 @@ pub(crate) fn type_function_rule(alloc: Global, kind: &Kind, body: Typed) -> Res
     ensures given { IfOk result (λ o. TypeFunctionGives (kind_tree kind.now) body.ty body.term o.ty o.term) }
     ensures refused { IfErr result (λ e. plain_refusal e ≡ None) }
 {
-    match ty_lam_exp(alloc, kind, body) {
-        Ok(made) => Ok(made),
-        Err(_) => Err(Refusal::from(Mem)),
-    }
+    Ok(ty_lam_exp(alloc, kind, body)?)
 }
 
 /// `E1 E2`.

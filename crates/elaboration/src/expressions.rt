@@ -12,7 +12,7 @@ ghost use Rattle.elab_rules.specs.Operators.{omega_op as omega_op_of, with_type}
 ghost use Rattle.elab_rules.specs.Judgments.Meaning.{ArgsMean, ExpMeans, FieldExpsMean, OpsMean};
 ghost use Rattle.elab_rules.specs.Refusals.Task.{an_exp, args as args_task, fields as fields_task, operands as operands_task};
 ghost use Rattle.fing_syntax.specs.Leaves.{op_of, place, spelled};
-ghost use Rattle.fing_syntax.specs.Phrase.{ArgExp, ArgTy, ExpApply, ExpAt, ExpFields, ExpFix, ExpGet, ExpIf, ExpLam, ExpOps, ExpTyLam, MoreArgs, MoreFieldExps, MoreOps};
+ghost use Rattle.fing_syntax.specs.Phrase.{ArgExp, ArgTy, ExpApply, ExpAt, ExpFields, ExpFix, ExpGet, ExpIf, ExpLam, ExpOps, ExpTyLam, MoreArgs, MoreFieldExps, MoreOps, Span as Place};
 ghost use Rattle.fing_syntax.specs.View.{args as args_of, field_exps, ops};
 ghost use Rattle.elaboration.specs.Answered.{RefusedAs};
 ghost use Rattle.elaboration.specs.Fields.{names_before};
@@ -51,21 +51,21 @@ pub(crate) fn exp(alloc: Global, env: &mut Env, phrase: &Exp) -> Result<Typed, R
         ExpWhat::Int(number) => literal_rule(alloc, Literal::Int(*number)),
         ExpWhat::Bool(truth) => literal_rule(alloc, Literal::Bool(*truth)),
         ExpWhat::Text(text) => literal_rule(alloc, Literal::Text(text.share()?)),
-        ExpWhat::Lam(name, param, body) => exp_lam(alloc, env, at, name, param, body),
-        ExpWhat::TyLam(name, kind, body) => exp_ty_lam(alloc, env, at, name, kind, body),
+        ExpWhat::Lam(name, param, body) => exp_lam(alloc, env, name, param, body),
+        ExpWhat::TyLam(name, kind, body) => exp_ty_lam(alloc, env, name, kind, body),
         ExpWhat::Fix {
             function,
             name,
             param,
             result: target,
             body,
-        } => exp_fix(alloc, env, at, function, name, param, target, body),
-        ExpWhat::If(test, yes, no) => exp_if(alloc, env, at, test, yes, no),
-        ExpWhat::Ops(first, rest) => exp_ops(alloc, env, at, first, rest),
-        ExpWhat::Apply(function, args) => exp_apply(alloc, env, at, function, args),
+        } => exp_fix(alloc, env, function, name, param, target, body),
+        ExpWhat::If(test, yes, no) => exp_if(alloc, env, test, yes, no),
+        ExpWhat::Ops(first, rest) => exp_ops(alloc, env, first, rest),
+        ExpWhat::Apply(function, args) => exp_apply(alloc, env, function, args),
         ExpWhat::Fields(fields) => exp_record(alloc, env, at, fields),
-        ExpWhat::Get(whole, name) => exp_get(alloc, env, at, whole, name),
-        ExpWhat::Pack(name, sig) => pack_value(alloc, env, at, name, sig),
+        ExpWhat::Get(whole, name) => exp_get(alloc, env, whole, name),
+        ExpWhat::Pack(name, sig) => pack_value(alloc, env, name, sig),
     }
 }
 
@@ -95,20 +95,18 @@ fn exp_under(
 fn exp_lam(
     alloc: Global,
     env: &mut Env,
-    at: Span,
     name: &SpanName,
     param: &TyEx,
     body: &Exp,
 ) -> Result<Typed, Refusal>
     requires { OkEnv env.old }
-    ensures given { IfOk result (λ o. ExpMeans env.old (ExpAt (place at) (ExpLam (spelled name.now) param.now body.now)) o.ty o.term) }
-    ensures refused { IfErr result (λ e. RefusedAs env.old (an_exp (ExpAt (place at) (ExpLam (spelled name.now) param.now body.now))) e) }
+    ensures given { IfOk result (λ o. (at : Place) → ExpMeans env.old (ExpAt at (ExpLam (spelled name.now) param.now body.now)) o.ty o.term) }
+    ensures refused { IfErr result (λ e. (at : Place) → RefusedAs env.old (an_exp (ExpAt at (ExpLam (spelled name.now) param.now body.now))) e) }
     ensures same { OnOk result (env.new ≡ env.old) }
 {
     let from = value_ty(alloc, env, param)?;
     let inner = exp_under(alloc, env, &name.name, &from.ty, body)?;
-    let whole = function_rule(alloc, env, param.span, &from, inner)?;
-    Ok(whole)
+    function_rule(alloc, env, param.span, &from, inner)
 }
 
 // `fun [X : K] => E`.
@@ -117,21 +115,19 @@ fn exp_lam(
 fn exp_ty_lam(
     alloc: Global,
     env: &mut Env,
-    at: Span,
     name: &SpanName,
     kind: &Kind,
     body: &Exp,
 ) -> Result<Typed, Refusal>
     requires { OkEnv env.old }
-    ensures given { IfOk result (λ o. ExpMeans env.old (ExpAt (place at) (ExpTyLam (spelled name.now) (kind_tree kind.now) body.now)) o.ty o.term) }
-    ensures refused { IfErr result (λ e. RefusedAs env.old (an_exp (ExpAt (place at) (ExpTyLam (spelled name.now) (kind_tree kind.now) body.now))) e) }
+    ensures given { IfOk result (λ o. (at : Place) → ExpMeans env.old (ExpAt at (ExpTyLam (spelled name.now) (kind_tree kind.now) body.now)) o.ty o.term) }
+    ensures refused { IfErr result (λ e. (at : Place) → RefusedAs env.old (an_exp (ExpAt at (ExpTyLam (spelled name.now) (kind_tree kind.now) body.now))) e) }
     ensures same { OnOk result (env.new ≡ env.old) }
 {
     push_type(env, &name.name, kind)?;
     let inner = exp(alloc, env, body)?;
     leave(env, 2);
-    let whole = type_function_rule(alloc, kind, inner)?;
-    Ok(whole)
+    type_function_rule(alloc, kind, inner)
 }
 
 // `fix F (X : T) : U => E`.
@@ -140,7 +136,6 @@ fn exp_ty_lam(
 fn exp_fix(
     alloc: Global,
     env: &mut Env,
-    at: Span,
     function: &SpanName,
     name: &SpanName,
     param: &TyEx,
@@ -148,8 +143,8 @@ fn exp_fix(
     body: &Exp,
 ) -> Result<Typed, Refusal>
     requires { OkEnv env.old }
-    ensures given { IfOk result (λ o. ExpMeans env.old (ExpAt (place at) (ExpFix (spelled function.now) (spelled name.now) param.now target.now body.now)) o.ty o.term) }
-    ensures refused { IfErr result (λ e. RefusedAs env.old (an_exp (ExpAt (place at) (ExpFix (spelled function.now) (spelled name.now) param.now target.now body.now))) e) }
+    ensures given { IfOk result (λ o. (at : Place) → ExpMeans env.old (ExpAt at (ExpFix (spelled function.now) (spelled name.now) param.now target.now body.now)) o.ty o.term) }
+    ensures refused { IfErr result (λ e. (at : Place) → RefusedAs env.old (an_exp (ExpAt at (ExpFix (spelled function.now) (spelled name.now) param.now target.now body.now))) e) }
     ensures same { OnOk result (env.new ≡ env.old) }
 {
     let from = value_ty(alloc, env, param)?;
@@ -158,8 +153,7 @@ fn exp_fix(
     push_value(env, &function.name, &own)?;
     let inner = exp_under(alloc, env, &name.name, &from.ty, body)?;
     leave(env, 1);
-    let whole = fix_rule(alloc, env, body.span, &from, &to, inner)?;
-    Ok(whole)
+    fix_rule(alloc, env, body.span, &from, &to, inner)
 }
 
 // The type of functions from one type to another.
@@ -173,45 +167,30 @@ fn arrow_of(alloc: Global, from: &Kinded, to: &Kinded) -> Result<NormalTy, Mem>
 // `if E1 then E2 else E3`.
 #[cycle(elab)]
 #[inline(never)]
-fn exp_if(
-    alloc: Global,
-    env: &mut Env,
-    at: Span,
-    test: &Exp,
-    yes: &Exp,
-    no: &Exp,
-) -> Result<Typed, Refusal>
+fn exp_if(alloc: Global, env: &mut Env, test: &Exp, yes: &Exp, no: &Exp) -> Result<Typed, Refusal>
     requires { OkEnv env.old }
-    ensures given { IfOk result (λ o. ExpMeans env.old (ExpAt (place at) (ExpIf test.now yes.now no.now)) o.ty o.term) }
-    ensures refused { IfErr result (λ e. RefusedAs env.old (an_exp (ExpAt (place at) (ExpIf test.now yes.now no.now))) e) }
+    ensures given { IfOk result (λ o. (at : Place) → ExpMeans env.old (ExpAt at (ExpIf test.now yes.now no.now)) o.ty o.term) }
+    ensures refused { IfErr result (λ e. (at : Place) → RefusedAs env.old (an_exp (ExpAt at (ExpIf test.now yes.now no.now))) e) }
     ensures same { OnOk result (env.new ≡ env.old) }
 {
     let first = exp(alloc, env, test)?;
     expect_bool(alloc, env, test.span, &first.ty)?;
     let second = exp(alloc, env, yes)?;
     let third = exp(alloc, env, no)?;
-    let whole = if_rule(alloc, env, yes.span, first, second, third)?;
-    Ok(whole)
+    if_rule(alloc, env, yes.span, first, second, third)
 }
 
 // Operators of one level, which group to the left.
 #[cycle(elab)]
 #[inline(never)]
-fn exp_ops(
-    alloc: Global,
-    env: &mut Env,
-    at: Span,
-    first: &Exp,
-    rest: &[(Op, Exp)],
-) -> Result<Typed, Refusal>
+fn exp_ops(alloc: Global, env: &mut Env, first: &Exp, rest: &[(Op, Exp)]) -> Result<Typed, Refusal>
     requires { OkEnv env.old }
-    ensures given { IfOk result (λ o. ExpMeans env.old (ExpAt (place at) (ExpOps first.now (ops rest.now))) o.ty o.term) }
-    ensures refused { IfErr result (λ e. RefusedAs env.old (an_exp (ExpAt (place at) (ExpOps first.now (ops rest.now)))) e) }
+    ensures given { IfOk result (λ o. (at : Place) → ExpMeans env.old (ExpAt at (ExpOps first.now (ops rest.now))) o.ty o.term) }
+    ensures refused { IfErr result (λ e. (at : Place) → RefusedAs env.old (an_exp (ExpAt at (ExpOps first.now (ops rest.now)))) e) }
     ensures same { OnOk result (env.new ≡ env.old) }
 {
     let left = exp(alloc, env, first)?;
-    let whole = operands(alloc, env, first.span, left, rest)?;
-    Ok(whole)
+    operands(alloc, env, first.span, left, rest)
 }
 
 // A left operand, which stands at a place, with the operands that are left.
@@ -256,8 +235,7 @@ fn operand(
     let op = omega_op(first.0);
     let whole = operation_rule(alloc, env, to, op, left, right)?;
     let both = up_to(at, to);
-    let all = operands(alloc, env, both, whole, rest)?;
-    Ok(all)
+    operands(alloc, env, both, whole, rest)
 }
 
 // The operator of terms.
@@ -278,21 +256,14 @@ fn omega_op(op: Op) -> TermOp
 // A function and its arguments.
 #[cycle(elab)]
 #[inline(never)]
-fn exp_apply(
-    alloc: Global,
-    env: &mut Env,
-    at: Span,
-    function: &Exp,
-    args: &[Arg],
-) -> Result<Typed, Refusal>
+fn exp_apply(alloc: Global, env: &mut Env, function: &Exp, args: &[Arg]) -> Result<Typed, Refusal>
     requires { OkEnv env.old }
-    ensures given { IfOk result (λ o. ExpMeans env.old (ExpAt (place at) (ExpApply function.now (args_of args.now))) o.ty o.term) }
-    ensures refused { IfErr result (λ e. RefusedAs env.old (an_exp (ExpAt (place at) (ExpApply function.now (args_of args.now)))) e) }
+    ensures given { IfOk result (λ o. (at : Place) → ExpMeans env.old (ExpAt at (ExpApply function.now (args_of args.now))) o.ty o.term) }
+    ensures refused { IfErr result (λ e. (at : Place) → RefusedAs env.old (an_exp (ExpAt at (ExpApply function.now (args_of args.now)))) e) }
     ensures same { OnOk result (env.new ≡ env.old) }
 {
     let found = exp(alloc, env, function)?;
-    let whole = arguments(alloc, env, function.span, found, args)?;
-    Ok(whole)
+    arguments(alloc, env, function.span, found, args)
 }
 
 // A function, which stands at a place, applied to the arguments that are left.
@@ -340,8 +311,7 @@ fn value_argument(
     let arg = exp(alloc, env, first)?;
     let whole = call_rule(alloc, env, first.span, function, arg)?;
     let both = up_to(at, first.span);
-    let all = arguments(alloc, env, both, whole, rest)?;
-    Ok(all)
+    arguments(alloc, env, both, whole, rest)
 }
 
 // A function, which stands at a place, applied to a type, up to a place, and then to the arguments that are left.
@@ -366,8 +336,7 @@ fn type_argument(
     let arg = ty(alloc, env, first)?;
     let whole = instance_rule(alloc, env, first.span, function, &arg)?;
     let both = up_to(at, to);
-    let all = arguments(alloc, env, both, whole, rest)?;
-    Ok(all)
+    arguments(alloc, env, both, whole, rest)
 }
 
 // A record.
@@ -386,8 +355,7 @@ fn exp_record(
 {
     let mut parts = Vec::new(alloc);
     exp_fields(alloc, env, &mut parts, fields)?;
-    let whole = record_rule(alloc, env, at, parts)?;
-    Ok(whole)
+    record_rule(alloc, env, at, parts)
 }
 
 // The fields that are left of a record, behind those that are done.
@@ -423,30 +391,22 @@ fn exp_field(
     ensures refused { IfErr result (λ e. RefusedAs env.old (fields_task (names_before done.old.items) (MoreFieldExps (spelled first.now.0) first.now.1 (field_exps rest.now))) e) }
     ensures same { OnOk result (env.new ≡ env.old) }
 {
-    expect_new(alloc, env, &first.0, done)?;
+    expect_new(env, &first.0, done)?;
     let part = exp(alloc, env, &first.1)?;
     add(done, &first.0.name, part)?;
-    exp_fields(alloc, env, done, rest)?;
-    Ok(())
+    exp_fields(alloc, env, done, rest)
 }
 
 // `E#X`.
 #[cycle(elab)]
 #[inline(never)]
-fn exp_get(
-    alloc: Global,
-    env: &mut Env,
-    at: Span,
-    whole: &Exp,
-    name: &SpanName,
-) -> Result<Typed, Refusal>
+fn exp_get(alloc: Global, env: &mut Env, whole: &Exp, name: &SpanName) -> Result<Typed, Refusal>
     requires { OkEnv env.old }
-    ensures given { IfOk result (λ o. ExpMeans env.old (ExpAt (place at) (ExpGet whole.now (spelled name.now))) o.ty o.term) }
-    ensures refused { IfErr result (λ e. RefusedAs env.old (an_exp (ExpAt (place at) (ExpGet whole.now (spelled name.now)))) e) }
+    ensures given { IfOk result (λ o. (at : Place) → ExpMeans env.old (ExpAt at (ExpGet whole.now (spelled name.now))) o.ty o.term) }
+    ensures refused { IfErr result (λ e. (at : Place) → RefusedAs env.old (an_exp (ExpAt at (ExpGet whole.now (spelled name.now)))) e) }
     ensures same { OnOk result (env.new ≡ env.old) }
 {
     let found = exp(alloc, env, whole)?;
     expect_record(env, whole.span, &found.ty)?;
-    let part = get_rule(alloc, env, name.span, found, &name.name)?;
-    Ok(part)
+    get_rule(alloc, env, name.span, found, &name.name)
 }

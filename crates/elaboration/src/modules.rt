@@ -6,8 +6,8 @@ ghost use Rattle.semantic_sigs.specs.Made.{module_of};
 ghost use Rattle.semantic_sigs.specs.View.{body_of, kinds_of};
 ghost use Rattle.elab_rules.specs.Judgments.Meaning.{ModMeans};
 ghost use Rattle.elab_rules.specs.Refusals.Task.{a_mod};
-ghost use Rattle.fing_syntax.specs.Leaves.{place, spelled};
-ghost use Rattle.fing_syntax.specs.Phrase.{ModApply, ModAt, ModFunctor, ModName, ModProject, ModSeal, ModStruct, ModUnpack};
+ghost use Rattle.fing_syntax.specs.Leaves.{spelled};
+ghost use Rattle.fing_syntax.specs.Phrase.{ModApply, ModAt, ModFunctor, ModName, ModProject, ModSeal, ModStruct, ModUnpack, Span as Place};
 ghost use Rattle.fing_syntax.specs.View.{binds as binds_of};
 ghost use Rattle.elaboration.specs.Answered.{RefusedAs};
 
@@ -21,7 +21,6 @@ use crate::scopes::{leave, push_module};
 use crate::sets::NameSet;
 use crate::sigs::sig;
 use fing_syntax::{Bind, Exp, Mod, ModWhat, SigEx, SpanName};
-use fing_text::Span;
 use module_calls::seal;
 use omega_kinds::Name;
 use package_calls::norm;
@@ -39,45 +38,41 @@ pub(crate) fn module(alloc: Global, env: &mut Env, phrase: &Mod) -> Result<Modul
     ensures refused { IfErr result (λ e. RefusedAs env.old (a_mod phrase.now) e) }
     ensures same { OnOk result (env.new ≡ env.old) }
 {
-    let at = phrase.span;
     match &phrase.what {
-        ModWhat::Name(name) => mod_name(alloc, env, at, name),
-        ModWhat::Struct(list) => mod_struct(alloc, env, at, list),
-        ModWhat::Project(whole, name) => mod_project(alloc, env, at, whole, name),
+        ModWhat::Name(name) => mod_name(alloc, env, name),
+        ModWhat::Struct(list) => mod_struct(alloc, env, list),
+        ModWhat::Project(whole, name) => mod_project(alloc, env, whole, name),
         ModWhat::Functor {
             generative,
             name,
             param,
             body,
-        } => mod_functor(alloc, env, at, *generative, name, param, body),
-        ModWhat::Apply(function, arg) => mod_apply(alloc, env, at, function, arg),
-        ModWhat::Seal(name, by) => mod_seal(alloc, env, at, name, by),
-        ModWhat::Unpack(value, by) => mod_unpack(alloc, env, at, value, by),
+        } => mod_functor(alloc, env, *generative, name, param, body),
+        ModWhat::Apply(function, arg) => mod_apply(alloc, env, function, arg),
+        ModWhat::Seal(name, by) => mod_seal(alloc, env, name, by),
+        ModWhat::Unpack(value, by) => mod_unpack(alloc, env, value, by),
     }
 }
 
 // `X`.
 #[inline(never)]
-fn mod_name(alloc: Global, env: &mut Env, at: Span, name: &SpanName) -> Result<Module, Refusal>
-    requires { OkEnv env.old }
-    ensures given { IfOk result (λ m. ModMeans env.old (ModAt (place at) (ModName (spelled name.now))) (module_of m)) }
-    ensures refused { IfErr result (λ e. RefusedAs env.old (a_mod (ModAt (place at) (ModName (spelled name.now)))) e) }
-    ensures same { OnOk result (env.new ≡ env.old) }
+fn mod_name(alloc: Global, env: &Env, name: &SpanName) -> Result<Module, Refusal>
+    requires { OkEnv env.now }
+    ensures given { IfOk result (λ m. (at : Place) → ModMeans env.now (ModAt at (ModName (spelled name.now))) (module_of m)) }
+    ensures refused { IfErr result (λ e. (at : Place) → RefusedAs env.now (a_mod (ModAt at (ModName (spelled name.now)))) e) }
 {
-    let found = named_rule(alloc, env, name)?;
-    Ok(found)
+    named_rule(alloc, env, name)
 }
 
 // A structure.
 #[cycle(elab)]
-fn mod_struct(alloc: Global, env: &mut Env, at: Span, list: &[Bind]) -> Result<Module, Refusal>
+fn mod_struct(alloc: Global, env: &mut Env, list: &[Bind]) -> Result<Module, Refusal>
     requires { OkEnv env.old }
-    ensures given { IfOk result (λ m. ModMeans env.old (ModAt (place at) (ModStruct (binds_of list.now))) (module_of m)) }
-    ensures refused { IfErr result (λ e. RefusedAs env.old (a_mod (ModAt (place at) (ModStruct (binds_of list.now)))) e) }
+    ensures given { IfOk result (λ m. (at : Place) → ModMeans env.old (ModAt at (ModStruct (binds_of list.now))) (module_of m)) }
+    ensures refused { IfErr result (λ e. (at : Place) → RefusedAs env.old (a_mod (ModAt at (ModStruct (binds_of list.now)))) e) }
     ensures same { OnOk result (env.new ≡ env.old) }
 {
-    let whole = binds(alloc, env, NameSet::new(alloc), list)?;
-    Ok(whole)
+    binds(alloc, env, NameSet::new(alloc), list)
 }
 
 // `M.X`.
@@ -86,18 +81,16 @@ fn mod_struct(alloc: Global, env: &mut Env, at: Span, list: &[Bind]) -> Result<M
 fn mod_project(
     alloc: Global,
     env: &mut Env,
-    at: Span,
     whole: &Mod,
     name: &SpanName,
 ) -> Result<Module, Refusal>
     requires { OkEnv env.old }
-    ensures given { IfOk result (λ m. ModMeans env.old (ModAt (place at) (ModProject whole.now (spelled name.now))) (module_of m)) }
-    ensures refused { IfErr result (λ e. RefusedAs env.old (a_mod (ModAt (place at) (ModProject whole.now (spelled name.now)))) e) }
+    ensures given { IfOk result (λ m. (at : Place) → ModMeans env.old (ModAt at (ModProject whole.now (spelled name.now))) (module_of m)) }
+    ensures refused { IfErr result (λ e. (at : Place) → RefusedAs env.old (a_mod (ModAt at (ModProject whole.now (spelled name.now)))) e) }
     ensures same { OnOk result (env.new ≡ env.old) }
 {
     let found = module(alloc, env, whole)?;
-    let part = project_rule(alloc, env, name.span, found, &name.name)?;
-    Ok(part)
+    project_rule(alloc, env, name.span, found, &name.name)
 }
 
 // A module under one of a name and a signature.
@@ -126,85 +119,66 @@ fn mod_under(
 fn mod_functor(
     alloc: Global,
     env: &mut Env,
-    at: Span,
     generative: bool,
     name: &SpanName,
     param: &SigEx,
     body: &Mod,
 ) -> Result<Module, Refusal>
     requires { OkEnv env.old }
-    ensures given { IfOk result (λ m. ModMeans env.old (ModAt (place at) (ModFunctor generative (spelled name.now) param.now body.now)) (module_of m)) }
-    ensures refused { IfErr result (λ e. RefusedAs env.old (a_mod (ModAt (place at) (ModFunctor generative (spelled name.now) param.now body.now))) e) }
+    ensures given { IfOk result (λ m. (at : Place) → ModMeans env.old (ModAt at (ModFunctor generative (spelled name.now) param.now body.now)) (module_of m)) }
+    ensures refused { IfErr result (λ e. (at : Place) → RefusedAs env.old (a_mod (ModAt at (ModFunctor generative (spelled name.now) param.now body.now))) e) }
     ensures same { OnOk result (env.new ≡ env.old) }
 {
     let from = sig(alloc, env, param)?;
     let inner = mod_under(alloc, env, &name.name, &from, body)?;
-    let whole = functor_rule(alloc, generative, &from, inner)?;
-    Ok(whole)
+    Ok(functor_rule(alloc, generative, &from, inner)?)
 }
 
 // `X1 X2`.
 #[inline(never)]
 fn mod_apply(
     alloc: Global,
-    env: &mut Env,
-    at: Span,
+    env: &Env,
     function: &SpanName,
     arg: &SpanName,
 ) -> Result<Module, Refusal>
-    requires { OkEnv env.old }
-    ensures given { IfOk result (λ m. ModMeans env.old (ModAt (place at) (ModApply (spelled function.now) (spelled arg.now))) (module_of m)) }
-    ensures refused { IfErr result (λ e. RefusedAs env.old (a_mod (ModAt (place at) (ModApply (spelled function.now) (spelled arg.now)))) e) }
-    ensures same { OnOk result (env.new ≡ env.old) }
+    requires { OkEnv env.now }
+    ensures given { IfOk result (λ m. (at : Place) → ModMeans env.now (ModAt at (ModApply (spelled function.now) (spelled arg.now))) (module_of m)) }
+    ensures refused { IfErr result (λ e. (at : Place) → RefusedAs env.now (a_mod (ModAt at (ModApply (spelled function.now) (spelled arg.now)))) e) }
 {
     let functor = named_rule(alloc, env, function)?;
     let parts = parts_rule(alloc, env, function.span, functor.sig.body())?;
     let found = named_rule(alloc, env, arg)?;
     let matched = match_rule(alloc, env, arg.span, found.sig.body(), &parts.1)?;
-    let whole = apply_rule(alloc, &functor, found.term, matched)?;
-    Ok(whole)
+    Ok(apply_rule(alloc, &functor, found.term, matched)?)
 }
 
 // `X :> S`.
 #[cycle(elab)]
 #[inline(never)]
-fn mod_seal(
-    alloc: Global,
-    env: &mut Env,
-    at: Span,
-    name: &SpanName,
-    by: &SigEx,
-) -> Result<Module, Refusal>
+fn mod_seal(alloc: Global, env: &mut Env, name: &SpanName, by: &SigEx) -> Result<Module, Refusal>
     requires { OkEnv env.old }
-    ensures given { IfOk result (λ m. ModMeans env.old (ModAt (place at) (ModSeal (spelled name.now) by.now)) (module_of m)) }
-    ensures refused { IfErr result (λ e. RefusedAs env.old (a_mod (ModAt (place at) (ModSeal (spelled name.now) by.now))) e) }
+    ensures given { IfOk result (λ m. (at : Place) → ModMeans env.old (ModAt at (ModSeal (spelled name.now) by.now)) (module_of m)) }
+    ensures refused { IfErr result (λ e. (at : Place) → RefusedAs env.old (a_mod (ModAt at (ModSeal (spelled name.now) by.now))) e) }
     ensures same { OnOk result (env.new ≡ env.old) }
 {
     let found = named_rule(alloc, env, name)?;
     let target = sig(alloc, env, by)?;
     let matched = match_rule(alloc, env, by.span, found.sig.body(), &target)?;
-    let whole = seal(alloc, found.term, &target, matched.types, matched.coercion)?;
-    Ok(whole)
+    Ok(seal(alloc, found.term, &target, matched.types, matched.coercion)?)
 }
 
 // `unpack E : S`.
 #[cycle(elab)]
 #[inline(never)]
-fn mod_unpack(
-    alloc: Global,
-    env: &mut Env,
-    at: Span,
-    value: &Exp,
-    by: &SigEx,
-) -> Result<Module, Refusal>
+fn mod_unpack(alloc: Global, env: &mut Env, value: &Exp, by: &SigEx) -> Result<Module, Refusal>
     requires { OkEnv env.old }
-    ensures given { IfOk result (λ m. ModMeans env.old (ModAt (place at) (ModUnpack value.now by.now)) (module_of m)) }
-    ensures refused { IfErr result (λ e. RefusedAs env.old (a_mod (ModAt (place at) (ModUnpack value.now by.now))) e) }
+    ensures given { IfOk result (λ m. (at : Place) → ModMeans env.old (ModAt at (ModUnpack value.now by.now)) (module_of m)) }
+    ensures refused { IfErr result (λ e. (at : Place) → RefusedAs env.old (a_mod (ModAt at (ModUnpack value.now by.now))) e) }
     ensures same { OnOk result (env.new ≡ env.old) }
 {
     let packed = exp(alloc, env, value)?;
     let target = sig(alloc, env, by)?;
     let order = norm(alloc, &target)?;
-    let whole = unpack_rule(alloc, env, value.span, packed, &order)?;
-    Ok(whole)
+    unpack_rule(alloc, env, value.span, packed, &order)
 }

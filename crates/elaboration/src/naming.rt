@@ -12,7 +12,6 @@ use fing_text::Span;
 use omega_kinds::{Mem, Name, same_name};
 use refusal_lines::{ElabWhy, Refusal};
 use semantic_sigs::Env;
-use std::alloc::Global;
 
 // Whether the name is none of those of the parts.
 fn is_new<T>(name: &Name, done: &[(Name, T)]) -> bool
@@ -27,12 +26,7 @@ fn is_new<T>(name: &Name, done: &[(Name, T)]) -> bool
 }
 
 /// The name is none of those of the parts that are done. `DuplicateField` comes exactly where it is one of them.
-pub(crate) fn expect_new<T>(
-    alloc: Global,
-    env: &Env,
-    name: &SpanName,
-    done: &[(Name, T)],
-) -> Result<(), Refusal>
+pub(crate) fn expect_new<T>(env: &Env, name: &SpanName, done: &[(Name, T)]) -> Result<(), Refusal>
     ensures given { OnOk result (IsNew name.now.name (names_before done.now)) }
     ensures refused { IfErr result (λ e. ByTest env.now (place name.now.span) (IsNew name.now.name (names_before done.now) → ⊥) (DuplicateField name.now.name) e) }
 {

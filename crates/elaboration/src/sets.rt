@@ -1,66 +1,13 @@
-// Sets of names, in their order.
-ghost use Rattle.std.specs.Prelude.{◌≡◌, [], IfOk};
-ghost use Rattle.signatures.specs.Signatures.FieldOrder.{with_name, with_names as with_names_of};
+// Sets of names, with the names of fields.
+ghost use Rattle.std.specs.Prelude.{◌≡◌, IfOk};
+ghost use Rattle.signatures.specs.Signatures.FieldOrder.{with_names as with_names_of};
 ghost use Rattle.semantic_sigs.specs.Fields.{sig_row};
 
-use omega_kinds::{Mem, Name, Names};
+use omega_kinds::Mem;
 use semantic_sigs::SigFields;
-use std::alloc::Global;
-use std::collections::BTreeSet;
-use std::marker::Model;
+pub use sig_calls::NameSet;
 
-/// A set of names. Contracts see it as the list of its names, in their order.
-pub struct NameSet {
-    names: BTreeSet<Name>,
-}
-
-impl Model for NameSet {
-    ghost use Rattle.std.specs.Prelude.{List, ℕ};
-
-    ghost Value = { List (List ℕ) };
-
-    ghost view = { λ n. n.names.keys };
-}
-
-impl Drop for NameSet {
-    fn drop(self) {
-        let NameSet { names } = self;
-        drop(names);
-    }
-}
-
-impl NameSet {
-    /// No names.
-    pub fn new(alloc: Global) -> NameSet
-        ensures { result ≡ [] }
-    {
-        NameSet {
-            names: BTreeSet::new(alloc),
-        }
-    }
-
-    /// The names, in their order. `Err` is want of memory, as for all calls below.
-    pub(crate) fn list(&self, alloc: Global) -> Result<Names, Mem>
-        ensures { IfOk result (λ n. n ≡ self.now) }
-    {
-        let mut list = Names::new(alloc);
-        for name in &self.names {
-            list.push(name.share()?)?;
-        }
-        Ok(list)
-    }
-
-    /// A name more.
-    pub(crate) fn with(self, name: &Name) -> Result<NameSet, Mem>
-        ensures { IfOk result (λ n. n ≡ with_name name.now self) }
-    {
-        let NameSet { mut names } = self;
-        names.insert(name.share()?)?;
-        Ok(NameSet { names })
-    }
-}
-
-/// The names of fields more.
+/// The names of fields more. `Err` is want of memory.
 pub(crate) fn with_names(before: NameSet, fields: &SigFields) -> Result<NameSet, Mem>
     ensures { IfOk result (λ n. n ≡ with_names_of (sig_row fields.now) before) }
 {

@@ -1,5 +1,5 @@
 // The rules of signatures and declarations, refused at a place in an environment.
-ghost use Rattle.std.specs.Prelude.{◌≡◌, ◌∷◌, [], List, None, IfErr, IfOk, IfSome, OnOk, map};
+ghost use Rattle.std.specs.Prelude.{◌≡◌, ◌∷◌, [], List, None, IfErr, IfOk, OnOk, map};
 ghost use Rattle.std.specs.Option.{option_map};
 ghost use Rattle.omega_kinds.specs.Kind.{Kind as KindTree};
 ghost use Rattle.omega_kinds.specs.View.{kind_tree};
@@ -12,7 +12,7 @@ ghost use Rattle.signatures.specs.Signatures.Sig.{Ex, SigRow, Str};
 ghost use Rattle.sig_laws.specs.Good.{OkRight};
 ghost use Rattle.semantic_sigs.specs.View.{body_of, kinds_of};
 ghost use Rattle.sig_rules.specs.Refinement.{Refined};
-ghost use Rattle.sig_rules.specs.SigRules.{AbstractGives, DeclarationsGive, DistinctRefuses, GenerativeGives, IncludeGives, IncludeRefuses, ModuleGives, SignatureGives, TypeGives, ValueGives, ValueRefuses, WhereRefuses};
+ghost use Rattle.sig_rules.specs.SigRules.{AbstractGives, DeclarationsGive, DistinctRefuses, GenerativeGives, IncludeGives, IncludeRefuses, ModuleGives, SignatureGives, TypeGives, ValueGives, ValueRefuses};
 ghost use Rattle.sig_calls.specs.Plain.{AreApart, plain_why};
 ghost use Rattle.elab_rules.specs.Operators.{names_of};
 ghost use Rattle.elab_rules.specs.Refusals.Refusal.{of_sig};
@@ -79,10 +79,7 @@ pub(crate) fn type_rule(alloc: Global, name: &Name, ty: &Kinded) -> Result<Abs, 
     ensures given { IfOk result (λ x. TypeGives name.now ty.now.ty (kind_tree ty.now.kind) x) }
     ensures refused { IfErr result (λ e. plain_refusal e ≡ None) }
 {
-    match decl_is(alloc, name, ty) {
-        Ok(made) => Ok(made),
-        Err(_) => Err(Refusal::from(Mem)),
-    }
+    Ok(decl_is(alloc, name, ty)?)
 }
 
 /// `type X : K`.
@@ -90,10 +87,7 @@ pub(crate) fn abstract_rule(alloc: Global, name: &Name, kind: &Kind) -> Result<A
     ensures given { IfOk result (λ x. AbstractGives name.now (kind_tree kind.now) x) }
     ensures refused { IfErr result (λ e. plain_refusal e ≡ None) }
 {
-    match decl_of(alloc, name, kind) {
-        Ok(made) => Ok(made),
-        Err(_) => Err(Refusal::from(Mem)),
-    }
+    Ok(decl_of(alloc, name, kind)?)
 }
 
 /// `module X : S`.
@@ -101,10 +95,7 @@ pub(crate) fn module_rule(alloc: Global, name: &Name, sig: &Abs) -> Result<Abs, 
     ensures given { IfOk result (λ x. ModuleGives name.now sig.now x) }
     ensures refused { IfErr result (λ e. plain_refusal e ≡ None) }
 {
-    match decl_module(alloc, name, sig) {
-        Ok(made) => Ok(made),
-        Err(_) => Err(Refusal::from(Mem)),
-    }
+    Ok(decl_module(alloc, name, sig)?)
 }
 
 /// `signature X = S`.
@@ -112,18 +103,15 @@ pub(crate) fn signature_rule(alloc: Global, name: &Name, sig: &Abs) -> Result<Ab
     ensures given { IfOk result (λ x. SignatureGives name.now sig.now x) }
     ensures refused { IfErr result (λ e. plain_refusal e ≡ None) }
 {
-    match decl_meta(alloc, name, sig) {
-        Ok(made) => Ok(made),
-        Err(_) => Err(Refusal::from(Mem)),
-    }
+    Ok(decl_meta(alloc, name, sig)?)
 }
 
 /// `include S`.
-pub(crate) fn include_rule(alloc: Global, env: &Env, at: Span, sig: &Abs) -> Result<Abs, Refusal>
+pub(crate) fn include_rule(env: &Env, at: Span, sig: &Abs) -> Result<Abs, Refusal>
     ensures given { IfOk result (λ x. IncludeGives sig.now x) }
     ensures refused { IfErr result (λ e. ByRule of_sig env.now (place at) (IncludeRefuses sig.now) e) }
 {
-    match include(alloc, sig) {
+    match include(sig) {
         Ok(made) => Ok(made),
         Err(why) => Err(sig_refusal(env, at, why)),
     }
@@ -131,7 +119,6 @@ pub(crate) fn include_rule(alloc: Global, env: &Env, at: Span, sig: &Abs) -> Res
 
 /// Whether the labels of a declaration differ from those before it.
 pub(crate) fn distinct_rule(
-    alloc: Global,
     env: &Env,
     at: Span,
     before: &NameSet,
@@ -140,8 +127,7 @@ pub(crate) fn distinct_rule(
     ensures given { OnOk result (AreNew (fields_in next.now) before.now) }
     ensures refused { IfErr result (λ e. ByRule of_sig env.now (place at) (DistinctRefuses before.now (fields_in next.now)) e) }
 {
-    let names = before.list(alloc)?;
-    match distinct(alloc, &names, next) {
+    match distinct(before, next) {
         Ok(()) => Ok(()),
         Err(why) => Err(sig_refusal(env, at, why)),
     }
@@ -160,10 +146,7 @@ pub(crate) fn declarations_rule(alloc: Global, first: &Abs, rest: &Abs) -> Resul
     ensures given { IfOk result (λ x. (ks js : List KindTree) (fs gs : SigRow) → first.now ≡ Ex ks (Str fs) → rest.now ≡ Ex js (Str gs) → AreApart fs gs → DeclarationsGive first.now rest.now x) }
     ensures refused { IfErr result (λ e. plain_refusal e ≡ None) }
 {
-    match seq_decl(alloc, first, rest) {
-        Ok(made) => Ok(made),
-        Err(_) => Err(Refusal::from(Mem)),
-    }
+    Ok(seq_decl(alloc, first, rest)?)
 }
 
 /// `fun (X : S1) -> S2`.
@@ -171,10 +154,7 @@ pub(crate) fn functor_rule(alloc: Global, param: &Abs, target: &Abs) -> Result<A
     ensures given { IfOk result (λ x. GenerativeGives param.now target.now x) }
     ensures refused { IfErr result (λ e. plain_refusal e ≡ None) }
 {
-    match functor_sig(alloc, param, target) {
-        Ok(made) => Ok(made),
-        Err(_) => Err(Refusal::from(Mem)),
-    }
+    Ok(functor_sig(alloc, param, target)?)
 }
 
 /// `fun (X : S1) => S2`; both are ordered explicit. `Err` is want of memory.
@@ -200,31 +180,14 @@ pub(crate) fn where_rule(
     ensures given { IfOk result (λ x. Refined (kinds_in env.now) sig.now (names_of (spelled first.now ∷ map spelled rest.now)) ty.now.ty (kind_tree ty.now.kind) x) }
     ensures refused { IfErr result (λ e. ByWhere env.now (kinds_of sig.now) (body_of sig.now) (spelled first.now) (map spelled rest.now) by.now ty.now.ty (kind_tree ty.now.kind) e) }
 {
-    match fixed(alloc, env, sig, first, rest, ty) {
+    let names = path_names(alloc, first, rest)?;
+    match where_type(alloc, sig, names.items(), ty) {
         Ok(made) => Ok(made),
         Err(why) => {
             let at = where_place(sig.body(), first, rest, by.span, &why);
             Err(sig_refusal(env, at, why))
         }
     }
-}
-
-// `S where type path = T`, in the environment's context.
-fn fixed(
-    alloc: Global,
-    env: &Env,
-    sig: &Abs,
-    first: &SpanName,
-    rest: &[SpanName],
-    ty: &Kinded,
-) -> Result<Abs, SigRefusal>
-    requires sig { OkRight (kinds_in env.now) sig.now }
-    requires ty { Normal (kinds_in env.now) ty.now.ty (kind_tree ty.now.kind) }
-    ensures given { IfOk result (λ x. Refined (kinds_in env.now) sig.now (names_of (spelled first.now ∷ map spelled rest.now)) ty.now.ty (kind_tree ty.now.kind) x) }
-    ensures refused { IfErr result (λ e. IfSome (plain_why e) (WhereRefuses sig.now (names_of (spelled first.now ∷ map spelled rest.now)) ty.now.ty (kind_tree ty.now.kind))) }
-{
-    let names = path_names(alloc, first, rest)?;
-    where_type(alloc, env.kinds(), sig, names.items(), ty)
 }
 
 // The names of a path.

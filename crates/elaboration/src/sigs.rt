@@ -6,7 +6,7 @@ ghost use Rattle.semantic_sigs.specs.View.{body_of, kinds_of};
 ghost use Rattle.elab_rules.specs.Judgments.Meaning.{SigMeans};
 ghost use Rattle.elab_rules.specs.Refusals.Task.{a_sig};
 ghost use Rattle.fing_syntax.specs.Leaves.{place, spelled};
-ghost use Rattle.fing_syntax.specs.Phrase.{PathSig, SigAt, SigDecls, SigFun, SigRefine};
+ghost use Rattle.fing_syntax.specs.Phrase.{PathSig, SigAt, SigDecls, SigFun, SigRefine, Span as Place};
 ghost use Rattle.fing_syntax.specs.View.{decls as decls_of};
 ghost use Rattle.elaboration.specs.Answered.{RefusedAs};
 
@@ -32,22 +32,21 @@ pub(crate) fn sig(alloc: Global, env: &mut Env, phrase: &SigEx) -> Result<Abs, R
     ensures refused { IfErr result (λ e. RefusedAs env.old (a_sig phrase.now) e) }
     ensures same { OnOk result (env.new ≡ env.old) }
 {
-    let at = phrase.span;
     match &phrase.what {
-        SigWhat::Path(path) => path_sig(alloc, env, at, path),
-        SigWhat::Sig(list) => sig_decls(alloc, env, at, list),
+        SigWhat::Path(path) => path_sig(alloc, env, phrase.span, path),
+        SigWhat::Sig(list) => sig_decls(alloc, env, list),
         SigWhat::Fun {
             pure,
             name,
             param,
             result: target,
-        } => sig_fun(alloc, env, at, *pure, name, param, target),
+        } => sig_fun(alloc, env, *pure, name, param, target),
         SigWhat::Refine {
             sig: whole,
             first,
             rest,
             ty: by,
-        } => sig_refine(alloc, env, at, whole, first, rest, by),
+        } => sig_refine(alloc, env, whole, first, rest, by),
     }
 }
 
@@ -61,21 +60,19 @@ fn path_sig(alloc: Global, env: &mut Env, at: Span, path: &Mod) -> Result<Abs, R
     ensures same { OnOk result (env.new ≡ env.old) }
 {
     let found = module(alloc, env, path)?;
-    let whole = sig_path_rule(alloc, env, at, found)?;
-    Ok(whole)
+    sig_path_rule(alloc, env, at, found)
 }
 
 // Declarations in a row.
 #[cycle(elab)]
 #[inline(never)]
-fn sig_decls(alloc: Global, env: &mut Env, at: Span, list: &[Decl]) -> Result<Abs, Refusal>
+fn sig_decls(alloc: Global, env: &mut Env, list: &[Decl]) -> Result<Abs, Refusal>
     requires { OkEnv env.old }
-    ensures given { IfOk result (λ x. SigMeans env.old (SigAt (place at) (SigDecls (decls_of list.now))) x) }
-    ensures refused { IfErr result (λ e. RefusedAs env.old (a_sig (SigAt (place at) (SigDecls (decls_of list.now)))) e) }
+    ensures given { IfOk result (λ x. (at : Place) → SigMeans env.old (SigAt at (SigDecls (decls_of list.now))) x) }
+    ensures refused { IfErr result (λ e. (at : Place) → RefusedAs env.old (a_sig (SigAt at (SigDecls (decls_of list.now)))) e) }
     ensures same { OnOk result (env.new ≡ env.old) }
 {
-    let whole = decls(alloc, env, NameSet::new(alloc), list)?;
-    Ok(whole)
+    decls(alloc, env, NameSet::new(alloc), list)
 }
 
 // A signature under a module of a name and a signature.
@@ -104,25 +101,22 @@ fn sig_under(
 fn sig_fun(
     alloc: Global,
     env: &mut Env,
-    at: Span,
     pure: bool,
     name: &SpanName,
     param: &SigEx,
     target: &SigEx,
 ) -> Result<Abs, Refusal>
     requires { OkEnv env.old }
-    ensures given { IfOk result (λ x. SigMeans env.old (SigAt (place at) (SigFun pure (spelled name.now) param.now target.now)) x) }
-    ensures refused { IfErr result (λ e. RefusedAs env.old (a_sig (SigAt (place at) (SigFun pure (spelled name.now) param.now target.now))) e) }
+    ensures given { IfOk result (λ x. (at : Place) → SigMeans env.old (SigAt at (SigFun pure (spelled name.now) param.now target.now)) x) }
+    ensures refused { IfErr result (λ e. (at : Place) → RefusedAs env.old (a_sig (SigAt at (SigFun pure (spelled name.now) param.now target.now))) e) }
     ensures same { OnOk result (env.new ≡ env.old) }
 {
     let from = sig(alloc, env, param)?;
     let to = sig_under(alloc, env, &name.name, &from, target)?;
     if pure {
-        let whole = lift_rule(alloc, &from, &to)?;
-        Ok(whole)
+        Ok(lift_rule(alloc, &from, &to)?)
     } else {
-        let whole = functor_rule(alloc, &from, &to)?;
-        Ok(whole)
+        functor_rule(alloc, &from, &to)
     }
 }
 
@@ -132,19 +126,17 @@ fn sig_fun(
 fn sig_refine(
     alloc: Global,
     env: &mut Env,
-    at: Span,
     whole: &SigEx,
     first: &SpanName,
     rest: &[SpanName],
     by: &TyEx,
 ) -> Result<Abs, Refusal>
     requires { OkEnv env.old }
-    ensures given { IfOk result (λ x. SigMeans env.old (SigAt (place at) (SigRefine whole.now (spelled first.now) (map spelled rest.now) by.now)) x) }
-    ensures refused { IfErr result (λ e. RefusedAs env.old (a_sig (SigAt (place at) (SigRefine whole.now (spelled first.now) (map spelled rest.now) by.now))) e) }
+    ensures given { IfOk result (λ x. (at : Place) → SigMeans env.old (SigAt at (SigRefine whole.now (spelled first.now) (map spelled rest.now) by.now)) x) }
+    ensures refused { IfErr result (λ e. (at : Place) → RefusedAs env.old (a_sig (SigAt at (SigRefine whole.now (spelled first.now) (map spelled rest.now) by.now))) e) }
     ensures same { OnOk result (env.new ≡ env.old) }
 {
     let found = sig(alloc, env, whole)?;
     let fixed = ty(alloc, env, by)?;
-    let refined = where_rule(alloc, env, &found, first, rest, by, &fixed)?;
-    Ok(refined)
+    where_rule(alloc, env, &found, first, rest, by, &fixed)
 }

@@ -1,10 +1,10 @@
 // The rules of types, refused at a place in an environment.
-ghost use Rattle.std.specs.Prelude.{◌≡◌, ◌≢◌, [], None, IfErr, IfOk, IfSome, OnOk};
+ghost use Rattle.std.specs.Prelude.{◌≡◌, ◌≢◌, [], None, IfErr, IfOk, OnOk};
 ghost use Rattle.omega_kinds.specs.Kind.{Kind as KindTree};
 ghost use Rattle.omega_kinds.specs.View.{kind_tree};
 ghost use Rattle.omega_types.specs.Normality.{Normal};
 ghost use Rattle.signatures.specs.Env.{kinds as kinds_in};
-ghost use Rattle.core_calls.specs.Plain.{plain_base, plain_why};
+ghost use Rattle.core_calls.specs.Plain.{plain_base};
 ghost use Rattle.core_calls.specs.Records.{RecordTypeIs, type_fields};
 ghost use Rattle.core_rules.specs.TypeRules.{BaseGives, ArrowGives, ArrowRefuses, AllGives, AllRefuses, OperatorGives, AppliedGives, AppliedRefuses, RecordTypeRefuses};
 ghost use Rattle.elab_rules.specs.Refusals.Refusal.{of_core};
@@ -14,9 +14,9 @@ ghost use Rattle.refusal_lines.specs.Plain.{plain_refusal};
 ghost use Rattle.elaboration.specs.Answered.{ByRule, ByTest};
 
 use crate::refusing::{core_refusal, refuse};
-use core_calls::{Base, CoreRefusal, all_ty, apply_ty, arrow_ty, base_ty, fields_ty, lam_ty};
+use core_calls::{Base, all_ty, apply_ty, arrow_ty, base_ty, fields_ty, lam_ty};
 use fing_text::Span;
-use omega_kinds::{Kind, Mem, Name};
+use omega_kinds::{Kind, Name};
 use refusal_lines::{ElabWhy, Refusal};
 use semantic_sigs::{Env, Kinded};
 use std::alloc::Global;
@@ -51,10 +51,7 @@ pub(crate) fn base_rule(alloc: Global, what: Base) -> Result<Kinded, Refusal>
     ensures given { IfOk result (λ o. BaseGives (plain_base what) o.ty (kind_tree o.kind)) }
     ensures refused { IfErr result (λ e. plain_refusal e ≡ None) }
 {
-    match base_ty(alloc, what) {
-        Ok(made) => Ok(made),
-        Err(_) => Err(Refusal::from(Mem)),
-    }
+    Ok(base_ty(alloc, what)?)
 }
 
 /// `T -> U`.
@@ -96,10 +93,7 @@ pub(crate) fn lam_rule(alloc: Global, kind: &Kind, body: &Kinded) -> Result<Kind
     ensures given { IfOk result (λ o. OperatorGives (kind_tree kind.now) body.now.ty (kind_tree body.now.kind) o.ty (kind_tree o.kind)) }
     ensures refused { IfErr result (λ e. plain_refusal e ≡ None) }
 {
-    match lam_ty(alloc, kind, body) {
-        Ok(made) => Ok(made),
-        Err(_) => Err(Refusal::from(Mem)),
-    }
+    Ok(lam_ty(alloc, kind, body)?)
 }
 
 /// `T U`; both are normal in the environment.
@@ -115,20 +109,10 @@ pub(crate) fn apply_rule(
     ensures given { IfOk result (λ o. AppliedGives (kinds_in env.now) operator.now.ty (kind_tree operator.now.kind) arg.now.ty (kind_tree arg.now.kind) o.ty (kind_tree o.kind)) }
     ensures refused { IfErr result (λ e. ByRule of_core env.now (place at) (AppliedRefuses operator.now.ty (kind_tree operator.now.kind) arg.now.ty (kind_tree arg.now.kind)) e) }
 {
-    match applied(alloc, env, operator, arg) {
+    match apply_ty(alloc, operator, arg) {
         Ok(made) => Ok(made),
         Err(why) => Err(core_refusal(env, at, why)),
     }
-}
-
-// `T U`, in the environment's context.
-fn applied(alloc: Global, env: &Env, operator: &Kinded, arg: &Kinded) -> Result<Kinded, CoreRefusal>
-    requires operator { Normal (kinds_in env.now) operator.now.ty (kind_tree operator.now.kind) }
-    requires arg { Normal (kinds_in env.now) arg.now.ty (kind_tree arg.now.kind) }
-    ensures given { IfOk result (λ o. AppliedGives (kinds_in env.now) operator.now.ty (kind_tree operator.now.kind) arg.now.ty (kind_tree arg.now.kind) o.ty (kind_tree o.kind)) }
-    ensures refused { IfErr result (λ e. IfSome (plain_why e) (AppliedRefuses operator.now.ty (kind_tree operator.now.kind) arg.now.ty (kind_tree arg.now.kind))) }
-{
-    apply_ty(alloc, env.kinds(), operator, arg)
 }
 
 /// `{X : T, ..}`.

@@ -11,7 +11,7 @@ ghost use Rattle.elab_rules.specs.Operators.{with_type};
 ghost use Rattle.elab_rules.specs.Judgments.Meaning.{ArgTysMean, FieldTysMean, TyMeans};
 ghost use Rattle.elab_rules.specs.Refusals.Task.{a_type, type_args, type_fields};
 ghost use Rattle.fing_syntax.specs.Leaves.{place, spelled};
-ghost use Rattle.fing_syntax.specs.Phrase.{MoreFieldTys, MoreTys, TyAll, TyApply, TyArrow, TyAt, TyFields, TyLam};
+ghost use Rattle.fing_syntax.specs.Phrase.{MoreFieldTys, MoreTys, Span as Place, TyAll, TyApply, TyArrow, TyAt, TyFields, TyLam};
 ghost use Rattle.fing_syntax.specs.View.{field_tys, tys};
 ghost use Rattle.elaboration.specs.Answered.{NoValueType, RefusedAs};
 ghost use Rattle.elaboration.specs.Fields.{names_before};
@@ -47,12 +47,12 @@ pub(crate) fn ty(alloc: Global, env: &mut Env, phrase: &TyEx) -> Result<Kinded, 
         TyWhat::Int => base_rule(alloc, Base::Int),
         TyWhat::Bool => base_rule(alloc, Base::Bool),
         TyWhat::Text => base_rule(alloc, Base::Text),
-        TyWhat::Arrow(from, to) => ty_arrow(alloc, env, at, from, to),
-        TyWhat::Apply(operator, args) => ty_apply(alloc, env, at, operator, args),
+        TyWhat::Arrow(from, to) => ty_arrow(alloc, env, from, to),
+        TyWhat::Apply(operator, args) => ty_apply(alloc, env, operator, args),
         TyWhat::Fields(fields) => ty_record(alloc, env, at, fields),
-        TyWhat::All(name, kind, body) => ty_all(alloc, env, at, name, kind, body),
-        TyWhat::Lam(name, kind, body) => ty_lam(alloc, env, at, name, kind, body),
-        TyWhat::Pack(sig) => pack_type(alloc, env, at, sig),
+        TyWhat::All(name, kind, body) => ty_all(alloc, env, name, kind, body),
+        TyWhat::Lam(name, kind, body) => ty_lam(alloc, env, name, kind, body),
+        TyWhat::Pack(sig) => pack_type(alloc, env, sig),
     }
 }
 
@@ -73,42 +73,28 @@ pub(crate) fn value_ty(alloc: Global, env: &mut Env, phrase: &TyEx) -> Result<Ki
 // `T -> U`.
 #[cycle(elab)]
 #[inline(never)]
-fn ty_arrow(
-    alloc: Global,
-    env: &mut Env,
-    at: Span,
-    from: &TyEx,
-    to: &TyEx,
-) -> Result<Kinded, Refusal>
+fn ty_arrow(alloc: Global, env: &mut Env, from: &TyEx, to: &TyEx) -> Result<Kinded, Refusal>
     requires { OkEnv env.old }
-    ensures given { IfOk result (λ o. TyMeans env.old (TyAt (place at) (TyArrow from.now to.now)) o.ty (kind_tree o.kind)) }
-    ensures refused { IfErr result (λ e. RefusedAs env.old (a_type (TyAt (place at) (TyArrow from.now to.now))) e) }
+    ensures given { IfOk result (λ o. (at : Place) → TyMeans env.old (TyAt at (TyArrow from.now to.now)) o.ty (kind_tree o.kind)) }
+    ensures refused { IfErr result (λ e. (at : Place) → RefusedAs env.old (a_type (TyAt at (TyArrow from.now to.now))) e) }
     ensures same { OnOk result (env.new ≡ env.old) }
 {
     let left = value_ty(alloc, env, from)?;
     let right = ty(alloc, env, to)?;
-    let whole = arrow_rule(alloc, env, to.span, &left, &right)?;
-    Ok(whole)
+    arrow_rule(alloc, env, to.span, &left, &right)
 }
 
 // An operator and its arguments.
 #[cycle(elab)]
 #[inline(never)]
-fn ty_apply(
-    alloc: Global,
-    env: &mut Env,
-    at: Span,
-    operator: &TyEx,
-    args: &[TyEx],
-) -> Result<Kinded, Refusal>
+fn ty_apply(alloc: Global, env: &mut Env, operator: &TyEx, args: &[TyEx]) -> Result<Kinded, Refusal>
     requires { OkEnv env.old }
-    ensures given { IfOk result (λ o. TyMeans env.old (TyAt (place at) (TyApply operator.now (tys args.now))) o.ty (kind_tree o.kind)) }
-    ensures refused { IfErr result (λ e. RefusedAs env.old (a_type (TyAt (place at) (TyApply operator.now (tys args.now)))) e) }
+    ensures given { IfOk result (λ o. (at : Place) → TyMeans env.old (TyAt at (TyApply operator.now (tys args.now))) o.ty (kind_tree o.kind)) }
+    ensures refused { IfErr result (λ e. (at : Place) → RefusedAs env.old (a_type (TyAt at (TyApply operator.now (tys args.now)))) e) }
     ensures same { OnOk result (env.new ≡ env.old) }
 {
     let found = ty(alloc, env, operator)?;
-    let whole = ty_args(alloc, env, operator.span, found, args)?;
-    Ok(whole)
+    ty_args(alloc, env, operator.span, found, args)
 }
 
 // An operator, which stands at a place, applied to the arguments that are left.
@@ -153,8 +139,7 @@ fn ty_arg(
     let arg = ty(alloc, env, first)?;
     let applied = apply_rule(alloc, env, first.span, &operator, &arg)?;
     let both = up_to(at, first.span);
-    let whole = ty_args(alloc, env, both, applied, rest)?;
-    Ok(whole)
+    ty_args(alloc, env, both, applied, rest)
 }
 
 // A record type.
@@ -173,8 +158,7 @@ fn ty_record(
 {
     let mut parts = Vec::new(alloc);
     ty_fields(alloc, env, &mut parts, fields)?;
-    let whole = fields_rule(alloc, env, at, parts)?;
-    Ok(whole)
+    fields_rule(alloc, env, at, parts)
 }
 
 // The fields that are left of a record type, behind those that are done.
@@ -210,11 +194,10 @@ fn ty_field(
     ensures refused { IfErr result (λ e. RefusedAs env.old (type_fields (names_before done.old.items) (MoreFieldTys (spelled first.now.0) first.now.1 (field_tys rest.now))) e) }
     ensures same { OnOk result (env.new ≡ env.old) }
 {
-    expect_new(alloc, env, &first.0, done)?;
+    expect_new(env, &first.0, done)?;
     let part = value_ty(alloc, env, &first.1)?;
     add(done, &first.0.name, part)?;
-    ty_fields(alloc, env, done, rest)?;
-    Ok(())
+    ty_fields(alloc, env, done, rest)
 }
 
 // A type under a type parameter.
@@ -243,19 +226,17 @@ fn ty_under(
 fn ty_all(
     alloc: Global,
     env: &mut Env,
-    at: Span,
     name: &SpanName,
     kind: &Kind,
     body: &TyEx,
 ) -> Result<Kinded, Refusal>
     requires { OkEnv env.old }
-    ensures given { IfOk result (λ o. TyMeans env.old (TyAt (place at) (TyAll (spelled name.now) (kind_tree kind.now) body.now)) o.ty (kind_tree o.kind)) }
-    ensures refused { IfErr result (λ e. RefusedAs env.old (a_type (TyAt (place at) (TyAll (spelled name.now) (kind_tree kind.now) body.now))) e) }
+    ensures given { IfOk result (λ o. (at : Place) → TyMeans env.old (TyAt at (TyAll (spelled name.now) (kind_tree kind.now) body.now)) o.ty (kind_tree o.kind)) }
+    ensures refused { IfErr result (λ e. (at : Place) → RefusedAs env.old (a_type (TyAt at (TyAll (spelled name.now) (kind_tree kind.now) body.now))) e) }
     ensures same { OnOk result (env.new ≡ env.old) }
 {
     let inner = ty_under(alloc, env, &name.name, kind, body)?;
-    let whole = all_rule(alloc, env, body.span, kind, &inner)?;
-    Ok(whole)
+    all_rule(alloc, env, body.span, kind, &inner)
 }
 
 // `fun (X : K) => T`.
@@ -264,17 +245,15 @@ fn ty_all(
 fn ty_lam(
     alloc: Global,
     env: &mut Env,
-    at: Span,
     name: &SpanName,
     kind: &Kind,
     body: &TyEx,
 ) -> Result<Kinded, Refusal>
     requires { OkEnv env.old }
-    ensures given { IfOk result (λ o. TyMeans env.old (TyAt (place at) (TyLam (spelled name.now) (kind_tree kind.now) body.now)) o.ty (kind_tree o.kind)) }
-    ensures refused { IfErr result (λ e. RefusedAs env.old (a_type (TyAt (place at) (TyLam (spelled name.now) (kind_tree kind.now) body.now))) e) }
+    ensures given { IfOk result (λ o. (at : Place) → TyMeans env.old (TyAt at (TyLam (spelled name.now) (kind_tree kind.now) body.now)) o.ty (kind_tree o.kind)) }
+    ensures refused { IfErr result (λ e. (at : Place) → RefusedAs env.old (a_type (TyAt at (TyLam (spelled name.now) (kind_tree kind.now) body.now))) e) }
     ensures same { OnOk result (env.new ≡ env.old) }
 {
     let inner = ty_under(alloc, env, &name.name, kind, body)?;
-    let whole = lam_rule(alloc, kind, &inner)?;
-    Ok(whole)
+    lam_rule(alloc, kind, &inner)
 }

@@ -5,7 +5,7 @@ ghost use Rattle.sig_laws.specs.Good.{OkEnv};
 ghost use Rattle.elab_rules.specs.Judgments.Meaning.{ExpMeans, TyMeans};
 ghost use Rattle.elab_rules.specs.Refusals.Task.{a_type, an_exp};
 ghost use Rattle.fing_syntax.specs.Leaves.{place, spelled};
-ghost use Rattle.fing_syntax.specs.Phrase.{ExpAt, ExpPack, PathExp, PathTy, TyAt, TyPack};
+ghost use Rattle.fing_syntax.specs.Phrase.{ExpAt, ExpPack, PathExp, PathTy, Span as Place, TyAt, TyPack};
 ghost use Rattle.elaboration.specs.Answered.{RefusedAs};
 
 use crate::mod_rules::{match_rule, named_rule};
@@ -33,26 +33,19 @@ pub(crate) fn path_type(
     ensures same { OnOk result (env.new ≡ env.old) }
 {
     let found = module(alloc, env, path)?;
-    let whole = type_path_rule(alloc, env, at, found)?;
-    Ok(whole)
+    type_path_rule(alloc, env, at, found)
 }
 
 /// `pack S`.
 #[cycle(elab)]
-pub(crate) fn pack_type(
-    alloc: Global,
-    env: &mut Env,
-    at: Span,
-    by: &SigEx,
-) -> Result<Kinded, Refusal>
+pub(crate) fn pack_type(alloc: Global, env: &mut Env, by: &SigEx) -> Result<Kinded, Refusal>
     requires { OkEnv env.old }
-    ensures given { IfOk result (λ o. TyMeans env.old (TyAt (place at) (TyPack by.now)) o.ty (kind_tree o.kind)) }
-    ensures refused { IfErr result (λ e. RefusedAs env.old (a_type (TyAt (place at) (TyPack by.now))) e) }
+    ensures given { IfOk result (λ o. (at : Place) → TyMeans env.old (TyAt at (TyPack by.now)) o.ty (kind_tree o.kind)) }
+    ensures refused { IfErr result (λ e. (at : Place) → RefusedAs env.old (a_type (TyAt at (TyPack by.now))) e) }
     ensures same { OnOk result (env.new ≡ env.old) }
 {
     let target = sig(alloc, env, by)?;
-    let whole = package_calls::pack_type(alloc, &target)?;
-    Ok(whole)
+    Ok(package_calls::pack_type(alloc, &target)?)
 }
 
 /// A path as a value.
@@ -69,8 +62,7 @@ pub(crate) fn path_value(
     ensures same { OnOk result (env.new ≡ env.old) }
 {
     let found = module(alloc, env, path)?;
-    let whole = value_path_rule(alloc, env, at, found)?;
-    Ok(whole)
+    value_path_rule(alloc, env, at, found)
 }
 
 /// `pack X : S`.
@@ -78,13 +70,12 @@ pub(crate) fn path_value(
 pub(crate) fn pack_value(
     alloc: Global,
     env: &mut Env,
-    at: Span,
     name: &SpanName,
     by: &SigEx,
 ) -> Result<Typed, Refusal>
     requires { OkEnv env.old }
-    ensures given { IfOk result (λ o. ExpMeans env.old (ExpAt (place at) (ExpPack (spelled name.now) by.now)) o.ty o.term) }
-    ensures refused { IfErr result (λ e. RefusedAs env.old (an_exp (ExpAt (place at) (ExpPack (spelled name.now) by.now))) e) }
+    ensures given { IfOk result (λ o. (at : Place) → ExpMeans env.old (ExpAt at (ExpPack (spelled name.now) by.now)) o.ty o.term) }
+    ensures refused { IfErr result (λ e. (at : Place) → RefusedAs env.old (an_exp (ExpAt at (ExpPack (spelled name.now) by.now))) e) }
     ensures same { OnOk result (env.new ≡ env.old) }
 {
     let found = named_rule(alloc, env, name)?;
@@ -93,6 +84,5 @@ pub(crate) fn pack_value(
     let matched = match_rule(alloc, env, by.span, found.sig.body(), &ordered)?;
     let coercion = matched.coercion;
     let types = matched.types.items();
-    let whole = package_calls::pack_value(alloc, found.term, &ordered, types, coercion)?;
-    Ok(whole)
+    Ok(package_calls::pack_value(alloc, found.term, &ordered, types, coercion)?)
 }

@@ -12,35 +12,32 @@ use std::{env, mem};
 // The words after the program's name. A word that is no UTF-8 makes them no command line, and else there is no memory
 // for them.
 fn words(rt: &HostRuntime) -> Result<Vec<String>, Status> {
+    let given = env::args(rt).map_err(|error| match error.kind() {
+        ErrorKind::InvalidData => Status::Words,
+        _ => Status::NoMemory,
+    })?;
     let mut words = Vec::new(rt.alloc());
-    let given = match env::args(rt) {
-        Ok(given) => given,
-        Err(error) if error.kind() == ErrorKind::InvalidData => return Err(Status::Words),
-        Err(_) => return Err(Status::NoMemory),
-    };
     for word in given.skip(1) {
-        if words.push(word).is_err() {
-            return Err(Status::NoMemory);
-        }
+        words.push(word).map_err(|_| Status::NoMemory)?;
     }
     Ok(words)
 }
 
 // What the program answers to its words.
-fn answer(rt: &HostRuntime) -> Status {
-    let words = match words(rt) {
-        Ok(words) => words,
-        Err(status) => return status,
-    };
+fn answer(rt: &HostRuntime, words: &[String]) -> Status {
     let mut source = StdSource::new(rt.stdin());
     let mut sink = StdSink::new(rt.stdout());
     let mut confirmed = None;
-    let status = fing(rt.alloc(), &words, &mut source, &mut sink, &mut confirmed);
+    let status = fing(rt.alloc(), words, &mut source, &mut sink, &mut confirmed);
     // The program ends here, and its memory goes back as a whole.
     mem::forget(confirmed);
     status
 }
 
 fn main(rt: HostRuntime) -> ExitCode {
-    exit_code(answer(&rt))
+    let status = match words(&rt) {
+        Ok(words) => answer(&rt, &words),
+        Err(status) => status,
+    };
+    exit_code(status)
 }

@@ -1,5 +1,5 @@
 -- Reading by a list of the symbols that are still wanted, one symbol at a time.
-use Rattle.std.proofs.Common.{◌≡◌, ℕ, suc, Bool, true, false, ◌&&◌, ◌||◌, not, eqb, max, cond, ◌+◌, ◌-◌, ◌*◌, ◌<◌, ◌≤◌, refl, sym, ◌∙◌, ap, subst, List, [], ◌∷◌, ◌++◌, length, length-append, append_assoc, eqb-true, arith}
+use Rattle.std.proofs.Common.{◌≡◌, ℕ, suc, Bool, true, false, ◌&&◌, ◌||◌, not, eqb, max, cond, ◌+◌, ◌-◌, ◌*◌, ◌<◌, refl, sym, ◌∙◌, ap, subst, List, [], ◌∷◌, ◌++◌, length, length-append, append_assoc, eqb-true, arith}
 use Rattle.std.specs.Prelude.{Option, None, Some, option_map}
 use Rattle.fing_lexer.specs.declared.token.Token.{Token}
 use Rattle.fing_syntax.specs.Phrase as tree

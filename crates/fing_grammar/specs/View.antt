@@ -1,7 +1,7 @@
 -- What the code's terminals, classes, symbols and productions stand for.
-use Rattle.std.specs.Prelude.{ℕ, List, Option, option_map}
+use Rattle.std.specs.Prelude.{ℕ, List, Option, Some, None, option_map}
 use Rattle.fing_grammar.specs.Grammar as the
-use Rattle.fing_grammar.specs.Tables.{choose}
+use Rattle.fing_grammar.specs.Tables.{choose, number_of}
 use Rattle.fing_grammar.specs.Grammar.{Terminal, a_keyword, a_mark, a_name, a_number, a_text, Symbol, token, phrase, Rule, rhs}
 use Rattle.fing_grammar.specs.declared.grammar.Terminal.{Terminal as TerminalIn}
 use Rattle.fing_grammar.specs.declared.grammar.Terminal.TheVariants as a_terminal
@@ -40,6 +40,11 @@ terminal_in (a_terminal.Mark m) = a_mark m
 terminal_in a_terminal.Name = a_name
 terminal_in a_terminal.Number = a_number
 terminal_in a_terminal.Text = a_text
+
+-- the number of the next terminal, and 0 at the end
+abbrev pub number_next : Option TerminalIn → ℕ
+number_next None = 0
+number_next (Some t) = number_of (terminal_in t)
 
 abbrev pub class_in : ClassIn → the.Class
 class_in a_class.Binds = the.Binds

@@ -1,10 +1,10 @@
-// The production that the next token chooses. Tokens are told apart by their numbers.
+// The production that the next token chooses.
 ghost use Rattle.std.specs.Prelude.{◌≡◌, List, [], ◌∷◌, option_map};
 ghost use Rattle.fing_grammar.specs.Grammar as the;
-ghost use Rattle.fing_grammar.specs.Grammar.{a_keyword, a_mark, kind_of};
+ghost use Rattle.fing_grammar.specs.Grammar.{kind_of};
 ghost use Rattle.fing_grammar.specs.Reading.{ahead};
-ghost use Rattle.fing_grammar.specs.Tables.{number_of, is_in, choose as choice};
-ghost use Rattle.fing_grammar.specs.View.{terminal_in, rule_in, any, chosen};
+ghost use Rattle.fing_grammar.specs.Tables.{is_in, choose as choice};
+ghost use Rattle.fing_grammar.specs.View.{terminal_in, number_next, rule_in, any, chosen};
 
 use crate::grammar::{
     ArgRule, AtomRule, BindRule, Class, DeclRule, ExpRule, KindRule, ModRule, OpRule, PathRule,
@@ -12,125 +12,89 @@ use crate::grammar::{
 };
 use fing_lexer::{Mark, Token, What, Word};
 
-const NAME: u8 = 54;
-
-const NUMBER: u8 = 55;
-
-const TEXT: u8 = 56;
-
-/// The number of a keyword.
-#[tactic(auto, using(crate::proofs::Numbers::words))]
-fn word(word: Word) -> u8
-    ensures { result ≡ number_of (a_keyword word) }
-{
-    word as u8 + 1
-}
-
-/// The number of a mark.
-#[tactic(auto, using(crate::proofs::Numbers::marks))]
-fn mark(mark: Mark) -> u8
-    ensures { result ≡ number_of (a_mark mark) }
-{
-    mark as u8 + 33
-}
-
-/// The number of a terminal, at least 1.
-#[tactic(auto, unfolding(crate::specs::Tables::number_of))]
-pub fn number(terminal: Terminal) -> u8
-    ensures { result ≡ number_of (terminal_in terminal) }
-{
-    match terminal {
-        Terminal::Word(found) => word(found),
-        Terminal::Mark(found) => mark(found),
-        Terminal::Name => NAME,
-        Terminal::Number => NUMBER,
-        Terminal::Text => TEXT,
-    }
-}
-
-/// The number of a token, at least 1.
-#[tactic(auto, unfolding(crate::specs::Tables::number_of))]
-pub fn number_at(token: &Token) -> u8
-    ensures { result ≡ number_of (kind_of token.now) }
+/// What a token is, without its name, its number or its text.
+pub fn terminal_of(token: &Token) -> Terminal
+    ensures { terminal_in result ≡ kind_of token.now }
 {
     match &token.what {
-        What::Word(found) => word(*found),
-        What::Mark(found) => mark(*found),
-        What::Ident(_) => NAME,
-        What::Int(_) => NUMBER,
-        What::Text(_) => TEXT,
+        What::Word(word) => Terminal::Word(*word),
+        What::Mark(mark) => Terminal::Mark(*mark),
+        What::Ident(_) => Terminal::Name,
+        What::Int(_) => Terminal::Number,
+        What::Text(_) => Terminal::Text,
     }
 }
 
-/// The number of the next token, and 0 at the end.
-pub fn next(rest: &[Token]) -> u8
-    ensures { result ≡ ahead rest.now }
+/// What the next token is; `None` at the end.
+pub fn next(rest: &[Token]) -> Option<Terminal>
+    ensures { number_next result ≡ ahead rest.now }
 {
-    match rest.first() {
-        None => 0,
-        Some(token) => number_at(token),
-    }
+    rest.first().map(terminal_of)
 }
 
 // Whether a binding or a declaration begins.
 #[tactic(auto, unfolding(crate::specs::Tables::number_of))]
-fn begins_binding(next: u8) -> bool
-    ensures { result ≡ is_in next (1 ∷ 2 ∷ 3 ∷ 4 ∷ 5 ∷ []) }
+fn begins_binding(next: Option<Terminal>) -> bool
+    ensures { result ≡ is_in (number_next next) (1 ∷ 2 ∷ 3 ∷ 4 ∷ 5 ∷ []) }
 {
-    next == word(Word::KwVal)
-        || next == word(Word::KwType)
-        || next == word(Word::KwModule)
-        || next == word(Word::KwSignature)
-        || next == word(Word::KwInclude)
+    match next {
+        Some(
+            Terminal::Word(
+                Word::KwVal | Word::KwType | Word::KwModule | Word::KwSignature | Word::KwInclude,
+            ),
+        ) => true,
+        _ => false,
+    }
 }
 
 // Whether a type that needs no parentheses begins.
 #[tactic(auto, unfolding(crate::specs::Tables::number_of))]
-fn begins_ty(next: u8) -> bool
-    ensures { result ≡ is_in next (17 ∷ 19 ∷ 23 ∷ 24 ∷ 25 ∷ 33 ∷ 35 ∷ 54 ∷ []) }
+fn begins_ty(next: Option<Terminal>) -> bool
+    ensures { result ≡ is_in (number_next next) (17 ∷ 19 ∷ 23 ∷ 24 ∷ 25 ∷ 33 ∷ 35 ∷ 54 ∷ []) }
 {
-    next == word(Word::KwPack)
-        || next == word(Word::KwFrom)
-        || next == word(Word::KwInt)
-        || next == word(Word::KwBool)
-        || next == word(Word::KwText)
-        || next == mark(Mark::LeftParen)
-        || next == mark(Mark::LeftBrace)
-        || next == NAME
+    match next {
+        Some(
+            Terminal::Word(Word::KwPack | Word::KwFrom | Word::KwInt | Word::KwBool | Word::KwText),
+        ) => true,
+        Some(Terminal::Mark(Mark::LeftParen | Mark::LeftBrace)) => true,
+        Some(Terminal::Name) => true,
+        _ => false,
+    }
 }
 
 // Whether a module that needs no parentheses begins.
 #[tactic(auto, unfolding(crate::specs::Tables::number_of))]
-fn begins_mod(next: u8) -> bool
-    ensures { result ≡ is_in next (6 ∷ 9 ∷ 19 ∷ 33 ∷ 54 ∷ []) }
+fn begins_mod(next: Option<Terminal>) -> bool
+    ensures { result ≡ is_in (number_next next) (6 ∷ 9 ∷ 19 ∷ 33 ∷ 54 ∷ []) }
 {
-    next == word(Word::KwStruct)
-        || next == word(Word::KwLet)
-        || next == word(Word::KwFrom)
-        || next == mark(Mark::LeftParen)
-        || next == NAME
+    match next {
+        Some(Terminal::Word(Word::KwStruct | Word::KwLet | Word::KwFrom)) => true,
+        Some(Terminal::Mark(Mark::LeftParen)) => true,
+        Some(Terminal::Name) => true,
+        _ => false,
+    }
 }
 
 // Whether an expression that needs no parentheses begins.
 #[tactic(auto, unfolding(crate::specs::Tables::number_of))]
-fn begins_exp(next: u8) -> bool
-    ensures { result ≡ is_in next (9 ∷ 17 ∷ 19 ∷ 21 ∷ 22 ∷ 33 ∷ 35 ∷ 54 ∷ 55 ∷ 56 ∷ []) }
+fn begins_exp(next: Option<Terminal>) -> bool
+    ensures { result ≡ is_in (number_next next) (9 ∷ 17 ∷ 19 ∷ 21 ∷ 22 ∷ 33 ∷ 35 ∷ 54 ∷ 55 ∷ 56 ∷ []) }
 {
-    next == word(Word::KwLet)
-        || next == word(Word::KwPack)
-        || next == word(Word::KwFrom)
-        || next == word(Word::KwTrue)
-        || next == word(Word::KwFalse)
-        || next == mark(Mark::LeftParen)
-        || next == mark(Mark::LeftBrace)
-        || next == NAME
-        || next == NUMBER
-        || next == TEXT
+    match next {
+        Some(
+            Terminal::Word(
+                Word::KwLet | Word::KwPack | Word::KwFrom | Word::KwTrue | Word::KwFalse,
+            ),
+        ) => true,
+        Some(Terminal::Mark(Mark::LeftParen | Mark::LeftBrace)) => true,
+        Some(Terminal::Name | Terminal::Number | Terminal::Text) => true,
+        _ => false,
+    }
 }
 
 #[tactic(auto, unfolding(crate::specs::Tables::number_of, crate::specs::Tables::choose))]
-fn binds(next: u8) -> Option<Rule>
-    ensures { option_map rule_in result ≡ option_map any (choice the.Binds next) }
+fn binds(next: Option<Terminal>) -> Option<Rule>
+    ensures { option_map rule_in result ≡ option_map any (choice the.Binds (number_next next)) }
 {
     if begins_binding(next) {
         Some(Rule::Bind(BindRule::MoreBinds))
@@ -140,27 +104,22 @@ fn binds(next: u8) -> Option<Rule>
 }
 
 #[tactic(auto, unfolding(crate::specs::Tables::number_of, crate::specs::Tables::choose))]
-fn bind(next: u8) -> Option<Rule>
-    ensures { option_map rule_in result ≡ option_map any (choice the.Bind next) }
+fn bind(next: Option<Terminal>) -> Option<Rule>
+    ensures { option_map rule_in result ≡ option_map any (choice the.Bind (number_next next)) }
 {
-    if next == word(Word::KwVal) {
-        Some(Rule::Bind(BindRule::Val))
-    } else if next == word(Word::KwType) {
-        Some(Rule::Bind(BindRule::Type))
-    } else if next == word(Word::KwModule) {
-        Some(Rule::Bind(BindRule::Module))
-    } else if next == word(Word::KwSignature) {
-        Some(Rule::Bind(BindRule::Signature))
-    } else if next == word(Word::KwInclude) {
-        Some(Rule::Bind(BindRule::Include))
-    } else {
-        None
+    match next {
+        Some(Terminal::Word(Word::KwVal)) => Some(Rule::Bind(BindRule::Val)),
+        Some(Terminal::Word(Word::KwType)) => Some(Rule::Bind(BindRule::Type)),
+        Some(Terminal::Word(Word::KwModule)) => Some(Rule::Bind(BindRule::Module)),
+        Some(Terminal::Word(Word::KwSignature)) => Some(Rule::Bind(BindRule::Signature)),
+        Some(Terminal::Word(Word::KwInclude)) => Some(Rule::Bind(BindRule::Include)),
+        _ => None,
     }
 }
 
 #[tactic(auto, unfolding(crate::specs::Tables::number_of, crate::specs::Tables::choose))]
-fn decls(next: u8) -> Option<Rule>
-    ensures { option_map rule_in result ≡ option_map any (choice the.Decls next) }
+fn decls(next: Option<Terminal>) -> Option<Rule>
+    ensures { option_map rule_in result ≡ option_map any (choice the.Decls (number_next next)) }
 {
     if begins_binding(next) {
         Some(Rule::Decl(DeclRule::MoreDecls))
@@ -170,112 +129,96 @@ fn decls(next: u8) -> Option<Rule>
 }
 
 #[tactic(auto, unfolding(crate::specs::Tables::number_of, crate::specs::Tables::choose))]
-fn decl(next: u8) -> Option<Rule>
-    ensures { option_map rule_in result ≡ option_map any (choice the.Decl next) }
+fn decl(next: Option<Terminal>) -> Option<Rule>
+    ensures { option_map rule_in result ≡ option_map any (choice the.Decl (number_next next)) }
 {
-    if next == word(Word::KwVal) {
-        Some(Rule::Decl(DeclRule::Val))
-    } else if next == word(Word::KwType) {
-        Some(Rule::Decl(DeclRule::Type))
-    } else if next == word(Word::KwModule) {
-        Some(Rule::Decl(DeclRule::Module))
-    } else if next == word(Word::KwSignature) {
-        Some(Rule::Decl(DeclRule::Signature))
-    } else if next == word(Word::KwInclude) {
-        Some(Rule::Decl(DeclRule::Include))
-    } else {
-        None
+    match next {
+        Some(Terminal::Word(Word::KwVal)) => Some(Rule::Decl(DeclRule::Val)),
+        Some(Terminal::Word(Word::KwType)) => Some(Rule::Decl(DeclRule::Type)),
+        Some(Terminal::Word(Word::KwModule)) => Some(Rule::Decl(DeclRule::Module)),
+        Some(Terminal::Word(Word::KwSignature)) => Some(Rule::Decl(DeclRule::Signature)),
+        Some(Terminal::Word(Word::KwInclude)) => Some(Rule::Decl(DeclRule::Include)),
+        _ => None,
     }
 }
 
 #[tactic(auto, unfolding(crate::specs::Tables::number_of, crate::specs::Tables::choose))]
-fn type_of(next: u8) -> Option<Rule>
-    ensures { option_map rule_in result ≡ option_map any (choice the.TypeOf next) }
+fn type_of(next: Option<Terminal>) -> Option<Rule>
+    ensures { option_map rule_in result ≡ option_map any (choice the.TypeOf (number_next next)) }
 {
-    if next == mark(Mark::Equal) {
-        Some(Rule::Decl(DeclRule::Is))
-    } else if next == mark(Mark::Colon) {
-        Some(Rule::Decl(DeclRule::Has))
-    } else {
-        Some(Rule::Decl(DeclRule::Open))
+    match next {
+        Some(Terminal::Mark(Mark::Equal)) => Some(Rule::Decl(DeclRule::Is)),
+        Some(Terminal::Mark(Mark::Colon)) => Some(Rule::Decl(DeclRule::Has)),
+        _ => Some(Rule::Decl(DeclRule::Open)),
     }
 }
 
 #[tactic(auto, unfolding(crate::specs::Tables::number_of, crate::specs::Tables::choose))]
-fn kind_arrow(next: u8) -> Option<Rule>
-    ensures { option_map rule_in result ≡ option_map any (choice the.KArrow next) }
+fn kind_arrow(next: Option<Terminal>) -> Option<Rule>
+    ensures { option_map rule_in result ≡ option_map any (choice the.KArrow (number_next next)) }
 {
-    if next == mark(Mark::Arrow) {
-        Some(Rule::Kind(KindRule::Arrow))
-    } else {
-        Some(Rule::Kind(KindRule::NoArrow))
+    match next {
+        Some(Terminal::Mark(Mark::Arrow)) => Some(Rule::Kind(KindRule::Arrow)),
+        _ => Some(Rule::Kind(KindRule::NoArrow)),
     }
 }
 
 #[tactic(auto, unfolding(crate::specs::Tables::number_of, crate::specs::Tables::choose))]
-fn kind_atom(next: u8) -> Option<Rule>
-    ensures { option_map rule_in result ≡ option_map any (choice the.KA next) }
+fn kind_atom(next: Option<Terminal>) -> Option<Rule>
+    ensures { option_map rule_in result ≡ option_map any (choice the.KA (number_next next)) }
 {
-    if next == word(Word::KwKind) {
-        Some(Rule::Kind(KindRule::Type))
-    } else if next == mark(Mark::LeftParen) {
-        Some(Rule::Kind(KindRule::Paren))
-    } else {
-        None
+    match next {
+        Some(Terminal::Word(Word::KwKind)) => Some(Rule::Kind(KindRule::Type)),
+        Some(Terminal::Mark(Mark::LeftParen)) => Some(Rule::Kind(KindRule::Paren)),
+        _ => None,
     }
 }
 
 #[tactic(auto, unfolding(crate::specs::Tables::number_of, crate::specs::Tables::choose))]
-fn path(next: u8) -> Option<Rule>
-    ensures { option_map rule_in result ≡ option_map any (choice the.P next) }
+fn path(next: Option<Terminal>) -> Option<Rule>
+    ensures { option_map rule_in result ≡ option_map any (choice the.P (number_next next)) }
 {
-    if next == NAME {
-        Some(Rule::Path(PathRule::Name))
-    } else if next == word(Word::KwFrom) {
-        Some(Rule::Path(PathRule::From))
-    } else {
-        None
+    match next {
+        Some(Terminal::Name) => Some(Rule::Path(PathRule::Name)),
+        Some(Terminal::Word(Word::KwFrom)) => Some(Rule::Path(PathRule::From)),
+        _ => None,
     }
 }
 
 #[tactic(auto, unfolding(crate::specs::Tables::number_of, crate::specs::Tables::choose))]
-fn dots(next: u8) -> Option<Rule>
-    ensures { option_map rule_in result ≡ option_map any (choice the.Dots next) }
+fn dots(next: Option<Terminal>) -> Option<Rule>
+    ensures { option_map rule_in result ≡ option_map any (choice the.Dots (number_next next)) }
 {
-    if next == mark(Mark::Dot) {
-        Some(Rule::Path(PathRule::MoreDots))
-    } else {
-        Some(Rule::Path(PathRule::NoDots))
+    match next {
+        Some(Terminal::Mark(Mark::Dot)) => Some(Rule::Path(PathRule::MoreDots)),
+        _ => Some(Rule::Path(PathRule::NoDots)),
     }
 }
 
 #[tactic(auto, unfolding(crate::specs::Tables::number_of, crate::specs::Tables::choose))]
-fn ty(next: u8) -> Option<Rule>
-    ensures { option_map rule_in result ≡ option_map any (choice the.T next) }
+fn ty(next: Option<Terminal>) -> Option<Rule>
+    ensures { option_map rule_in result ≡ option_map any (choice the.T (number_next next)) }
 {
-    if next == word(Word::KwFun) {
-        Some(Rule::Ty(TyRule::Lam))
-    } else if next == mark(Mark::LeftBracket) {
-        Some(Rule::Ty(TyRule::All))
-    } else {
-        Some(Rule::Ty(TyRule::Chain))
+    match next {
+        Some(Terminal::Word(Word::KwFun)) => Some(Rule::Ty(TyRule::Lam)),
+        Some(Terminal::Mark(Mark::LeftBracket)) => Some(Rule::Ty(TyRule::All)),
+        _ => Some(Rule::Ty(TyRule::Chain)),
     }
 }
 
 #[tactic(auto, unfolding(crate::specs::Tables::number_of, crate::specs::Tables::choose))]
-fn ty_arrow(next: u8) -> Option<Rule>
-    ensures { option_map rule_in result ≡ option_map any (choice the.TArrow next) }
+fn ty_arrow(next: Option<Terminal>) -> Option<Rule>
+    ensures { option_map rule_in result ≡ option_map any (choice the.TArrow (number_next next)) }
 {
-    if next == mark(Mark::Arrow) {
-        Some(Rule::Ty(TyRule::Arrow))
-    } else {
-        Some(Rule::Ty(TyRule::NoArrow))
+    match next {
+        Some(Terminal::Mark(Mark::Arrow)) => Some(Rule::Ty(TyRule::Arrow)),
+        _ => Some(Rule::Ty(TyRule::NoArrow)),
     }
 }
 
 #[tactic(auto, unfolding(crate::specs::Tables::number_of, crate::specs::Tables::choose))]
-fn ty_args(next: u8) -> Option<Rule>
-    ensures { option_map rule_in result ≡ option_map any (choice the.TArgs next) }
+fn ty_args(next: Option<Terminal>) -> Option<Rule>
+    ensures { option_map rule_in result ≡ option_map any (choice the.TArgs (number_next next)) }
 {
     if begins_ty(next) {
         Some(Rule::Ty(TyRule::MoreArgs))
@@ -285,114 +228,97 @@ fn ty_args(next: u8) -> Option<Rule>
 }
 
 #[tactic(auto, unfolding(crate::specs::Tables::number_of, crate::specs::Tables::choose))]
-fn ty_atom(next: u8) -> Option<Rule>
-    ensures { option_map rule_in result ≡ option_map any (choice the.TA next) }
+fn ty_atom(next: Option<Terminal>) -> Option<Rule>
+    ensures { option_map rule_in result ≡ option_map any (choice the.TA (number_next next)) }
 {
-    if next == word(Word::KwInt) {
-        Some(Rule::Ty(TyRule::Int))
-    } else if next == word(Word::KwBool) {
-        Some(Rule::Ty(TyRule::Bool))
-    } else if next == word(Word::KwText) {
-        Some(Rule::Ty(TyRule::Text))
-    } else if next == mark(Mark::LeftBrace) {
-        Some(Rule::Ty(TyRule::Fields))
-    } else if next == word(Word::KwPack) {
-        Some(Rule::Ty(TyRule::Pack))
-    } else if next == mark(Mark::LeftParen) {
-        Some(Rule::Ty(TyRule::Paren))
-    } else {
-        Some(Rule::Ty(TyRule::Path))
+    match next {
+        Some(Terminal::Word(Word::KwInt)) => Some(Rule::Ty(TyRule::Int)),
+        Some(Terminal::Word(Word::KwBool)) => Some(Rule::Ty(TyRule::Bool)),
+        Some(Terminal::Word(Word::KwText)) => Some(Rule::Ty(TyRule::Text)),
+        Some(Terminal::Mark(Mark::LeftBrace)) => Some(Rule::Ty(TyRule::Fields)),
+        Some(Terminal::Word(Word::KwPack)) => Some(Rule::Ty(TyRule::Pack)),
+        Some(Terminal::Mark(Mark::LeftParen)) => Some(Rule::Ty(TyRule::Paren)),
+        _ => Some(Rule::Ty(TyRule::Path)),
     }
 }
 
 #[tactic(auto, unfolding(crate::specs::Tables::number_of, crate::specs::Tables::choose))]
-fn ty_fields(next: u8) -> Option<Rule>
-    ensures { option_map rule_in result ≡ option_map any (choice the.TFields next) }
+fn ty_fields(next: Option<Terminal>) -> Option<Rule>
+    ensures { option_map rule_in result ≡ option_map any (choice the.TFields (number_next next)) }
 {
-    if next == NAME {
-        Some(Rule::Ty(TyRule::Field))
-    } else {
-        Some(Rule::Ty(TyRule::NoFields))
+    match next {
+        Some(Terminal::Name) => Some(Rule::Ty(TyRule::Field)),
+        _ => Some(Rule::Ty(TyRule::NoFields)),
     }
 }
 
 #[tactic(auto, unfolding(crate::specs::Tables::number_of, crate::specs::Tables::choose))]
-fn more_ty_fields(next: u8) -> Option<Rule>
-    ensures { option_map rule_in result ≡ option_map any (choice the.MoreTFields next) }
+fn more_ty_fields(next: Option<Terminal>) -> Option<Rule>
+    ensures { option_map rule_in result ≡ option_map any (choice the.MoreTFields (number_next next)) }
 {
-    if next == mark(Mark::Comma) {
-        Some(Rule::Ty(TyRule::NextField))
-    } else {
-        Some(Rule::Ty(TyRule::LastField))
+    match next {
+        Some(Terminal::Mark(Mark::Comma)) => Some(Rule::Ty(TyRule::NextField)),
+        _ => Some(Rule::Ty(TyRule::LastField)),
     }
 }
 
 #[tactic(auto, unfolding(crate::specs::Tables::number_of, crate::specs::Tables::choose))]
-fn sig(next: u8) -> Option<Rule>
-    ensures { option_map rule_in result ≡ option_map any (choice the.S next) }
+fn sig(next: Option<Terminal>) -> Option<Rule>
+    ensures { option_map rule_in result ≡ option_map any (choice the.S (number_next next)) }
 {
-    if next == word(Word::KwFun) {
-        Some(Rule::Sig(SigRule::Fun))
-    } else {
-        Some(Rule::Sig(SigRule::Where))
+    match next {
+        Some(Terminal::Word(Word::KwFun)) => Some(Rule::Sig(SigRule::Fun)),
+        _ => Some(Rule::Sig(SigRule::Where)),
     }
 }
 
 #[tactic(auto, unfolding(crate::specs::Tables::number_of, crate::specs::Tables::choose))]
-fn sig_arrow(next: u8) -> Option<Rule>
-    ensures { option_map rule_in result ≡ option_map any (choice the.SArrow next) }
+fn sig_arrow(next: Option<Terminal>) -> Option<Rule>
+    ensures { option_map rule_in result ≡ option_map any (choice the.SArrow (number_next next)) }
 {
-    if next == mark(Mark::Arrow) {
-        Some(Rule::Sig(SigRule::Generative))
-    } else if next == mark(Mark::DoubleArrow) {
-        Some(Rule::Sig(SigRule::Applicative))
-    } else {
-        None
+    match next {
+        Some(Terminal::Mark(Mark::Arrow)) => Some(Rule::Sig(SigRule::Generative)),
+        Some(Terminal::Mark(Mark::DoubleArrow)) => Some(Rule::Sig(SigRule::Applicative)),
+        _ => None,
     }
 }
 
 #[tactic(auto, unfolding(crate::specs::Tables::number_of, crate::specs::Tables::choose))]
-fn wheres(next: u8) -> Option<Rule>
-    ensures { option_map rule_in result ≡ option_map any (choice the.Wheres next) }
+fn wheres(next: Option<Terminal>) -> Option<Rule>
+    ensures { option_map rule_in result ≡ option_map any (choice the.Wheres (number_next next)) }
 {
-    if next == word(Word::KwWhere) {
-        Some(Rule::Sig(SigRule::MoreWheres))
-    } else {
-        Some(Rule::Sig(SigRule::NoWheres))
+    match next {
+        Some(Terminal::Word(Word::KwWhere)) => Some(Rule::Sig(SigRule::MoreWheres)),
+        _ => Some(Rule::Sig(SigRule::NoWheres)),
     }
 }
 
 #[tactic(auto, unfolding(crate::specs::Tables::number_of, crate::specs::Tables::choose))]
-fn sig_atom(next: u8) -> Option<Rule>
-    ensures { option_map rule_in result ≡ option_map any (choice the.SA next) }
+fn sig_atom(next: Option<Terminal>) -> Option<Rule>
+    ensures { option_map rule_in result ≡ option_map any (choice the.SA (number_next next)) }
 {
-    if next == word(Word::KwSig) {
-        Some(Rule::Sig(SigRule::Decls))
-    } else if next == mark(Mark::LeftParen) {
-        Some(Rule::Sig(SigRule::Paren))
-    } else {
-        Some(Rule::Sig(SigRule::Path))
+    match next {
+        Some(Terminal::Word(Word::KwSig)) => Some(Rule::Sig(SigRule::Decls)),
+        Some(Terminal::Mark(Mark::LeftParen)) => Some(Rule::Sig(SigRule::Paren)),
+        _ => Some(Rule::Sig(SigRule::Path)),
     }
 }
 
 #[tactic(auto, unfolding(crate::specs::Tables::number_of, crate::specs::Tables::choose))]
-fn module(next: u8) -> Option<Rule>
-    ensures { option_map rule_in result ≡ option_map any (choice the.M next) }
+fn module(next: Option<Terminal>) -> Option<Rule>
+    ensures { option_map rule_in result ≡ option_map any (choice the.M (number_next next)) }
 {
-    if next == word(Word::KwFun) {
-        Some(Rule::Mod(ModRule::Fun))
-    } else if next == word(Word::KwGen) {
-        Some(Rule::Mod(ModRule::Gen))
-    } else if next == word(Word::KwUnpack) {
-        Some(Rule::Mod(ModRule::Unpack))
-    } else {
-        Some(Rule::Mod(ModRule::Chain))
+    match next {
+        Some(Terminal::Word(Word::KwFun)) => Some(Rule::Mod(ModRule::Fun)),
+        Some(Terminal::Word(Word::KwGen)) => Some(Rule::Mod(ModRule::Gen)),
+        Some(Terminal::Word(Word::KwUnpack)) => Some(Rule::Mod(ModRule::Unpack)),
+        _ => Some(Rule::Mod(ModRule::Chain)),
     }
 }
 
 #[tactic(auto, unfolding(crate::specs::Tables::number_of, crate::specs::Tables::choose))]
-fn mod_args(next: u8) -> Option<Rule>
-    ensures { option_map rule_in result ≡ option_map any (choice the.MArgs next) }
+fn mod_args(next: Option<Terminal>) -> Option<Rule>
+    ensures { option_map rule_in result ≡ option_map any (choice the.MArgs (number_next next)) }
 {
     if begins_mod(next) {
         Some(Rule::Mod(ModRule::MoreArgs))
@@ -402,179 +328,149 @@ fn mod_args(next: u8) -> Option<Rule>
 }
 
 #[tactic(auto, unfolding(crate::specs::Tables::number_of, crate::specs::Tables::choose))]
-fn seals(next: u8) -> Option<Rule>
-    ensures { option_map rule_in result ≡ option_map any (choice the.Seals next) }
+fn seals(next: Option<Terminal>) -> Option<Rule>
+    ensures { option_map rule_in result ≡ option_map any (choice the.Seals (number_next next)) }
 {
-    if next == mark(Mark::Seal) {
-        Some(Rule::Mod(ModRule::Seal))
-    } else if next == mark(Mark::Colon) {
-        Some(Rule::Mod(ModRule::Ascribe))
-    } else {
-        Some(Rule::Mod(ModRule::NoSeals))
+    match next {
+        Some(Terminal::Mark(Mark::Seal)) => Some(Rule::Mod(ModRule::Seal)),
+        Some(Terminal::Mark(Mark::Colon)) => Some(Rule::Mod(ModRule::Ascribe)),
+        _ => Some(Rule::Mod(ModRule::NoSeals)),
     }
 }
 
 #[tactic(auto, unfolding(crate::specs::Tables::number_of, crate::specs::Tables::choose))]
-fn mod_atom(next: u8) -> Option<Rule>
-    ensures { option_map rule_in result ≡ option_map any (choice the.MA next) }
+fn mod_atom(next: Option<Terminal>) -> Option<Rule>
+    ensures { option_map rule_in result ≡ option_map any (choice the.MA (number_next next)) }
 {
-    if next == word(Word::KwStruct) {
-        Some(Rule::Mod(ModRule::Struct))
-    } else if next == word(Word::KwLet) {
-        Some(Rule::Mod(ModRule::Let))
-    } else if next == mark(Mark::LeftParen) {
-        Some(Rule::Mod(ModRule::Paren))
-    } else {
-        Some(Rule::Mod(ModRule::Path))
+    match next {
+        Some(Terminal::Word(Word::KwStruct)) => Some(Rule::Mod(ModRule::Struct)),
+        Some(Terminal::Word(Word::KwLet)) => Some(Rule::Mod(ModRule::Let)),
+        Some(Terminal::Mark(Mark::LeftParen)) => Some(Rule::Mod(ModRule::Paren)),
+        _ => Some(Rule::Mod(ModRule::Path)),
     }
 }
 
 #[tactic(auto, unfolding(crate::specs::Tables::number_of, crate::specs::Tables::choose))]
-fn exp(next: u8) -> Option<Rule>
-    ensures { option_map rule_in result ≡ option_map any (choice the.E next) }
+fn exp(next: Option<Terminal>) -> Option<Rule>
+    ensures { option_map rule_in result ≡ option_map any (choice the.E (number_next next)) }
 {
-    if next == word(Word::KwFun) {
-        Some(Rule::Exp(ExpRule::Fun))
-    } else if next == word(Word::KwFix) {
-        Some(Rule::Exp(ExpRule::Fix))
-    } else if next == word(Word::KwIf) {
-        Some(Rule::Exp(ExpRule::If))
-    } else {
-        Some(Rule::Exp(ExpRule::Compare))
+    match next {
+        Some(Terminal::Word(Word::KwFun)) => Some(Rule::Exp(ExpRule::Fun)),
+        Some(Terminal::Word(Word::KwFix)) => Some(Rule::Exp(ExpRule::Fix)),
+        Some(Terminal::Word(Word::KwIf)) => Some(Rule::Exp(ExpRule::If)),
+        _ => Some(Rule::Exp(ExpRule::Compare)),
     }
 }
 
 #[tactic(auto, unfolding(crate::specs::Tables::number_of, crate::specs::Tables::choose))]
-fn lam(next: u8) -> Option<Rule>
-    ensures { option_map rule_in result ≡ option_map any (choice the.Lam next) }
+fn lam(next: Option<Terminal>) -> Option<Rule>
+    ensures { option_map rule_in result ≡ option_map any (choice the.Lam (number_next next)) }
 {
-    if next == mark(Mark::LeftParen) {
-        Some(Rule::Exp(ExpRule::LamValue))
-    } else if next == mark(Mark::LeftBracket) {
-        Some(Rule::Exp(ExpRule::LamType))
-    } else {
-        None
+    match next {
+        Some(Terminal::Mark(Mark::LeftParen)) => Some(Rule::Exp(ExpRule::LamValue)),
+        Some(Terminal::Mark(Mark::LeftBracket)) => Some(Rule::Exp(ExpRule::LamType)),
+        _ => None,
     }
 }
 
 #[tactic(auto, unfolding(crate::specs::Tables::number_of, crate::specs::Tables::choose))]
-fn compare(next: u8) -> Option<Rule>
-    ensures { option_map rule_in result ≡ option_map any (choice the.Compare next) }
+fn compare(next: Option<Terminal>) -> Option<Rule>
+    ensures { option_map rule_in result ≡ option_map any (choice the.Compare (number_next next)) }
 {
-    if next == mark(Mark::Less) {
-        Some(Rule::Op(OpRule::LessThan))
-    } else if next == mark(Mark::EqualEqual) {
-        Some(Rule::Op(OpRule::EqualTo))
-    } else {
-        Some(Rule::Op(OpRule::NoCompare))
+    match next {
+        Some(Terminal::Mark(Mark::Less)) => Some(Rule::Op(OpRule::LessThan)),
+        Some(Terminal::Mark(Mark::EqualEqual)) => Some(Rule::Op(OpRule::EqualTo)),
+        _ => Some(Rule::Op(OpRule::NoCompare)),
     }
 }
 
 #[tactic(auto, unfolding(crate::specs::Tables::number_of, crate::specs::Tables::choose))]
-fn sums(next: u8) -> Option<Rule>
-    ensures { option_map rule_in result ≡ option_map any (choice the.Sums next) }
+fn sums(next: Option<Terminal>) -> Option<Rule>
+    ensures { option_map rule_in result ≡ option_map any (choice the.Sums (number_next next)) }
 {
-    if next == mark(Mark::Plus) {
-        Some(Rule::Op(OpRule::Add))
-    } else if next == mark(Mark::Minus) {
-        Some(Rule::Op(OpRule::Subtract))
-    } else {
-        Some(Rule::Op(OpRule::NoSums))
+    match next {
+        Some(Terminal::Mark(Mark::Plus)) => Some(Rule::Op(OpRule::Add)),
+        Some(Terminal::Mark(Mark::Minus)) => Some(Rule::Op(OpRule::Subtract)),
+        _ => Some(Rule::Op(OpRule::NoSums)),
     }
 }
 
 #[tactic(auto, unfolding(crate::specs::Tables::number_of, crate::specs::Tables::choose))]
-fn products(next: u8) -> Option<Rule>
-    ensures { option_map rule_in result ≡ option_map any (choice the.Products next) }
+fn products(next: Option<Terminal>) -> Option<Rule>
+    ensures { option_map rule_in result ≡ option_map any (choice the.Products (number_next next)) }
 {
-    if next == mark(Mark::Star) {
-        Some(Rule::Op(OpRule::Multiply))
-    } else if next == mark(Mark::Slash) {
-        Some(Rule::Op(OpRule::Divide))
-    } else if next == mark(Mark::Percent) {
-        Some(Rule::Op(OpRule::Remainder))
-    } else {
-        Some(Rule::Op(OpRule::NoProducts))
+    match next {
+        Some(Terminal::Mark(Mark::Star)) => Some(Rule::Op(OpRule::Multiply)),
+        Some(Terminal::Mark(Mark::Slash)) => Some(Rule::Op(OpRule::Divide)),
+        Some(Terminal::Mark(Mark::Percent)) => Some(Rule::Op(OpRule::Remainder)),
+        _ => Some(Rule::Op(OpRule::NoProducts)),
     }
 }
 
 #[tactic(auto, unfolding(crate::specs::Tables::number_of, crate::specs::Tables::choose))]
-fn args(next: u8) -> Option<Rule>
-    ensures { option_map rule_in result ≡ option_map any (choice the.Args next) }
+fn args(next: Option<Terminal>) -> Option<Rule>
+    ensures { option_map rule_in result ≡ option_map any (choice the.Args (number_next next)) }
 {
-    if begins_exp(next) {
-        Some(Rule::Arg(ArgRule::Value))
-    } else if next == mark(Mark::LeftBracket) {
-        Some(Rule::Arg(ArgRule::Type))
-    } else {
-        Some(Rule::Arg(ArgRule::NoArgs))
+    match next {
+        Some(Terminal::Mark(Mark::LeftBracket)) => Some(Rule::Arg(ArgRule::Type)),
+        _ if begins_exp(next) => Some(Rule::Arg(ArgRule::Value)),
+        _ => Some(Rule::Arg(ArgRule::NoArgs)),
     }
 }
 
 #[tactic(auto, unfolding(crate::specs::Tables::number_of, crate::specs::Tables::choose))]
-fn gets(next: u8) -> Option<Rule>
-    ensures { option_map rule_in result ≡ option_map any (choice the.Gets next) }
+fn gets(next: Option<Terminal>) -> Option<Rule>
+    ensures { option_map rule_in result ≡ option_map any (choice the.Gets (number_next next)) }
 {
-    if next == mark(Mark::Hash) {
-        Some(Rule::Arg(ArgRule::MoreGets))
-    } else {
-        Some(Rule::Arg(ArgRule::NoGets))
+    match next {
+        Some(Terminal::Mark(Mark::Hash)) => Some(Rule::Arg(ArgRule::MoreGets)),
+        _ => Some(Rule::Arg(ArgRule::NoGets)),
     }
 }
 
 #[tactic(auto, unfolding(crate::specs::Tables::number_of, crate::specs::Tables::choose))]
-fn exp_atom(next: u8) -> Option<Rule>
-    ensures { option_map rule_in result ≡ option_map any (choice the.EB next) }
+fn exp_atom(next: Option<Terminal>) -> Option<Rule>
+    ensures { option_map rule_in result ≡ option_map any (choice the.EB (number_next next)) }
 {
-    if next == NUMBER {
-        Some(Rule::Atom(AtomRule::Number))
-    } else if next == TEXT {
-        Some(Rule::Atom(AtomRule::Text))
-    } else if next == word(Word::KwTrue) {
-        Some(Rule::Atom(AtomRule::True))
-    } else if next == word(Word::KwFalse) {
-        Some(Rule::Atom(AtomRule::False))
-    } else if next == mark(Mark::LeftBrace) {
-        Some(Rule::Atom(AtomRule::Fields))
-    } else if next == word(Word::KwLet) {
-        Some(Rule::Atom(AtomRule::Let))
-    } else if next == word(Word::KwPack) {
-        Some(Rule::Atom(AtomRule::Pack))
-    } else if next == mark(Mark::LeftParen) {
-        Some(Rule::Atom(AtomRule::Paren))
-    } else {
-        Some(Rule::Atom(AtomRule::Path))
+    match next {
+        Some(Terminal::Number) => Some(Rule::Atom(AtomRule::Number)),
+        Some(Terminal::Text) => Some(Rule::Atom(AtomRule::Text)),
+        Some(Terminal::Word(Word::KwTrue)) => Some(Rule::Atom(AtomRule::True)),
+        Some(Terminal::Word(Word::KwFalse)) => Some(Rule::Atom(AtomRule::False)),
+        Some(Terminal::Mark(Mark::LeftBrace)) => Some(Rule::Atom(AtomRule::Fields)),
+        Some(Terminal::Word(Word::KwLet)) => Some(Rule::Atom(AtomRule::Let)),
+        Some(Terminal::Word(Word::KwPack)) => Some(Rule::Atom(AtomRule::Pack)),
+        Some(Terminal::Mark(Mark::LeftParen)) => Some(Rule::Atom(AtomRule::Paren)),
+        _ => Some(Rule::Atom(AtomRule::Path)),
     }
 }
 
 #[tactic(auto, unfolding(crate::specs::Tables::number_of, crate::specs::Tables::choose))]
-fn exp_fields(next: u8) -> Option<Rule>
-    ensures { option_map rule_in result ≡ option_map any (choice the.EFields next) }
+fn exp_fields(next: Option<Terminal>) -> Option<Rule>
+    ensures { option_map rule_in result ≡ option_map any (choice the.EFields (number_next next)) }
 {
-    if next == NAME {
-        Some(Rule::Atom(AtomRule::Field))
-    } else {
-        Some(Rule::Atom(AtomRule::NoFields))
+    match next {
+        Some(Terminal::Name) => Some(Rule::Atom(AtomRule::Field)),
+        _ => Some(Rule::Atom(AtomRule::NoFields)),
     }
 }
 
 #[tactic(auto, unfolding(crate::specs::Tables::number_of, crate::specs::Tables::choose))]
-fn more_exp_fields(next: u8) -> Option<Rule>
-    ensures { option_map rule_in result ≡ option_map any (choice the.MoreEFields next) }
+fn more_exp_fields(next: Option<Terminal>) -> Option<Rule>
+    ensures { option_map rule_in result ≡ option_map any (choice the.MoreEFields (number_next next)) }
 {
-    if next == mark(Mark::Comma) {
-        Some(Rule::Atom(AtomRule::NextField))
-    } else {
-        Some(Rule::Atom(AtomRule::LastField))
+    match next {
+        Some(Terminal::Mark(Mark::Comma)) => Some(Rule::Atom(AtomRule::NextField)),
+        _ => Some(Rule::Atom(AtomRule::LastField)),
     }
 }
 
-/// The production that the table has for a phrase of the class before a token of this number, or, for 0, at the end. At
-/// each node of a program's tree it is the node's own (`one_choice`). Where no phrase of the class can begin, the table
+/// The production that the table has for a phrase of the class before this terminal, or, for `None`, at the end. At each
+/// node of a program's tree it is the node's own (`one_choice`). Where no phrase of the class can begin, the table
 /// has none (`None`), or one whose first symbol the token does not begin.
 #[tactic(auto, unfolding(crate::specs::Tables::choose))]
-pub fn choose(class: Class, next: u8) -> Option<Rule>
-    ensures { option_map rule_in result ≡ chosen class next }
+pub fn choose(class: Class, next: Option<Terminal>) -> Option<Rule>
+    ensures { option_map rule_in result ≡ chosen class (number_next next) }
 {
     match class {
         Class::Binds => binds(next),

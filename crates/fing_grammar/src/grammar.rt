@@ -2,7 +2,7 @@
 use fing_lexer::{Mark, Word};
 
 /// What a token is, without its name, its number or its text.
-#[derive(Clone, Copy)]
+#[derive(Clone, Copy, PartialEq, Eq)]
 pub enum Terminal {
     Word(Word),
     Mark(Mark),

@@ -1,13 +1,14 @@
 // The steps in which a list of tokens is read, with one token of look-ahead and a stack of the symbols still wanted.
-ghost use Rattle.std.specs.Prelude.{◌≡◌, ◌++◌, ◌≤◌, ◌-◌, [], ◌∷◌, List, length, map, option_map, IfOk, IfErr, OnOk};
-ghost use Rattle.fing_grammar.specs.Grammar.{Binds, phrase, token as wants};
+ghost use Rattle.std.specs.Prelude.{◌≡◌, eqb, ◌++◌, ◌≤◌, ◌-◌, [], ◌∷◌, List, length, map, option_map, IfOk, IfErr, OnOk};
+ghost use Rattle.fing_grammar.specs.Grammar.{Binds, kind_of, phrase, token as wants};
 ghost use Rattle.fing_grammar.specs.Refusal.{Refuses};
 ghost use Rattle.fing_grammar.specs.Tree.{Trees, spelling};
 ghost use Rattle.fing_grammar.specs.View.{class_in, symbol_in, terminal_in};
 ghost use Rattle.fing_grammar.specs.Moves.{advance, pushed, track};
 ghost use Rattle.fing_grammar.specs.Steps.{move_in, moves, wanted};
+ghost use Rattle.fing_grammar.specs.Tables.{number_of};
 
-use crate::choices::{choose, next, number, number_at};
+use crate::choices::{choose, next, terminal_of};
 use crate::grammar::{Class, Rule, Symbol, Terminal};
 use crate::refusal::ParseRefusal;
 use crate::sides::right_side;
@@ -22,15 +23,19 @@ pub enum Step<'a> {
     Rule(Rule),
 }
 
+// Whether the token is the one that is wanted.
+fn is_wanted(token: &Token, terminal: Terminal) -> bool
+    ensures { result ≡ eqb (number_of (kind_of token.now)) (number_of (terminal_in terminal)) }
+{
+    terminal_of(token) == terminal
+}
+
 // The step where a terminal is wanted, and the tokens left.
 fn take<'a>(terminal: Terminal, rest: &'a [Token]) -> Option<(Step<'a>, &'a [Token])>
     ensures { option_map (λ p. (move_in p.0, p.1.now)) result ≡ advance (wants (terminal_in terminal)) rest.now }
 {
     match rest.split_first() {
-        Some((token, more)) if number_at(token) == number(terminal) => Some((
-            Step::Token(token),
-            more,
-        )),
+        Some((token, more)) if is_wanted(token, terminal) => Some((Step::Token(token), more)),
         _ => None,
     }
 }

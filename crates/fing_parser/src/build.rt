@@ -52,7 +52,7 @@ fn play_step<'a>(stack: &mut Stack<'a>, alloc: Global, step: Step<'a>) -> Result
     ensures misfit { IfErr result (λ e. e ≡ Misfit → play (move_in step.entry) (held stack.old) ≡ None) }
 {
     match step {
-        Step::Token(token) => Ok(stack.push(Part::Token(token))?),
+        Step::Token(token) => stack.push(Part::Token(token)),
         Step::Rule(rule) => play_rule(stack, alloc, rule),
     }
 }

@@ -1,7 +1,8 @@
 // Sources and their trees, by hand from the grammar; and sources that are no program.
-use crate::show::binds;
+use crate::show::are_written;
 use fing_lexer::tokens;
 use fing_parser::{ParseRefusal, program};
+use fing_syntax::Program;
 use std::alloc::Global;
 use std::process::Abort;
 use std::test::Fail;
@@ -360,16 +361,23 @@ const REFUSED: [(&str, u32); 25] = [
     ("val x = r#1", 5),
 ];
 
+// What the parser makes of a source.
+fn parsed(
+    rt: &impl Abort,
+    alloc: Global,
+    source: &[u8],
+) -> Result<Result<Program, ParseRefusal>, Fail> {
+    assert!(rt; source.len() <= 1048576);
+    let found = tokens(alloc, source)?;
+    assert!(rt; found.len() <= 1048576);
+    Ok(program(alloc, &found))
+}
+
 // Each source has its tree.
 fn have_trees(rt: &impl Abort, alloc: Global, cases: &[(&str, &str)]) -> Result<(), Fail> {
     for (source, tree) in cases {
-        assert!(rt; source.len() <= 1048576);
-        let found = tokens(alloc, source.as_bytes())?;
-        assert!(rt; found.len() <= 1048576);
-        let parsed = program(alloc, &found)?;
-        let mut shown = Vec::new(alloc);
-        binds(&mut shown, &parsed.binds)?;
-        assert!(rt; shown.as_slice() == tree.as_bytes(), "at {source}");
+        let found = parsed(rt, alloc, source.as_bytes())??;
+        assert!(rt; are_written(&found.binds, tree.as_bytes()), "at {source}");
     }
     Ok(())
 }
@@ -402,69 +410,53 @@ fn expressions(rt: HostRuntime) -> Result<(), Fail> {
 #[test]
 fn refused(rt: HostRuntime) -> Result<(), Fail> {
     for (source, at) in REFUSED {
-        assert!(rt; source.len() <= 1048576);
-        let found = tokens(rt.alloc(), source.as_bytes())?;
-        assert!(rt; found.len() <= 1048576);
-        let refusal = match program(rt.alloc(), &found) {
-            Ok(_) => None,
-            Err(refusal) => Some(refusal),
-        };
+        let refusal = parsed(&rt, rt.alloc(), source.as_bytes())?.err();
         assert_eq!(rt; refusal, Some(ParseRefusal::Syntax { at }), "at {source}");
     }
     Ok(())
 }
 
-// A part between some openers and some closers, behind `val x = `.
-fn nested(
-    alloc: Global,
-    depth: usize,
-    opener: &[u8],
-    part: &[u8],
-    closer: &[u8],
-) -> Result<Vec<u8>, Fail> {
-    let mut source = b"val x = ".to_vec(alloc)?;
-    for _ in 0..depth {
-        source.extend_from_slice(opener)?;
-    }
-    source.extend_from_slice(part)?;
-    for _ in 0..depth {
-        source.extend_from_slice(closer)?;
-    }
-    Ok(source)
+// How many bindings the program has.
+fn bindings_of(rt: &impl Abort, alloc: Global, source: &str) -> Result<usize, Fail> {
+    Ok(parsed(rt, alloc, source.as_bytes())??.binds.len())
 }
 
-fn is_program(rt: &impl Abort, alloc: Global, source: &[u8]) -> Result<usize, Fail> {
-    assert!(rt; source.len() <= 1048576);
-    let found = tokens(alloc, source)?;
-    assert!(rt; found.len() <= 1048576);
-    Ok(program(alloc, &found)?.binds.len())
+// How often a front comes before `1`, and as often an end behind it.
+const DEEP: [(usize, &str, &str); 3] = [
+    (996, "(", ")"),
+    (240, "let val x = ", " in x end"),
+    (190, "if true then 1 else ", ""),
+];
+
+// A source of this form, behind `val x = `.
+fn nested(alloc: Global, depth: usize, front: &str, end: &str) -> Result<String, Fail> {
+    let fronts = front.repeat(alloc, depth)?;
+    let ends = end.repeat(alloc, depth)?;
+    Ok(format!(in alloc; "val x = {fronts}1{ends}")?)
 }
 
 #[test]
 fn deep_sources_have_trees(rt: HostRuntime) -> Result<(), Fail> {
-    let parens = nested(rt.alloc(), 996, b"(", b"1", b")")?;
-    assert_eq!(rt; is_program(&rt, rt.alloc(), &parens)?, 1);
-    let lets = nested(rt.alloc(), 240, b"let val x = ", b"1", b" in x end")?;
-    assert_eq!(rt; is_program(&rt, rt.alloc(), &lets)?, 1);
-    let choices = nested(rt.alloc(), 190, b"if true then 1 else ", b"1", b"")?;
-    assert_eq!(rt; is_program(&rt, rt.alloc(), &choices)?, 1);
+    for (depth, front, end) in DEEP {
+        let source = nested(rt.alloc(), depth, front, end)?;
+        assert_eq!(rt; bindings_of(&rt, rt.alloc(), &source)?, 1, "at {front}");
+    }
     Ok(())
 }
 
-// As many structures of bindings as 1 MiB holds.
+// Structures of 80 bindings.
+fn structures(alloc: Global, count: usize) -> Result<String, Fail> {
+    let lines = "val x = f y + 2\n".repeat(alloc, 80)?;
+    let structure = format!(in alloc; "module M = struct\n{lines}end\n")?;
+    Ok(structure.repeat(alloc, count)?)
+}
+
+// As many as 1 MiB holds.
 #[test]
 fn a_long_source_has_a_tree(rt: HostRuntime) -> Result<(), Fail> {
-    let mut part = b"module M = struct\n".to_vec(rt.alloc())?;
-    for _ in 0..80 {
-        part.extend_from_slice(b"val x = f y + 2\n")?;
-    }
-    part.extend_from_slice(b"end\n")?;
-    let mut source = Vec::new(rt.alloc());
-    for _ in 0..805 {
-        source.extend_from_slice(&part)?;
-    }
+    let source = structures(rt.alloc(), 805)?;
     assert_eq!(rt; source.len(), 1048110);
-    assert_eq!(rt; is_program(&rt, rt.alloc(), &source)?, 805);
+    assert_eq!(rt; bindings_of(&rt, rt.alloc(), &source)?, 805);
     Ok(())
 }
 
@@ -473,6 +465,6 @@ const REALISTIC: &str =
 
 #[test]
 fn the_realistic_program_has_a_tree(rt: HostRuntime) -> Result<(), Fail> {
-    assert_eq!(rt; is_program(&rt, rt.alloc(), REALISTIC.as_bytes())?, 20);
+    assert_eq!(rt; bindings_of(&rt, rt.alloc(), REALISTIC)?, 20);
     Ok(())
 }

@@ -1,8 +1,9 @@
 // Tests of the parser: sources and the trees that they have, written out by hand, and refusals.
 // Stands on fing_lexer (tokens), fing_parser (trees) and fing_syntax (phrases).
-// Nothing is promised here: `show` writes a tree out, so that a test can compare it with a text.
+// Nothing is promised here: `show` compares a tree, written out, with a text.
 #![tactic(auto)]
 
 #[cfg(test)]
 mod cases;
-pub mod show;
+#[cfg(test)]
+mod show;

@@ -4,70 +4,88 @@ use fing_syntax::{
     TyEx, TyWhat,
 };
 use fing_text::Span;
-use omega_kinds::{Kind, Mem};
+use omega_kinds::Kind;
 
-fn text(out: &mut Vec<u8>, bytes: &[u8]) -> Result<(), Mem> {
-    Ok(out.extend_from_slice(bytes)?)
+// A text that trees are compared with as they are written out: what is left of it, or nothing once they differ.
+#[derive(Clone, Copy)]
+struct Expected<'a> {
+    left: Option<&'a [u8]>,
 }
 
-fn number(out: &mut Vec<u8>, value: i64) -> Result<(), Mem> {
+/// Whether the bindings, each written behind a space, are the text.
+pub fn are_written(all: &[Bind], expected: &[u8]) -> bool {
+    let mut want = Expected {
+        left: Some(expected),
+    };
+    binds(&mut want, all);
+    matches!(want.left, Some([]))
+}
+
+fn text(want: &mut Expected<'_>, piece: &[u8]) {
+    want.left = match want.left {
+        Some(left) => left.strip_prefix(piece),
+        None => None,
+    };
+}
+
+fn number(want: &mut Expected<'_>, value: i64) {
     let mut buffer = itoa::Buffer::new();
-    text(out, buffer.format(value).as_bytes())
+    text(want, buffer.format(value).as_bytes())
 }
 
-fn place(out: &mut Vec<u8>, span: Span) -> Result<(), Mem> {
-    text(out, b"@")?;
-    number(out, i64::from(span.from))?;
-    text(out, b"-")?;
-    number(out, i64::from(span.to))
+fn place(want: &mut Expected<'_>, span: Span) {
+    text(want, b"@");
+    number(want, i64::from(span.from));
+    text(want, b"-");
+    number(want, i64::from(span.to))
 }
 
-fn name(out: &mut Vec<u8>, name: &SpanName) -> Result<(), Mem> {
-    text(out, name.name.bytes())?;
-    place(out, name.span)
+fn name(want: &mut Expected<'_>, name: &SpanName) {
+    text(want, name.name.bytes());
+    place(want, name.span)
 }
 
 // A word and a name.
-fn begin(out: &mut Vec<u8>, word: &[u8], spelled: &SpanName) -> Result<(), Mem> {
-    text(out, word)?;
-    name(out, spelled)?;
-    text(out, b" ")
+fn begin(want: &mut Expected<'_>, word: &[u8], spelled: &SpanName) {
+    text(want, word);
+    name(want, spelled);
+    text(want, b" ")
 }
 
 // The end of a node.
-fn end(out: &mut Vec<u8>, span: Span) -> Result<(), Mem> {
-    text(out, b")")?;
-    place(out, span)
+fn end(want: &mut Expected<'_>, span: Span) {
+    text(want, b")");
+    place(want, span)
 }
 
-fn kind(out: &mut Vec<u8>, shown: &Kind) -> Result<(), Mem> {
+fn kind(want: &mut Expected<'_>, shown: &Kind) {
     match shown {
-        Kind::Star => text(out, b"*"),
+        Kind::Star => text(want, b"*"),
         Kind::Arrow(from, to, _) => {
-            text(out, b"(> ")?;
-            kind(out, from)?;
-            text(out, b" ")?;
-            kind(out, to)?;
-            text(out, b")")
+            text(want, b"(> ");
+            kind(want, from);
+            text(want, b" ");
+            kind(want, to);
+            text(want, b")")
         }
     }
 }
 
-/// Writes a module out.
+// Writes a module out.
 #[cycle(show)]
-pub fn module(out: &mut Vec<u8>, node: &Mod) -> Result<(), Mem> {
+fn module(want: &mut Expected<'_>, node: &Mod) {
     match &node.what {
         ModWhat::Name(found) => {
-            text(out, b"(")?;
-            name(out, found)?;
+            text(want, b"(");
+            name(want, found);
         }
         ModWhat::Struct(all) => {
-            text(out, b"(struct")?;
-            binds(out, all)?;
+            text(want, b"(struct");
+            binds(want, all);
         }
         ModWhat::Project(whole, found) => {
-            begin(out, b"(project ", found)?;
-            module(out, whole)?;
+            begin(want, b"(project ", found);
+            module(want, whole);
         }
         ModWhat::Functor {
             generative,
@@ -75,76 +93,75 @@ pub fn module(out: &mut Vec<u8>, node: &Mod) -> Result<(), Mem> {
             param,
             body,
         } => {
-            begin(out, if *generative { b"(gen " } else { b"(fun " }, found)?;
-            sig(out, param)?;
-            text(out, b" ")?;
-            module(out, body)?;
+            begin(want, if *generative { b"(gen " } else { b"(fun " }, found);
+            sig(want, param);
+            text(want, b" ");
+            module(want, body);
         }
         ModWhat::Apply(function, argument) => {
-            begin(out, b"(apply ", function)?;
-            name(out, argument)?;
+            begin(want, b"(apply ", function);
+            name(want, argument);
         }
         ModWhat::Seal(found, by) => {
-            begin(out, b"(seal ", found)?;
-            sig(out, by)?;
+            begin(want, b"(seal ", found);
+            sig(want, by);
         }
         ModWhat::Unpack(value, by) => {
-            text(out, b"(unpack ")?;
-            exp(out, value)?;
-            text(out, b" ")?;
-            sig(out, by)?;
+            text(want, b"(unpack ");
+            exp(want, value);
+            text(want, b" ");
+            sig(want, by);
         }
     }
-    end(out, node.span)
+    end(want, node.span)
 }
 
-/// Writes bindings out, each behind a space.
+// Writes bindings out, each behind a space.
 #[cycle(show)]
-pub fn binds(out: &mut Vec<u8>, all: &[Bind]) -> Result<(), Mem> {
+fn binds(want: &mut Expected<'_>, all: &[Bind]) {
     for item in all {
-        text(out, b" ")?;
-        bind(out, item)?;
+        text(want, b" ");
+        bind(want, item);
     }
-    Ok(())
 }
 
 #[cycle(show)]
-fn bind(out: &mut Vec<u8>, node: &Bind) -> Result<(), Mem> {
+fn bind(want: &mut Expected<'_>, node: &Bind) {
     match &node.what {
         BindWhat::Val(found, value) => {
-            begin(out, b"(val ", found)?;
-            exp(out, value)?;
+            begin(want, b"(val ", found);
+            exp(want, value);
         }
         BindWhat::Ty(found, by) => {
-            begin(out, b"(type ", found)?;
-            ty(out, by)?;
+            begin(want, b"(type ", found);
+            ty(want, by);
         }
         BindWhat::Module(found, by) => {
-            begin(out, b"(module ", found)?;
-            module(out, by)?;
+            begin(want, b"(module ", found);
+            module(want, by);
         }
         BindWhat::Signature(found, by) => {
-            begin(out, b"(signature ", found)?;
-            sig(out, by)?;
+            begin(want, b"(signature ", found);
+            sig(want, by);
         }
         BindWhat::Include(by) => {
-            text(out, b"(include ")?;
-            module(out, by)?;
+            text(want, b"(include ");
+            module(want, by);
         }
     }
-    end(out, node.span)
+    end(want, node.span)
 }
 
 #[cycle(show)]
-fn sig(out: &mut Vec<u8>, node: &SigEx) -> Result<(), Mem> {
+fn sig(want: &mut Expected<'_>, node: &SigEx) {
     match &node.what {
         SigWhat::Path(path) => {
-            text(out, b"(path ")?;
-            module(out, path)?;
+            text(want, b"(path ");
+            module(want, path);
         }
         SigWhat::Sig(all) => {
-            text(out, b"(sig")?;
-            decls(out, all)?;
+            text(want, b"(sig");
+            decls(want, all);
         }
         SigWhat::Fun {
             pure,
@@ -152,10 +169,10 @@ fn sig(out: &mut Vec<u8>, node: &SigEx) -> Result<(), Mem> {
             param,
             result,
         } => {
-            begin(out, if *pure { b"(fun " } else { b"(gen " }, found)?;
-            sig(out, param)?;
-            text(out, b" ")?;
-            sig(out, result)?;
+            begin(want, if *pure { b"(fun " } else { b"(gen " }, found);
+            sig(want, param);
+            text(want, b" ");
+            sig(want, result);
         }
         SigWhat::Refine {
             sig: whole,
@@ -163,148 +180,145 @@ fn sig(out: &mut Vec<u8>, node: &SigEx) -> Result<(), Mem> {
             rest,
             ty: by,
         } => {
-            begin(out, b"(where ", first)?;
+            begin(want, b"(where ", first);
             for found in rest {
-                begin(out, b"", found)?;
+                begin(want, b"", found);
             }
-            ty(out, by)?;
-            text(out, b" ")?;
-            sig(out, whole)?;
+            ty(want, by);
+            text(want, b" ");
+            sig(want, whole);
         }
     }
-    end(out, node.span)
+    end(want, node.span)
 }
 
 #[cycle(show)]
-fn decls(out: &mut Vec<u8>, all: &[Decl]) -> Result<(), Mem> {
+fn decls(want: &mut Expected<'_>, all: &[Decl]) {
     for item in all {
-        text(out, b" ")?;
-        decl(out, item)?;
+        text(want, b" ");
+        decl(want, item);
     }
-    Ok(())
 }
 
 #[cycle(show)]
-fn decl(out: &mut Vec<u8>, node: &Decl) -> Result<(), Mem> {
+fn decl(want: &mut Expected<'_>, node: &Decl) {
     match &node.what {
         DeclWhat::Val(found, by) => {
-            begin(out, b"(val ", found)?;
-            ty(out, by)?;
+            begin(want, b"(val ", found);
+            ty(want, by);
         }
         DeclWhat::TyIs(found, by) => {
-            begin(out, b"(type ", found)?;
-            ty(out, by)?;
+            begin(want, b"(type ", found);
+            ty(want, by);
         }
         DeclWhat::TyOf(found, by) => {
-            begin(out, b"(type ", found)?;
-            kind(out, by)?;
+            begin(want, b"(type ", found);
+            kind(want, by);
         }
         DeclWhat::Module(found, by) => {
-            begin(out, b"(module ", found)?;
-            sig(out, by)?;
+            begin(want, b"(module ", found);
+            sig(want, by);
         }
         DeclWhat::Signature(found, by) => {
-            begin(out, b"(signature ", found)?;
-            sig(out, by)?;
+            begin(want, b"(signature ", found);
+            sig(want, by);
         }
         DeclWhat::Include(by) => {
-            text(out, b"(include ")?;
-            sig(out, by)?;
+            text(want, b"(include ");
+            sig(want, by);
         }
     }
-    end(out, node.span)
+    end(want, node.span)
 }
 
 #[cycle(show)]
-fn ty(out: &mut Vec<u8>, node: &TyEx) -> Result<(), Mem> {
+fn ty(want: &mut Expected<'_>, node: &TyEx) {
     match &node.what {
         TyWhat::Path(path) => {
-            text(out, b"(path ")?;
-            module(out, path)?;
+            text(want, b"(path ");
+            module(want, path);
         }
-        TyWhat::Int => text(out, b"(int")?,
-        TyWhat::Bool => text(out, b"(bool")?,
-        TyWhat::Text => text(out, b"(text")?,
+        TyWhat::Int => text(want, b"(int"),
+        TyWhat::Bool => text(want, b"(bool"),
+        TyWhat::Text => text(want, b"(text"),
         TyWhat::Arrow(from, to) => {
-            text(out, b"(-> ")?;
-            ty(out, from)?;
-            text(out, b" ")?;
-            ty(out, to)?;
+            text(want, b"(-> ");
+            ty(want, from);
+            text(want, b" ");
+            ty(want, to);
         }
         TyWhat::Apply(operator, all) => {
-            text(out, b"(@ ")?;
-            ty(out, operator)?;
-            tys(out, all)?;
+            text(want, b"(@ ");
+            ty(want, operator);
+            tys(want, all);
         }
         TyWhat::Fields(all) => {
-            text(out, b"(rec")?;
-            field_tys(out, all)?;
+            text(want, b"(rec");
+            field_tys(want, all);
         }
         TyWhat::All(found, by, body) => {
-            begin(out, b"(all ", found)?;
-            kind(out, by)?;
-            text(out, b" ")?;
-            ty(out, body)?;
+            begin(want, b"(all ", found);
+            kind(want, by);
+            text(want, b" ");
+            ty(want, body);
         }
         TyWhat::Lam(found, by, body) => {
-            begin(out, b"(lam ", found)?;
-            kind(out, by)?;
-            text(out, b" ")?;
-            ty(out, body)?;
+            begin(want, b"(lam ", found);
+            kind(want, by);
+            text(want, b" ");
+            ty(want, body);
         }
         TyWhat::Pack(by) => {
-            text(out, b"(pack ")?;
-            sig(out, by)?;
+            text(want, b"(pack ");
+            sig(want, by);
         }
     }
-    end(out, node.span)
+    end(want, node.span)
 }
 
 #[cycle(show)]
-fn tys(out: &mut Vec<u8>, all: &[TyEx]) -> Result<(), Mem> {
+fn tys(want: &mut Expected<'_>, all: &[TyEx]) {
     for item in all {
-        text(out, b" ")?;
-        ty(out, item)?;
+        text(want, b" ");
+        ty(want, item);
     }
-    Ok(())
 }
 
 #[cycle(show)]
-fn field_tys(out: &mut Vec<u8>, all: &[(SpanName, TyEx)]) -> Result<(), Mem> {
+fn field_tys(want: &mut Expected<'_>, all: &[(SpanName, TyEx)]) {
     for item in all {
-        begin(out, b" ", &item.0)?;
-        ty(out, &item.1)?;
+        begin(want, b" ", &item.0);
+        ty(want, &item.1);
     }
-    Ok(())
 }
 
 #[cycle(show)]
-fn exp(out: &mut Vec<u8>, node: &Exp) -> Result<(), Mem> {
+fn exp(want: &mut Expected<'_>, node: &Exp) {
     match &node.what {
         ExpWhat::Path(path) => {
-            text(out, b"(path ")?;
-            module(out, path)?;
+            text(want, b"(path ");
+            module(want, path);
         }
         ExpWhat::Int(value) => {
-            text(out, b"(")?;
-            number(out, *value)?;
+            text(want, b"(");
+            number(want, *value);
         }
-        ExpWhat::Bool(value) => text(out, if *value { b"(true" } else { b"(false" })?,
+        ExpWhat::Bool(value) => text(want, if *value { b"(true" } else { b"(false" }),
         ExpWhat::Text(bytes) => {
-            text(out, b"(text ")?;
-            text(out, bytes.bytes())?;
+            text(want, b"(text ");
+            text(want, bytes.bytes());
         }
         ExpWhat::Lam(found, by, body) => {
-            begin(out, b"(fn ", found)?;
-            ty(out, by)?;
-            text(out, b" ")?;
-            exp(out, body)?;
+            begin(want, b"(fn ", found);
+            ty(want, by);
+            text(want, b" ");
+            exp(want, body);
         }
         ExpWhat::TyLam(found, by, body) => {
-            begin(out, b"(tfn ", found)?;
-            kind(out, by)?;
-            text(out, b" ")?;
-            exp(out, body)?;
+            begin(want, b"(tfn ", found);
+            kind(want, by);
+            text(want, b" ");
+            exp(want, body);
         }
         ExpWhat::Fix {
             function,
@@ -313,46 +327,46 @@ fn exp(out: &mut Vec<u8>, node: &Exp) -> Result<(), Mem> {
             result,
             body,
         } => {
-            begin(out, b"(fix ", function)?;
-            begin(out, b"", found)?;
-            ty(out, param)?;
-            text(out, b" ")?;
-            ty(out, result)?;
-            text(out, b" ")?;
-            exp(out, body)?;
+            begin(want, b"(fix ", function);
+            begin(want, b"", found);
+            ty(want, param);
+            text(want, b" ");
+            ty(want, result);
+            text(want, b" ");
+            exp(want, body);
         }
         ExpWhat::If(test, yes, no) => {
-            text(out, b"(if ")?;
-            exp(out, test)?;
-            text(out, b" ")?;
-            exp(out, yes)?;
-            text(out, b" ")?;
-            exp(out, no)?;
+            text(want, b"(if ");
+            exp(want, test);
+            text(want, b" ");
+            exp(want, yes);
+            text(want, b" ");
+            exp(want, no);
         }
         ExpWhat::Ops(first, rest) => {
-            text(out, b"(ops ")?;
-            exp(out, first)?;
-            ops(out, rest)?;
+            text(want, b"(ops ");
+            exp(want, first);
+            ops(want, rest);
         }
         ExpWhat::Apply(function, all) => {
-            text(out, b"(call ")?;
-            exp(out, function)?;
-            args(out, all)?;
+            text(want, b"(call ");
+            exp(want, function);
+            args(want, all);
         }
         ExpWhat::Fields(all) => {
-            text(out, b"(rec")?;
-            field_exps(out, all)?;
+            text(want, b"(rec");
+            field_exps(want, all);
         }
         ExpWhat::Get(whole, found) => {
-            begin(out, b"(get ", found)?;
-            exp(out, whole)?;
+            begin(want, b"(get ", found);
+            exp(want, whole);
         }
         ExpWhat::Pack(found, by) => {
-            begin(out, b"(pack ", found)?;
-            sig(out, by)?;
+            begin(want, b"(pack ", found);
+            sig(want, by);
         }
     }
-    end(out, node.span)
+    end(want, node.span)
 }
 
 fn op(shown: Op) -> &'static [u8] {
@@ -368,38 +382,35 @@ fn op(shown: Op) -> &'static [u8] {
 }
 
 #[cycle(show)]
-fn ops(out: &mut Vec<u8>, all: &[(Op, Exp)]) -> Result<(), Mem> {
+fn ops(want: &mut Expected<'_>, all: &[(Op, Exp)]) {
     for item in all {
-        text(out, op(item.0))?;
-        exp(out, &item.1)?;
+        text(want, op(item.0));
+        exp(want, &item.1);
     }
-    Ok(())
 }
 
 #[cycle(show)]
-fn args(out: &mut Vec<u8>, all: &[Arg]) -> Result<(), Mem> {
+fn args(want: &mut Expected<'_>, all: &[Arg]) {
     for item in all {
         match item {
             Arg::Exp(value) => {
-                text(out, b" ")?;
-                exp(out, value)?;
+                text(want, b" ");
+                exp(want, value);
             }
             Arg::Ty(by, span) => {
-                text(out, b" [")?;
-                ty(out, by)?;
-                text(out, b"]")?;
-                place(out, *span)?;
+                text(want, b" [");
+                ty(want, by);
+                text(want, b"]");
+                place(want, *span);
             }
         }
     }
-    Ok(())
 }
 
 #[cycle(show)]
-fn field_exps(out: &mut Vec<u8>, all: &[(SpanName, Exp)]) -> Result<(), Mem> {
+fn field_exps(want: &mut Expected<'_>, all: &[(SpanName, Exp)]) {
     for item in all {
-        begin(out, b" ", &item.0)?;
-        exp(out, &item.1)?;
+        begin(want, b" ", &item.0);
+        exp(want, &item.1);
     }
-    Ok(())
 }

@@ -1,31 +1,46 @@
 // Calls that can want memory, with ample memory.
-use omega_kinds::{Kind, Kinds, Label, Names, arrow, name_of, same_kind, same_label, same_name};
+use omega_kinds::{
+    Kind, Kinds, Label, Mem, Name, Names, arrow, name_of, same_kind, same_label, same_name,
+};
+use std::alloc::Global;
 use std::test::Fail;
 
+fn is_shared(name: Name) -> Result<bool, Mem> {
+    let label = Label::Name(name);
+    Ok(same_label(&label.share()?, &label))
+}
+
+fn names_of(alloc: Global, name: Name) -> Result<Names, Mem> {
+    let mut names = Names::new(alloc);
+    names.push(name)?;
+    Ok(names)
+}
+
 #[test]
-fn kinds_and_names(rt: HostRuntime) -> Result<(), Fail> {
+fn names(rt: HostRuntime) -> Result<(), Fail> {
     let name = name_of(rt.alloc(), b"x")?;
     assert!(rt; name.bytes() == b"x".as_slice());
     assert!(rt; same_name(&name.share()?, &name));
-    assert!(rt;
-        same_label(
-            &Label::Name(name.share()?).share()?,
-            &Label::Name(name.share()?)
-        )
-    );
-    let mut names = Names::new(rt.alloc());
-    names.push(name)?;
-    assert_eq!(rt; names.items().len(), 1);
+    assert!(rt; is_shared(name.share()?)?);
+    assert_eq!(rt; names_of(rt.alloc(), name)?.items().len(), 1);
+    Ok(())
+}
 
-    let kind = arrow(
-        rt.alloc(),
-        Kind::Star,
-        arrow(rt.alloc(), Kind::Star, Kind::Star)?,
-    )?;
+fn operators(alloc: Global) -> Result<Kind, Mem> {
+    arrow(alloc, Kind::Star, Kind::Star)
+}
+
+fn kinds_of(alloc: Global, kind: Kind) -> Result<Kinds, Mem> {
+    let mut kinds = Kinds::new(alloc);
+    kinds.push(kind)?;
+    kinds.share(alloc)
+}
+
+#[test]
+fn kinds(rt: HostRuntime) -> Result<(), Fail> {
+    let kind = arrow(rt.alloc(), Kind::Star, operators(rt.alloc())?)?;
     assert!(rt; same_kind(&kind.share()?, &kind));
     assert!(rt; !same_kind(&kind, &Kind::Star));
-    let mut kinds = Kinds::new(rt.alloc());
-    kinds.push(kind)?;
-    assert_eq!(rt; kinds.share(rt.alloc())?.items().len(), 1);
+    assert_eq!(rt; kinds_of(rt.alloc(), kind)?.items().len(), 1);
     Ok(())
 }

@@ -1,5 +1,5 @@
 // Replies of `check`, with the effects, signatures and refusals found by hand from the rules.
-use crate::runs::checked;
+use crate::runs::{all_reply, ran};
 use fing_top::Status;
 use std::test::Fail;
 
@@ -57,13 +57,7 @@ const MEANT: [(&str, &str); 13] = [
 
 #[test]
 fn sources_that_mean_something(rt: HostRuntime) -> Result<(), Fail> {
-    for (source, text) in MEANT {
-        let found = checked(rt.alloc(), source.as_bytes())?;
-        assert!(rt; found.written.as_slice() == text.as_bytes(), "at {source}");
-        assert_eq!(rt; found.status, Status::Ok, "at {source}");
-        assert!(rt; found.is_confirmed, "at {source}");
-    }
-    Ok(())
+    all_reply(&rt, rt.alloc(), "check", Status::Ok, &MEANT)
 }
 
 const REFUSED: [(&str, &str); 17] = [
@@ -130,13 +124,7 @@ const REFUSED: [(&str, &str); 17] = [
 
 #[test]
 fn sources_that_mean_nothing(rt: HostRuntime) -> Result<(), Fail> {
-    for (source, line) in REFUSED {
-        let found = checked(rt.alloc(), source.as_bytes())?;
-        assert!(rt; found.written.as_slice() == line.as_bytes(), "at {source}");
-        assert_eq!(rt; found.status, Status::Refused, "at {source}");
-        assert!(rt; !found.is_confirmed, "at {source}");
-    }
-    Ok(())
+    all_reply(&rt, rt.alloc(), "check", Status::Refused, &REFUSED)
 }
 
 // The same source is accepted with an applicative functor, whose two results have one hidden type.
@@ -144,7 +132,7 @@ fn sources_that_mean_nothing(rt: HostRuntime) -> Result<(), Fail> {
 fn two_results_of_one_functor(rt: HostRuntime) -> Result<(), Fail> {
     let source =
         "module A = struct end module F = fun (X : sig end) => struct type t = Int val v = 1 end :> sig type t val v : t end module P = F A module Q = F A val z = (fun (x : P.t) => x) Q.v";
-    let found = checked(rt.alloc(), source.as_bytes())?;
+    let found = ran(rt.alloc(), &["check"], source.as_bytes())?;
     assert_eq!(rt; found.status, Status::Ok);
     Ok(())
 }
@@ -170,7 +158,7 @@ module M = struct module F = fun (X : S13) => struct type v = Int end end :> S14
 
 #[test]
 fn nested_parameters(rt: HostRuntime) -> Result<(), Fail> {
-    let found = checked(rt.alloc(), NESTED.as_bytes())?;
+    let found = ran(rt.alloc(), &["check"], NESTED.as_bytes())?;
     assert_eq!(rt; found.status, Status::Ok);
     Ok(())
 }

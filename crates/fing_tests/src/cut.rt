@@ -1,6 +1,6 @@
 // Sources that are cut off, sources and sinks of which one call fails, and sinks with little room.
-use crate::runs::{checked, run};
-use fing_text::{MemSink, MemSource};
+use crate::runs::{Answer, ran, tried};
+use fing_text::MemSink;
 use fing_top::Status;
 use std::test::Fail;
 
@@ -26,8 +26,8 @@ const FRONTS: [(&str, &str); 16] = [
 
 #[test]
 fn cut_sources(rt: HostRuntime) -> Result<(), Fail> {
-    for (source, reply) in FRONTS {
-        let found = checked(rt.alloc(), source.as_bytes())?;
+    for (source, reply) in &FRONTS {
+        let found = ran(rt.alloc(), &["check"], source.as_bytes())?;
         assert!(rt; found.written.as_slice() == reply.as_bytes(), "at {source}");
     }
     Ok(())
@@ -41,38 +41,40 @@ const REPLY: &[u8] = b"pure (ex () (str (x (val int))))\n";
 #[test]
 fn each_read_fails(rt: HostRuntime) -> Result<(), Fail> {
     for call in 0..5 {
-        let source = MemSource::new(SUM.to_vec(rt.alloc())?, 4, [call].to_vec(rt.alloc())?);
         let sink = MemSink::new(rt.alloc(), 4096, 4096, Vec::new(rt.alloc()))?;
-        let found = run(rt.alloc(), &["check"], source, sink)?;
-        assert_eq!(rt; found.status, Status::ReadFault, "at {call}");
-        assert!(rt; found.written.is_empty(), "at {call}");
+        let found = tried(rt.alloc(), &["check"], SUM, &[call], sink)?;
+        assert!(rt; found.is(Status::ReadFault, b"", false), "at {call}");
     }
     Ok(())
+}
+
+// Whether the answer to the sum has this status, and so many bytes of its reply were written.
+fn is_front(found: &Answer, status: Status, length: usize) -> bool {
+    found.status == status
+        && found.written.len() == length
+        && REPLY.starts_with(found.written.as_slice())
 }
 
 // A byte is written in each call; the one that fails leaves the bytes before it.
 #[test]
 fn each_write_fails(rt: HostRuntime) -> Result<(), Fail> {
     for call in 0..33 {
-        let source = MemSource::new(SUM.to_vec(rt.alloc())?, 4, Vec::new(rt.alloc()));
         let sink = MemSink::new(rt.alloc(), 33, 1, [call].to_vec(rt.alloc())?)?;
-        let found = run(rt.alloc(), &["check"], source, sink)?;
-        assert_eq!(rt; found.status, Status::WriteFault, "at {call}");
-        assert!(rt; REPLY.starts_with(found.written.as_slice()), "at {call}");
-        assert_eq!(rt; found.written.len(), call as usize, "at {call}");
+        let found = tried(rt.alloc(), &["check"], SUM, &[], sink)?;
+        assert!(rt;
+            is_front(&found, Status::WriteFault, call as usize),
+            "at {call}"
+        );
     }
     Ok(())
 }
 
 #[test]
 fn room_for_the_reply(rt: HostRuntime) -> Result<(), Fail> {
-    for (room, status) in [(33, Status::Ok), (32, Status::WriteFault)] {
-        let source = MemSource::new(SUM.to_vec(rt.alloc())?, 4, Vec::new(rt.alloc()));
-        let sink = MemSink::new(rt.alloc(), room, 1, Vec::new(rt.alloc()))?;
-        let found = run(rt.alloc(), &["check"], source, sink)?;
-        assert_eq!(rt; found.status, status, "at {room}");
-        assert!(rt; REPLY.starts_with(found.written.as_slice()), "at {room}");
-        assert_eq!(rt; found.written.len(), room, "at {room}");
+    for (room, status) in &[(33, Status::Ok), (32, Status::WriteFault)] {
+        let sink = MemSink::new(rt.alloc(), *room, 1, Vec::new(rt.alloc()))?;
+        let found = tried(rt.alloc(), &["check"], SUM, &[], sink)?;
+        assert!(rt; is_front(&found, *status, *room), "at {room}");
     }
     Ok(())
 }

@@ -1,6 +1,7 @@
 // Replies of `emit`, with the texts written by hand from the rules.
-use crate::runs::emitted;
+use crate::runs::{all_reply, ran, replies};
 use fing_top::Status;
+use std::alloc::Global;
 use std::test::Fail;
 
 const ONE: &str =
@@ -40,13 +41,7 @@ const ACCEPTED: [(&str, &str); 8] = [
 
 #[test]
 fn accepted_sources(rt: HostRuntime) -> Result<(), Fail> {
-    for (source, text) in ACCEPTED {
-        let found = emitted(rt.alloc(), source.as_bytes())?;
-        assert_eq!(rt; found.status, Status::Ok, "at {source}");
-        assert!(rt; found.written.as_slice() == text.as_bytes(), "at {source}");
-        assert!(rt; found.is_confirmed, "at {source}");
-    }
-    Ok(())
+    all_reply(&rt, rt.alloc(), "emit", Status::Ok, &ACCEPTED)
 }
 
 const REFUSED: [(&str, &str); 14] = [
@@ -68,13 +63,7 @@ const REFUSED: [(&str, &str); 14] = [
 
 #[test]
 fn refused_sources(rt: HostRuntime) -> Result<(), Fail> {
-    for (source, line) in REFUSED {
-        let found = emitted(rt.alloc(), source.as_bytes())?;
-        assert_eq!(rt; found.status, Status::Refused, "at {source}");
-        assert!(rt; found.written.as_slice() == line.as_bytes(), "at {source}");
-        assert!(rt; !found.is_confirmed, "at {source}");
-    }
-    Ok(())
+    all_reply(&rt, rt.alloc(), "emit", Status::Refused, &REFUSED)
 }
 
 // The replies of the proper fronts of `val x = 1 + 2`, from the shortest to the longest.
@@ -98,7 +87,7 @@ const FRONTS: [&str; 13] = [
 fn fronts_of_a_source(rt: HostRuntime) -> Result<(), Fail> {
     let source = b"val x = 1 + 2".as_slice();
     for (length, text) in FRONTS.iter().enumerate() {
-        let found = emitted(rt.alloc(), &source[..length])?;
+        let found = ran(rt.alloc(), &["emit"], &source[..length])?;
         assert!(rt; found.written.as_slice() == text.as_bytes(), "at {length}");
     }
     Ok(())
@@ -107,51 +96,29 @@ fn fronts_of_a_source(rt: HostRuntime) -> Result<(), Fail> {
 // Before a parenthesis, `val x =` counts 3, and each that is open counts 1.
 #[test]
 fn nested_parentheses(rt: HostRuntime) -> Result<(), Fail> {
-    let mut source = b"val x = ".to_vec(rt.alloc())?;
-    for _ in 0..996 {
-        source.push(b'(')?;
-    }
-    source.push(b'1')?;
-    for _ in 0..996 {
-        source.push(b')')?;
-    }
-    let found = emitted(rt.alloc(), &source)?;
-    assert_eq!(rt; found.status, Status::Ok);
-    assert!(rt; found.written.as_slice() == ONE.as_bytes());
+    let opens = "(".repeat(rt.alloc(), 996)?;
+    let closes = ")".repeat(rt.alloc(), 996)?;
+    let source = format!(in rt.alloc(); "val x = {opens}1{closes}")?;
+    replies(&rt, rt.alloc(), &["emit"], &source, Status::Ok, ONE)?;
+    let source = format!(in rt.alloc(); "val x = {opens}((")?;
+    let line = "refused TooDeep 1005\n";
+    replies(&rt, rt.alloc(), &["emit"], &source, Status::Refused, line)
+}
 
-    let mut source = b"val x = ".to_vec(rt.alloc())?;
-    for _ in 0..998 {
-        source.push(b'(')?;
-    }
-    let found = emitted(rt.alloc(), &source)?;
-    assert_eq!(rt; found.status, Status::Refused);
-    assert!(rt; found.written.as_slice() == b"refused TooDeep 1005\n".as_slice());
-    Ok(())
+// The text of so many bindings `val x = 1`, with the variable of the last one.
+fn bindings(alloc: Global, count: usize, last: &str) -> Result<String, Fail> {
+    let fronts = "(call (fn (rec (.val int)) ".repeat(alloc, count)?;
+    let backs = ") (rec (.val 1)))".repeat(alloc, count)?;
+    Ok(format!(in alloc; "omega 1\n(rec (x (rec (.val int))))\n{fronts}(rec (x {last})){backs}\n")?)
 }
 
 // The number of the binding `n` counts n + 3, and no token may count more than 1,000.
 #[test]
 fn as_many_bindings_as_there_may_be(rt: HostRuntime) -> Result<(), Fail> {
-    let mut source = Vec::new(rt.alloc());
-    let mut front = Vec::new(rt.alloc());
-    let mut back = Vec::new(rt.alloc());
-    for _ in 0..997 {
-        source.extend_from_slice(b"val x = 1\n")?;
-        front.extend_from_slice(b"(call (fn (rec (.val int)) ")?;
-        back.extend_from_slice(b") (rec (.val 1)))")?;
-    }
-    let mut text = b"omega 1\n(rec (x (rec (.val int))))\n".to_vec(rt.alloc())?;
-    text.extend_from_slice(&front)?;
-    text.extend_from_slice(b"(rec (x x996))")?;
-    text.extend_from_slice(&back)?;
-    text.extend_from_slice(b"\n")?;
-    let found = emitted(rt.alloc(), &source)?;
-    assert_eq!(rt; found.status, Status::Ok);
-    assert!(rt; found.written.as_slice() == text.as_slice());
-
-    source.extend_from_slice(b"val y = 1")?;
-    let found = emitted(rt.alloc(), &source)?;
-    assert_eq!(rt; found.status, Status::Refused);
-    assert!(rt; found.written.as_slice() == b"refused TooDeep 9978\n".as_slice());
-    Ok(())
+    let text = bindings(rt.alloc(), 997, "x996")?;
+    let source = "val x = 1\n".repeat(rt.alloc(), 997)?;
+    replies(&rt, rt.alloc(), &["emit"], &source, Status::Ok, &text)?;
+    let longer = format!(in rt.alloc(); "{source}val y = 1")?;
+    let line = "refused TooDeep 9978\n";
+    replies(&rt, rt.alloc(), &["emit"], &longer, Status::Refused, line)
 }

@@ -1,91 +1,81 @@
 // Words, lengths, failing sources and failing sinks.
-use crate::runs::run;
-use fing_text::{MemSink, MemSource, Sink, Source, StdSink, StdSource};
+use crate::runs::{ran, tried};
+use fing_text::{MemSink, Sink, Source, StdSink, StdSource};
 use fing_top::Status;
-use std::alloc::Global;
 use std::io::{Error, ErrorKind, Read, Write};
 use std::test::Fail;
 
 const SUM: &[u8] = b"val x = 1 + 2";
 
-fn sum(alloc: Global) -> Result<MemSource, Fail> {
-    Ok(MemSource::new(SUM.to_vec(alloc)?, 4, Vec::new(alloc)))
-}
-
-fn sink(alloc: Global) -> Result<MemSink, Fail> {
-    Ok(MemSink::new(alloc, 4096, 1, Vec::new(alloc))?)
-}
+// Words that are no command line.
+const OTHER: [&[&str]; 12] = [
+    &[],
+    &["gen"],
+    &["gen", "0"],
+    &["gen", "301"],
+    &["gen", "1", "--budget", "1"],
+    &["check", "1"],
+    &["run", "--budget", "10000001"],
+    &["emit", "1"],
+    &["emit", "--budget", "1"],
+    &["Emit"],
+    &["verify", "1"],
+    &["emit", "verify"],
+];
 
 #[test]
 fn other_words(rt: HostRuntime) -> Result<(), Fail> {
-    let lines: [&[&str]; 12] = [
-        &[],
-        &["gen"],
-        &["gen", "0"],
-        &["gen", "301"],
-        &["gen", "1", "--budget", "1"],
-        &["check", "1"],
-        &["run", "--budget", "10000001"],
-        &["emit", "1"],
-        &["emit", "--budget", "1"],
-        &["Emit"],
-        &["verify", "1"],
-        &["emit", "verify"],
-    ];
-    for words in lines {
-        let found = run(rt.alloc(), words, sum(rt.alloc())?, sink(rt.alloc())?)?;
-        assert_eq!(rt; found.status, Status::Words);
-        assert!(rt; found.written.is_empty());
-        assert!(rt; !found.is_confirmed);
+    for (row, words) in OTHER.iter().enumerate() {
+        let found = ran(rt.alloc(), words, SUM)?;
+        assert!(rt; found.is(Status::Words, b"", false), "at {row}");
     }
     Ok(())
 }
 
 #[test]
 fn words_behind_the_end_of_options(rt: HostRuntime) -> Result<(), Fail> {
-    let found = run(
-        rt.alloc(),
-        &["--", "emit"],
-        sum(rt.alloc())?,
-        sink(rt.alloc())?,
-    )?;
+    let found = ran(rt.alloc(), &["--", "emit"], SUM)?;
     assert_eq!(rt; found.status, Status::Ok);
     assert!(rt; found.is_confirmed);
     Ok(())
 }
 
+// How many spaces a source has, the status, and the reply of `emit`.
+const LENGTHS: [(usize, Status, &[u8]); 2] = [
+    (1048577, Status::TooLong, b""),
+    (1048576, Status::Ok, b"omega 1\n(rec)\n(rec)\n"),
+];
+
 #[test]
 fn lengths(rt: HostRuntime) -> Result<(), Fail> {
-    let long = vec![in rt.alloc(); b' '; 1048577]?;
-    let source = MemSource::new(long, 4096, Vec::new(rt.alloc()));
-    let found = run(rt.alloc(), &["emit"], source, sink(rt.alloc())?)?;
-    assert_eq!(rt; found.status, Status::TooLong);
-    assert!(rt; found.written.is_empty());
-
-    let whole = vec![in rt.alloc(); b' '; 1048576]?;
-    let source = MemSource::new(whole, 4096, Vec::new(rt.alloc()));
-    let found = run(rt.alloc(), &["emit"], source, sink(rt.alloc())?)?;
-    assert_eq!(rt; found.status, Status::Ok);
-    assert!(rt; found.written.as_slice() == b"omega 1\n(rec)\n(rec)\n".as_slice());
+    for (length, status, reply) in &LENGTHS {
+        let source = vec![in rt.alloc(); b' '; *length]?;
+        let found = ran(rt.alloc(), &["emit"], &source)?;
+        assert!(rt;
+            found.is(*status, reply, *status == Status::Ok),
+            "at {length}"
+        );
+    }
     Ok(())
 }
 
 #[test]
-fn failing_calls(rt: HostRuntime) -> Result<(), Fail> {
-    let source = MemSource::new(SUM.to_vec(rt.alloc())?, 4, [1].to_vec(rt.alloc())?);
-    let found = run(rt.alloc(), &["emit"], source, sink(rt.alloc())?)?;
-    assert_eq!(rt; found.status, Status::ReadFault);
-    assert!(rt; found.written.is_empty());
+fn a_read_fails(rt: HostRuntime) -> Result<(), Fail> {
+    let sink = MemSink::new(rt.alloc(), 4096, 1, Vec::new(rt.alloc()))?;
+    let found = tried(rt.alloc(), &["emit"], SUM, &[1], sink)?;
+    assert!(rt; found.is(Status::ReadFault, b"", false));
+    Ok(())
+}
 
+// A sink whose first call fails, and one that has room for a front of the reply.
+#[test]
+fn writes_fail(rt: HostRuntime) -> Result<(), Fail> {
     let fails = MemSink::new(rt.alloc(), 4096, 4096, [0].to_vec(rt.alloc())?)?;
-    let found = run(rt.alloc(), &["emit"], sum(rt.alloc())?, fails)?;
-    assert_eq!(rt; found.status, Status::WriteFault);
-    assert!(rt; found.written.is_empty());
-
+    let found = tried(rt.alloc(), &["emit"], SUM, &[], fails)?;
+    assert!(rt; found.is(Status::WriteFault, b"", true));
     let small = MemSink::new(rt.alloc(), 9, 2, Vec::new(rt.alloc()))?;
-    let found = run(rt.alloc(), &["emit"], sum(rt.alloc())?, small)?;
-    assert_eq!(rt; found.status, Status::WriteFault);
-    assert!(rt; found.written.as_slice() == b"omega 1\n(".as_slice());
+    let found = tried(rt.alloc(), &["emit"], SUM, &[], small)?;
+    assert!(rt; found.is(Status::WriteFault, b"omega 1\n(", true));
     Ok(())
 }
 

@@ -1,12 +1,12 @@
 // Generated programs. By the rules a program of size n has 5 + 3 n bindings, and its term 138 + 85 n nodes and 30 + 54 n
 // steps.
-use crate::runs::{Answer, run};
+use crate::runs::{Answer, tried};
 use fing_elab::elab;
 use fing_gen::source_of;
 use fing_lexer::tokens;
 use fing_parser::program;
 use fing_syntax::Program;
-use fing_text::{MemSink, MemSource};
+use fing_text::MemSink;
 use fing_top::Status;
 use omega_checker::{Checked, check};
 use omega_machine::{End, run as evaluate};
@@ -28,18 +28,15 @@ const COUNTS: [(&str, &str); 8] = [
 
 // The answer of `gen`, with a source whose first read fails.
 fn counted(alloc: Global, size: &str) -> Result<Answer, Fail> {
-    let source = MemSource::new(b"val x = 1".to_vec(alloc)?, 4, [0].to_vec(alloc)?);
     let sink = MemSink::new(alloc, 4096, 7, Vec::new(alloc))?;
-    run(alloc, &["gen", size], source, sink)
+    tried(alloc, &["gen", size], b"val x = 1", &[0], sink)
 }
 
 #[test]
 fn counts(rt: HostRuntime) -> Result<(), Fail> {
-    for (size, text) in COUNTS {
+    for (size, text) in &COUNTS {
         let found = counted(rt.alloc(), size)?;
-        assert!(rt; found.written.as_slice() == text.as_bytes(), "at {size}");
-        assert_eq!(rt; found.status, Status::Ok, "at {size}");
-        assert!(rt; found.is_confirmed, "at {size}");
+        assert!(rt; found.is(Status::Ok, text.as_bytes(), true), "at {size}");
     }
     Ok(())
 }
@@ -47,11 +44,11 @@ fn counts(rt: HostRuntime) -> Result<(), Fail> {
 // The tree of a source.
 fn tree(alloc: Global, source: &[u8]) -> Result<Program, Fail> {
     if source.len() > 1048576 {
-        Err::<(), &str>("too many bytes")?;
+        return Err(Fail::new("too many bytes"));
     }
     let tokens = tokens(alloc, source)?;
     if tokens.len() > 1048576 {
-        Err::<(), &str>("too many tokens")?;
+        return Err(Fail::new("too many tokens"));
     }
     Ok(program(alloc, &tokens)?)
 }

@@ -67,19 +67,27 @@ fn answer(alloc: Global, command: &str, rows: Rows, lines: u32) -> Result<Answer
     ran(alloc, &[command], source.as_bytes())
 }
 
+const TOO_HIGH: [(Rows, u32); 5] = [
+    (OPERATORS, 13),
+    (OPERATORS, 31),
+    (HIDDEN, 14),
+    (HIDDEN, 21),
+    (RECORDS, 40),
+];
+
+fn is_want_of_memory(alloc: Global, command: &str, rows: Rows, lines: u32) -> Result<bool, Fail> {
+    let found = answer(alloc, command, rows, lines)?;
+    Ok(found.is(Status::NoMemory, b"", false))
+}
+
 #[test]
 fn what_is_too_high_is_want_of_memory(rt: HostRuntime) -> Result<(), Fail> {
-    for command in ["check", "emit", "run"] {
-        for (rows, lines) in [
-            (OPERATORS, 13),
-            (OPERATORS, 31),
-            (HIDDEN, 14),
-            (HIDDEN, 21),
-            (RECORDS, 40),
-        ] {
-            let found = answer(rt.alloc(), command, rows, lines)?;
-            assert_eq!(rt; found.status, Status::NoMemory, "{command} at {lines}");
-            assert!(rt; found.written.is_empty(), "{command} at {lines}");
+    for (rows, lines) in &TOO_HIGH {
+        for command in &["check", "emit", "run"] {
+            assert!(rt;
+                is_want_of_memory(rt.alloc(), command, *rows, *lines)?,
+                "{command} at {lines}"
+            );
         }
     }
     Ok(())
@@ -87,8 +95,8 @@ fn what_is_too_high_is_want_of_memory(rt: HostRuntime) -> Result<(), Fail> {
 
 #[test]
 fn what_is_lower_is_accepted(rt: HostRuntime) -> Result<(), Fail> {
-    for (rows, lines) in [(OPERATORS, 12), (HIDDEN, 11)] {
-        let found = answer(rt.alloc(), "check", rows, lines)?;
+    for (rows, lines) in &[(OPERATORS, 12), (HIDDEN, 11)] {
+        let found = answer(rt.alloc(), "check", *rows, *lines)?;
         assert_eq!(rt; found.status, Status::Ok, "at {lines}");
     }
     Ok(())
@@ -100,13 +108,10 @@ const COMPOSED: &str =
 // Closures inside one another: each is some four forms higher than the one in it.
 #[test]
 fn a_value_that_is_too_high(rt: HostRuntime) -> Result<(), Fail> {
-    for (count, status) in [("1000", Status::Ok), ("5000", Status::NoMemory)] {
-        let mut source = COMPOSED.to_string(rt.alloc())?;
-        source.push_str(" val y = c ")?;
-        source.push_str(count)?;
-        source.push_str(" 1")?;
+    for (count, status) in &[("1000", Status::Ok), ("5000", Status::NoMemory)] {
+        let source = format!(in rt.alloc(); "{COMPOSED} val y = c {count} 1")?;
         let found = ran(rt.alloc(), &["run"], source.as_bytes())?;
-        assert_eq!(rt; found.status, status, "at {count}");
+        assert_eq!(rt; found.status, *status, "at {count}");
     }
     Ok(())
 }

@@ -1,5 +1,5 @@
 // Outcomes of `run`, found by hand from the rules of reduction.
-use crate::runs::ran;
+use crate::runs::replies;
 use fing_top::Status;
 use std::test::Fail;
 
@@ -126,15 +126,8 @@ const ROWS: [(&[&str], &str, Status, &str); 23] = [
 
 #[test]
 fn outcomes(rt: HostRuntime) -> Result<(), Fail> {
-    for (words, source, status, text) in ROWS {
-        let found = ran(rt.alloc(), words, source.as_bytes())?;
-        assert!(rt; found.written.as_slice() == text.as_bytes(), "at {source}");
-        assert_eq!(rt; found.status, status, "at {source}");
-        assert_eq!(rt;
-            found.is_confirmed,
-            status != Status::Refused,
-            "at {source}"
-        );
+    for (words, source, status, text) in &ROWS {
+        replies(&rt, rt.alloc(), words, source, *status, text)?;
     }
     Ok(())
 }

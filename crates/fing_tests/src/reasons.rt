@@ -1,5 +1,5 @@
 // One source for each reason for which a program means nothing, with its line found by hand from the rules.
-use crate::runs::checked;
+use crate::runs::all_reply;
 use fing_top::Status;
 use std::test::Fail;
 
@@ -69,12 +69,7 @@ const REASONS: [(&str, &str); 22] = [
 
 #[test]
 fn each_reason(rt: HostRuntime) -> Result<(), Fail> {
-    for (source, line) in REASONS {
-        let found = checked(rt.alloc(), source.as_bytes())?;
-        assert!(rt; found.written.as_slice() == line.as_bytes(), "at {source}");
-        assert_eq!(rt; found.status, Status::Refused, "at {source}");
-    }
-    Ok(())
+    all_reply(&rt, rt.alloc(), "check", Status::Refused, &REASONS)
 }
 
 // A condition comes before each later premise of its phrase, and a premise before each later one.
@@ -92,9 +87,5 @@ const FIRST: [(&str, &str); 6] = [
 
 #[test]
 fn the_first_condition_that_fails(rt: HostRuntime) -> Result<(), Fail> {
-    for (source, line) in FIRST {
-        let found = checked(rt.alloc(), source.as_bytes())?;
-        assert!(rt; found.written.as_slice() == line.as_bytes(), "at {source}");
-    }
-    Ok(())
+    all_reply(&rt, rt.alloc(), "check", Status::Refused, &FIRST)
 }

@@ -2,6 +2,7 @@
 use fing_text::{MemSink, MemSource};
 use fing_top::{Status, fing};
 use std::alloc::Global;
+use std::process::Abort;
 use std::test::Fail;
 
 /// What the program answers, what it writes, and whether the checker confirmed a term.
@@ -12,8 +13,17 @@ pub struct Answer {
     pub is_confirmed: bool,
 }
 
-/// The program's answer to the words, a source and a sink.
-pub fn run(
+impl Answer {
+    /// Whether the program answers and writes just so.
+    pub fn is(&self, status: Status, written: &[u8], is_confirmed: bool) -> bool {
+        self.status == status
+            && self.written.as_slice() == written
+            && self.is_confirmed == is_confirmed
+    }
+}
+
+// The program's answer to the words, a source and a sink.
+fn run(
     alloc: Global,
     words: &[&str],
     mut source: MemSource,
@@ -39,22 +49,46 @@ pub fn ran(alloc: Global, words: &[&str], source: &[u8]) -> Result<Answer, Fail>
     run(alloc, words, source, sink)
 }
 
-// The answer of a command to a source in one piece, with room for the reply.
-fn answered(alloc: Global, command: &str, source: &[u8]) -> Result<Answer, Fail> {
-    ran(alloc, &[command], source)
+/// The answer to the words and a source in small pieces, of whose reads these fail, and a sink.
+pub fn tried(
+    alloc: Global,
+    words: &[&str],
+    source: &[u8],
+    failing: &[u32],
+    sink: MemSink,
+) -> Result<Answer, Fail> {
+    let source = MemSource::new(source.to_vec(alloc)?, 4, failing.to_vec(alloc)?);
+    run(alloc, words, source, sink)
 }
 
-/// The answer of `check` to a source in one piece, with room for the reply.
-pub fn checked(alloc: Global, source: &[u8]) -> Result<Answer, Fail> {
-    answered(alloc, "check", source)
+/// A command's reply to a source, where a term is confirmed unless the status is `Refused`.
+pub fn replies(
+    rt: &impl Abort,
+    alloc: Global,
+    words: &[&str],
+    source: &str,
+    status: Status,
+    reply: &str,
+) -> Result<(), Fail> {
+    let found = ran(alloc, words, source.as_bytes())?;
+    let is_confirmed = status != Status::Refused;
+    assert!(rt;
+        found.is(status, reply.as_bytes(), is_confirmed),
+        "at {source}"
+    );
+    Ok(())
 }
 
-/// The answer of `emit` to a source in one piece, with room for the reply.
-pub fn emitted(alloc: Global, source: &[u8]) -> Result<Answer, Fail> {
-    answered(alloc, "emit", source)
-}
-
-/// The answer of `verify` to a source in one piece, with room for the reply.
-pub fn verified(alloc: Global, source: &[u8]) -> Result<Answer, Fail> {
-    answered(alloc, "verify", source)
+/// A command's replies to sources, all with one status.
+pub fn all_reply(
+    rt: &impl Abort,
+    alloc: Global,
+    command: &str,
+    status: Status,
+    rows: &[(&str, &str)],
+) -> Result<(), Fail> {
+    for (source, reply) in rows {
+        replies(rt, alloc, &[command], source, status, reply)?;
+    }
+    Ok(())
 }

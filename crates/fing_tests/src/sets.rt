@@ -1,6 +1,7 @@
 // A program of sets and counters, through every command.
-use crate::runs::{checked, emitted, ran, verified};
+use crate::runs::{ran, replies};
 use fing_top::Status;
+use std::alloc::Global;
 use std::test::Fail;
 
 const SOURCE: &str = "signature ORD = sig type t val less : t -> t -> Bool end\n\
@@ -82,16 +83,19 @@ const VALUE: &str = "C = {c = type, next = fun, read = fun, start = {by = 2, ste
     twenty = 20\n\
     two = fun\n";
 
+// Whether what is emitted for the source is well typed.
+fn emitted_is_well_typed(alloc: Global) -> Result<bool, Fail> {
+    let text = ran(alloc, &["emit"], SOURCE.as_bytes())?;
+    let found = ran(alloc, &["verify"], &text.written)?;
+    Ok(text.status == Status::Ok && found.written.as_slice() == b"well typed\n".as_slice())
+}
+
 #[test]
 fn sets_and_counters(rt: HostRuntime) -> Result<(), Fail> {
-    let found = checked(rt.alloc(), SOURCE.as_bytes())?;
-    assert_eq!(rt; found.status, Status::Ok);
-    let text = emitted(rt.alloc(), SOURCE.as_bytes())?;
-    assert_eq!(rt; text.status, Status::Ok);
-    let found = verified(rt.alloc(), &text.written)?;
-    assert!(rt; found.written.as_slice() == b"well typed\n".as_slice());
-    let found = ran(rt.alloc(), &["run"], SOURCE.as_bytes())?;
-    assert_eq!(rt; found.status, Status::Ok);
-    assert!(rt; found.written.as_slice() == VALUE.as_bytes());
-    Ok(())
+    assert_eq!(rt;
+        ran(rt.alloc(), &["check"], SOURCE.as_bytes())?.status,
+        Status::Ok
+    );
+    assert!(rt; emitted_is_well_typed(rt.alloc())?);
+    replies(&rt, rt.alloc(), &["run"], SOURCE, Status::Ok, VALUE)
 }

@@ -57,23 +57,19 @@ const ALL_TERMS: &str =
 
 // The text of these two lines, read and written again.
 fn again(alloc: Global, ty: &str, term: &str) -> Result<bool, Fail> {
-    let mut text = b"omega 1\n".to_vec(alloc)?;
-    text.extend_from_slice(ty.as_bytes())?;
-    text.push(b'\n')?;
-    text.extend_from_slice(term.as_bytes())?;
-    text.push(b'\n')?;
-    let (ty, term) = read(alloc, &text)?;
+    let text = format!(in alloc; "omega 1\n{ty}\n{term}\n")?;
+    let (ty, term) = read(alloc, text.as_bytes())?;
     let mut sink = MemSink::new(alloc, 4096, 3, Vec::new(alloc))?;
-    write_omega(&mut sink, &ty, &term)?;
-    Ok(sink.bytes() == text.as_slice())
+    let is_whole = write_omega(&mut sink, &ty, &term).is_ok();
+    Ok(is_whole && sink.bytes() == text.as_bytes())
 }
 
 #[test]
 fn each_form_goes_both_ways(rt: HostRuntime) -> Result<(), Fail> {
-    for ty in TYPES {
+    for ty in &TYPES {
         assert!(rt; again(rt.alloc(), ty, "0")?, "at {ty}");
     }
-    for term in TERMS {
+    for term in &TERMS {
         assert!(rt; again(rt.alloc(), "int", term)?, "at {term}");
     }
     assert!(rt; again(rt.alloc(), ALL_TYPES, ALL_TERMS)?);

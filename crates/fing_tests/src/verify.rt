@@ -1,7 +1,9 @@
 // Replies of `verify`, with the verdicts found by hand from the rules.
-use crate::runs::{emitted, run, verified};
-use fing_text::{MemSink, MemSource};
+use crate::runs::{all_reply, ran, replies, tried};
+use fing_text::MemSink;
 use fing_top::Status;
+use std::alloc::Global;
+use std::process::Abort;
 use std::test::Fail;
 
 const WELL_TYPED: [&str; 5] = [
@@ -14,14 +16,15 @@ const WELL_TYPED: [&str; 5] = [
 
 #[test]
 fn well_typed_texts(rt: HostRuntime) -> Result<(), Fail> {
-    for text in WELL_TYPED {
-        let found = verified(rt.alloc(), text.as_bytes())?;
-        assert_eq!(rt; found.status, Status::Ok, "at {text}");
-        assert!(rt;
-            found.written.as_slice() == b"well typed\n".as_slice(),
-            "at {text}"
-        );
-        assert!(rt; found.is_confirmed, "at {text}");
+    for text in &WELL_TYPED {
+        replies(
+            &rt,
+            rt.alloc(),
+            &["verify"],
+            text,
+            Status::Ok,
+            "well typed\n",
+        )?;
     }
     Ok(())
 }
@@ -51,63 +54,62 @@ const REFUSED: [(&str, &str); 8] = [
 
 #[test]
 fn refused_texts(rt: HostRuntime) -> Result<(), Fail> {
-    for (text, line) in REFUSED {
-        let found = verified(rt.alloc(), text.as_bytes())?;
-        assert_eq!(rt; found.status, Status::Refused, "at {text}");
-        assert!(rt; found.written.as_slice() == line.as_bytes(), "at {text}");
-        assert!(rt; !found.is_confirmed, "at {text}");
+    all_reply(&rt, rt.alloc(), "verify", Status::Refused, &REFUSED)
+}
+
+// How many parentheses are open, and why a text of them is refused.
+const OPEN: [(usize, &str); 2] = [(4001, "refused TooDeep\n"), (4000, "refused NotOmega\n")];
+
+#[test]
+fn a_text_that_is_too_deep(rt: HostRuntime) -> Result<(), Fail> {
+    for (count, line) in &OPEN {
+        let opens = "(".repeat(rt.alloc(), *count)?;
+        let text = format!(in rt.alloc(); "omega 1\n{opens}")?;
+        replies(&rt, rt.alloc(), &["verify"], &text, Status::Refused, line)?;
     }
     Ok(())
 }
 
-#[test]
-fn a_text_that_is_too_deep(rt: HostRuntime) -> Result<(), Fail> {
-    let mut text = b"omega 1\n".to_vec(rt.alloc())?;
-    for _ in 0..4001 {
-        text.push(b'(')?;
+// The text is well typed, and each of its fronts is no text.
+fn is_verified(rt: &impl Abort, alloc: Global, text: &[u8]) -> Result<(), Fail> {
+    let found = ran(alloc, &["verify"], text)?;
+    assert!(rt; found.is(Status::Ok, b"well typed\n", true));
+    for n in 0..text.len() {
+        let found = ran(alloc, &["verify"], &text[..n])?;
+        assert!(rt;
+            found.is(Status::Refused, b"refused NotOmega\n", false),
+            "at {n}"
+        );
     }
-    let found = verified(rt.alloc(), &text)?;
-    assert_eq!(rt; found.status, Status::Refused);
-    assert!(rt; found.written.as_slice() == b"refused TooDeep\n".as_slice());
-    text.pop();
-    let found = verified(rt.alloc(), &text)?;
-    assert!(rt; found.written.as_slice() == b"refused NotOmega\n".as_slice());
     Ok(())
 }
 
 #[test]
 fn what_is_emitted_is_verified(rt: HostRuntime) -> Result<(), Fail> {
-    for source in ["", "val x = 1 + 2", "val b = ~1 val a = b val b = a + b"] {
-        let text = emitted(rt.alloc(), source.as_bytes())?;
-        assert!(rt; text.is_confirmed, "at {source}");
-        let found = verified(rt.alloc(), &text.written)?;
-        assert_eq!(rt; found.status, Status::Ok, "at {source}");
-        assert!(rt; found.is_confirmed, "at {source}");
-        for n in 0..text.written.len() {
-            let front = verified(rt.alloc(), &text.written[..n])?;
-            assert!(rt;
-                front.written.as_slice() == b"refused NotOmega\n".as_slice(),
-                "at {source}"
-            );
-        }
+    for source in &["", "val x = 1 + 2", "val b = ~1 val a = b val b = a + b"] {
+        let emitted = ran(rt.alloc(), &["emit"], source.as_bytes())?;
+        assert!(rt; emitted.is_confirmed, "at {source}");
+        is_verified(&rt, rt.alloc(), &emitted.written)?;
     }
     Ok(())
 }
 
+// Commands with sources, and the fronts of their replies.
+const CUT: [(&str, &str, &str); 2] = [
+    ("emit", "val x = 1", "omeg"),
+    ("verify", "omega 1\nint\n1\n", "well"),
+];
+
 // What was confirmed stands where the sink takes only a front of the reply.
 #[test]
 fn a_sink_that_is_full(rt: HostRuntime) -> Result<(), Fail> {
-    for command in ["emit", "verify"] {
-        let source = match command {
-            "emit" => b"val x = 1".to_vec(rt.alloc())?,
-            _ => b"omega 1\nint\n1\n".to_vec(rt.alloc())?,
-        };
-        let source = MemSource::new(source, 4, Vec::new(rt.alloc()));
+    for (command, source, front) in &CUT {
         let sink = MemSink::new(rt.alloc(), 4, 4, Vec::new(rt.alloc()))?;
-        let found = run(rt.alloc(), &[command], source, sink)?;
-        assert_eq!(rt; found.status, Status::WriteFault, "at {command}");
-        assert_eq!(rt; found.written.len(), 4, "at {command}");
-        assert!(rt; found.is_confirmed, "at {command}");
+        let found = tried(rt.alloc(), &[command], source.as_bytes(), &[], sink)?;
+        assert!(rt;
+            found.is(Status::WriteFault, front.as_bytes(), true),
+            "at {command}"
+        );
     }
     Ok(())
 }

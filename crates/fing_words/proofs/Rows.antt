@@ -8,26 +8,8 @@ use Rattle.clap.specs.Faults.{fault_of, is_simple_and_free}
 use Rattle.clap.specs.declared.parser.matches.ArgMatches.{ArgMatches}
 use Rattle.fing_words.specs.SimpleCommand.{simple_command}
 use Rattle.fing_words.specs.CommandLines.{IsCommandLine, IsFound, IsRow, ReadsAs, Table}
-use Rattle.fing_words.specs.Names.{text_of}
 use Rattle.fing_words.specs.declared.command_line.CommandLine.{CommandLine}
-use Rattle.fing_words.specs.declared.command_line.CommandLine.TheVariants as line
-use Rattle.fing_words.specs.declared.table.Name.{Name}
-use Rattle.fing_words.specs.declared.table.Name.TheVariants as name
 use Rattle.fing_words.proofs.NoFault.{taken}
-
--- the command of a row has a name
-named : (command : Text) (n budget : Option Text) (l : CommandLine) → Table command n budget l → (x : Name) × (command ≡ text_of x)
-named command n budget line.Check row = (name.Check, row.0)
-named command n budget line.Emit row = (name.Emit, row.0)
-named command n budget (line.Run steps) row = (name.Run, row.0)
-named command n budget line.Verify row = (name.Verify, row.0)
-named command n budget (line.Gen size) row = (name.Gen, row.0)
-
--- a command that has no name is in no row
-pub no_row : (command : Text) (n budget : Option Text) (found : Option CommandLine) → found ≡ None
-    → ((x : Name) → command ≡ text_of x → ⊥) → IsRow command n budget found
-no_row command n budget found none nameless =
-    subst (IsRow command n budget) (sym none) (λ l row. let is = named command n budget l row in nameless is.0 is.1)
 
 -- where no command is given, no line is found
 pub none_given : (rows : List Row) (found : Option CommandLine) → found ≡ None → first_of (codes "command") rows ≡ None → IsFound rows found

@@ -1,4 +1,3 @@
 pub mod Numbers
 pub mod SimpleCommand
 pub mod CommandLines
-pub mod Names

@@ -30,8 +30,7 @@ pub fn bind_val(alloc: Global, value: Typed) -> Result<Module, Mem>
 {
     let sig = Sig::make(alloc, SigNode::Val(value.ty))?;
     let term = value_term(alloc, value.term)?;
-    let module = open_module(alloc, sig, term)?;
-    Ok(module)
+    open_module(alloc, sig, term)
 }
 
 /// `type X = T`: a type part.
@@ -42,8 +41,7 @@ pub fn bind_type(alloc: Global, ty: &Kinded) -> Result<Module, Mem>
     let kind = ty.kind.share()?;
     let sig = Sig::make(alloc, SigNode::Typ(shared, kind))?;
     let term = type_term(alloc, plain(&ty.ty), &ty.kind)?;
-    let module = open_module(alloc, sig, term)?;
-    Ok(module)
+    open_module(alloc, sig, term)
 }
 
 /// `signature X = S`: a signature part.
@@ -53,8 +51,7 @@ pub fn bind_sig(alloc: Global, sig: &Abs) -> Result<Module, Mem>
     let term = sig_term(alloc, sig)?;
     let shared = sig.share()?;
     let part = Sig::make(alloc, SigNode::Meta(shared))?;
-    let module = open_module(alloc, part, term)?;
-    Ok(module)
+    open_module(alloc, part, term)
 }
 
 // The term of a signature part.
@@ -93,6 +90,5 @@ fn finished(alloc: Global, parts: SigFields, terms: TermFields) -> Result<Module
 {
     let sig = Sig::make(alloc, SigNode::Str(parts))?;
     let term = Term::make(alloc, TermNode::Fields(terms))?;
-    let module = open_module(alloc, sig, term)?;
-    Ok(module)
+    open_module(alloc, sig, term)
 }

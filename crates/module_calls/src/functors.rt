@@ -37,8 +37,7 @@ pub fn gen_functor(alloc: Global, param: &Abs, body: Module) -> Result<Module, M
 {
     let term = generative_term(alloc, param, &body)?;
     let sig = generative_sig(alloc, param, body.sig)?;
-    let module = open_module(alloc, sig, term)?;
-    Ok(module)
+    open_module(alloc, sig, term)
 }
 
 // The term of a generative functor.
@@ -49,8 +48,7 @@ fn generative_term(alloc: Global, param: &Abs, body: &Module) -> Result<Term, Me
     let result = one_field(alloc, Label::Gen, packed)?;
     let from = encode_sig(param.body())?;
     let function = Term::make(alloc, TermNode::Lam(from, result))?;
-    let term = ty_lam_over(alloc, param.kinds(), function)?;
-    Ok(term)
+    ty_lam_over(alloc, param.kinds(), function)
 }
 
 // The signature of a generative functor.
@@ -65,8 +63,7 @@ fn generative_sig(alloc: Global, param: &Abs, target: Abs) -> Result<Sig, Mem>
         param: from,
         result: target,
     };
-    let made = Sig::make(alloc, sig)?;
-    Ok(made)
+    Sig::make(alloc, sig)
 }
 
 /// The effect, the parameter and the result of a functor's signature; the result stands under the parameter's hidden
@@ -160,8 +157,7 @@ fn applied(
     let function = insts(alloc, shared, types)?;
     let coerced = Term::make(alloc, TermNode::Call(coercion, arg))?;
     let called = Term::make(alloc, TermNode::Call(function, coerced))?;
-    let term = Term::make(alloc, TermNode::Get(called, result_label(effect)))?;
-    Ok(term)
+    Term::make(alloc, TermNode::Get(called, result_label(effect)))
 }
 
 // An abstract signature below binders, at normal types for their variables. `Err` is want of memory.
@@ -176,8 +172,7 @@ fn abs_at(alloc: Global, kinds: &Kinds, abs: &Abs, types: &[NormalTy]) -> Result
     let Some(found) = shown_sig(&put) else {
         return Err(Mem);
     };
-    let given = found.share()?;
-    Ok(given)
+    found.share()
 }
 
 // The label round the result of a functor of this effect.

@@ -42,8 +42,7 @@ fn own_type(alloc: Global, kind: &Kind, inner: u64) -> Result<NormalTy, Mem>
     let variable = Ty::make(alloc, TyNode::Var(0))?;
     let scope = [kind.share()?];
     let innermost = normal(alloc, &scope, &variable, kind)?;
-    let raised = raise(alloc, &innermost, inner, 0)?;
-    Ok(raised)
+    raise(alloc, &innermost, inner, 0)
 }
 
 // Whether the type mentions one of so many innermost variables.

@@ -36,6 +36,5 @@ pub fn named(alloc: Global, env: &Env, name: &Name) -> Result<Module, ModRefusal
     let Some(found) = env.find(alloc, name)? else {
         return Err(ModRefusal::Unbound(name.share()?));
     };
-    let module = open_module(alloc, found.0, found.1)?;
-    Ok(module)
+    Ok(open_module(alloc, found.0, found.1)?)
 }

@@ -72,8 +72,7 @@ pub fn path_sig(alloc: Global, whole: Module) -> Result<Abs, ModRefusal>
     let Some(shown) = shown_sig(&sig) else {
         unreachable!();
     };
-    let abs = shown.share()?;
-    Ok(abs)
+    Ok(shown.share()?)
 }
 
 // The term of a value part.

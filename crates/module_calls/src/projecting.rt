@@ -39,8 +39,7 @@ pub fn project(alloc: Global, whole: Module, name: &Name) -> Result<Module, ModR
     let Some(part) = find_field(fields, name) else {
         return Err(ModRefusal::NoPart(name.share()?));
     };
-    let projected = part_of(alloc, &whole, name, part)?;
-    Ok(projected)
+    Ok(part_of(alloc, &whole, name, part)?)
 }
 
 // The module that a part of a structure is. `Err` is want of memory, as for all calls below.
@@ -94,8 +93,7 @@ fn opened_part(alloc: Global, whole: &Module, name: &Name, sig: &Abs) -> Result<
     let part = named_part(alloc, &own, name)?;
     let body = packed_again(alloc, whole.sig.kinds(), &part, sig)?;
     let term = whole.term.share()?;
-    let opened = opened(alloc, term, &whole.sig, body)?;
-    Ok(opened)
+    opened(alloc, term, &whole.sig, body)
 }
 
 // The part of a term under a name.
@@ -104,8 +102,7 @@ fn named_part(alloc: Global, term: &Term, name: &Name) -> Result<Term, Mem>
 {
     let whole = term.share()?;
     let own = name.share()?;
-    let part = Term::make(alloc, TermNode::Get(whole, Label::Name(own)))?;
-    Ok(part)
+    Term::make(alloc, TermNode::Get(whole, Label::Name(own)))
 }
 
 // A term below binders, with their variables packed into it; the signature stands outside of the binders, and hides
@@ -147,8 +144,7 @@ pub(crate) fn opened(alloc: Global, term: Term, sig: &Abs, body: Term) -> Result
 pub fn packed(alloc: Global, whole: Module) -> Result<Term, Mem>
     ensures { IfOk result (λ e. (ctx : List KindTree) → OkModule ctx (module_of whole) → Packed ctx (module_of whole) e) }
 {
-    let packed = packed_term(alloc, &whole)?;
-    Ok(packed)
+    packed_term(alloc, &whole)
 }
 
 // The same, the module being kept.

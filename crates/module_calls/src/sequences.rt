@@ -78,8 +78,7 @@ pub fn include_bind(alloc: Global, first: Module, rest: Module) -> Result<Module
         types,
         term,
     };
-    let whole = seq_bind(alloc, first, last)?;
-    Ok(whole)
+    Ok(seq_bind(alloc, first, last)?)
 }
 
 // A let for each field of a structure, which is the innermost variable outside of them.
@@ -131,8 +130,7 @@ fn both_sigs(alloc: Global, first: &Abs, rest: &Abs) -> Result<Abs, Mem>
 {
     let kinds = both(alloc, first.kinds(), rest.kinds())?;
     let body = rest.body().share()?;
-    let sig = Abs::make(alloc, kinds, body)?;
-    Ok(sig)
+    Abs::make(alloc, kinds, body)
 }
 
 // Two pure ones.
@@ -161,8 +159,7 @@ fn bound_term(alloc: Global, first: &Module, rest: &Term) -> Result<Term, Mem>
     let from = encode_sig(&at)?;
     let body = instance(alloc, rest, first.types.items())?;
     let term = first.term.share()?;
-    let bound = let_in(alloc, &from, term, body)?;
-    Ok(bound)
+    let_in(alloc, &from, term, body)
 }
 
 // Two of which one is impure, or both are.
@@ -187,8 +184,7 @@ fn opened_term(alloc: Global, first: &Module, rest: &Module, whole: &Abs) -> Res
     let last = last_term(alloc, first.sig.kinds(), rest)?;
     let body = packed_again(alloc, first.sig.kinds(), &last, whole)?;
     let packed = packed_term(alloc, first)?;
-    let term = opened(alloc, packed, &first.sig, body)?;
-    Ok(term)
+    opened(alloc, packed, &first.sig, body)
 }
 
 // The rest, packed, below the opens of binders of these kinds.
@@ -196,8 +192,7 @@ fn last_term(alloc: Global, kinds: &Kinds, rest: &Module) -> Result<Term, Mem>
     ensures { IfOk result (λ e. (q : TermTree) × ((ctx : List KindTree) → OkModule ctx (module_of rest.now) → Packed ctx (module_of rest.now) q) × (e ≡ past_opens_of kinds.now q)) }
 {
     let packed = packed_term(alloc, rest)?;
-    let last = past_opens(alloc, packed, count_of(kinds))?;
-    Ok(last)
+    past_opens(alloc, packed, count_of(kinds))
 }
 
 // A term below one variable, as it stands below those of so many opens, the innermost of which is that one.
@@ -209,6 +204,5 @@ fn past_opens(alloc: Global, term: Term, count: u64) -> Result<Term, Mem>
     }
     let shifted = shift_term(alloc, &term, 0, count)?;
     let own = variable(alloc, 0)?;
-    let put = put_term(alloc, &shifted, count, &own)?;
-    Ok(put)
+    put_term(alloc, &shifted, count, &own)
 }

@@ -16,4 +16,6 @@ mod scopes;
 #[cfg(test)]
 mod terms;
 #[cfg(test)]
+mod texts;
+#[cfg(test)]
 mod writing;

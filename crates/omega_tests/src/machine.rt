@@ -3,7 +3,29 @@ use omega_checker::check;
 use omega_machine::{Arith, End, run};
 use omega_read::read;
 use std::alloc::Global;
+use std::process::Abort;
 use std::test::Fail;
+
+// How a program is to end, a value or a fault after so many steps.
+#[derive(Clone, Copy)]
+enum Ending {
+    Value(&'static str, u64),
+    Fault(Arith, u64),
+    Spent,
+}
+
+fn is(end: &End, expected: Ending) -> bool {
+    match (end, expected) {
+        (End::Value { shown, steps }, Ending::Value(text, taken)) => {
+            shown.bytes() == text.as_bytes() && *steps == taken
+        }
+        (End::Fault { fault, steps }, Ending::Fault(met, taken)) => {
+            *fault == met && *steps == taken
+        }
+        (End::Spent, Ending::Spent) => true,
+        _ => false,
+    }
+}
 
 // What the program with this Omega text comes to.
 fn outcome(alloc: Global, text: &[u8], budget: u64) -> Result<End, Fail> {
@@ -12,212 +34,185 @@ fn outcome(alloc: Global, text: &[u8], budget: u64) -> Result<End, Fail> {
     Ok(run(alloc, &checked, budget)?)
 }
 
-// What `val x = ..` with this number comes to.
-fn number(alloc: Global, term: &[u8], budget: u64) -> Result<End, Fail> {
-    let mut text = b"omega 1\n(rec (x (rec (.val int))))\n(rec (x (rec (.val ".to_vec(alloc)?;
-    text.extend_from_slice(term)?;
-    text.extend_from_slice(b"))))\n")?;
-    outcome(alloc, &text, budget)
-}
-
-fn shows(end: &End, expected: &[u8], taken: u64) -> bool {
-    matches!(end, End::Value { shown, steps } if shown.bytes() == expected && *steps == taken)
-}
-
-fn faults(end: &End, expected: Arith, taken: u64) -> bool {
-    matches!(end, End::Fault { fault, steps } if *fault == expected && *steps == taken)
-}
-
-#[test]
-fn numbers_of_64_bits(rt: HostRuntime) -> Result<(), Fail> {
-    let alloc = rt.alloc();
-    let end = number(alloc, b"9223372036854775807", 0)?;
-    assert!(rt; shows(&end, b"x = 9223372036854775807\n", 0));
-    let end = number(alloc, b"(+ 9223372036854775807 1)", 1)?;
-    assert!(rt; faults(&end, Arith::Overflow, 1));
-    let end = number(alloc, b"(- -9223372036854775807 2)", 1)?;
-    assert!(rt; faults(&end, Arith::Overflow, 1));
-    let end = number(alloc, b"(* 4294967296 2147483648)", 1)?;
-    assert!(rt; faults(&end, Arith::Overflow, 1));
-    let end = number(alloc, b"(- -9223372036854775807 1)", 1)?;
-    assert!(rt; shows(&end, b"x = -9223372036854775808\n", 1));
+fn ends(
+    rt: &impl Abort,
+    alloc: Global,
+    text: &str,
+    budget: u64,
+    ending: Ending,
+) -> Result<(), Fail> {
+    let end = outcome(alloc, text.as_bytes(), budget)?;
+    assert!(rt; is(&end, ending), "at {text} with {budget}");
     Ok(())
 }
 
+// A term of type int, a budget, and how `val x = ..` with the term ends.
+const NUMBERS: [(&str, u64, Ending); 16] = [
+    // numbers of 64 bits
+    (
+        "9223372036854775807",
+        0,
+        Ending::Value("x = 9223372036854775807\n", 0),
+    ),
+    (
+        "(+ 9223372036854775807 1)",
+        1,
+        Ending::Fault(Arith::Overflow, 1),
+    ),
+    (
+        "(- -9223372036854775807 2)",
+        1,
+        Ending::Fault(Arith::Overflow, 1),
+    ),
+    (
+        "(* 4294967296 2147483648)",
+        1,
+        Ending::Fault(Arith::Overflow, 1),
+    ),
+    (
+        "(- -9223372036854775807 1)",
+        1,
+        Ending::Value("x = -9223372036854775808\n", 1),
+    ),
+    // division
+    ("(/ -7 2)", 1, Ending::Value("x = -3\n", 1)),
+    ("(% -7 2)", 1, Ending::Value("x = -1\n", 1)),
+    ("(/ 1 0)", 1, Ending::Fault(Arith::DivideByZero, 1)),
+    ("(% 1 0)", 1, Ending::Fault(Arith::DivideByZero, 1)),
+    (
+        "(/ (- -9223372036854775807 1) -1)",
+        2,
+        Ending::Fault(Arith::Overflow, 2),
+    ),
+    (
+        "(% (- -9223372036854775807 1) -1)",
+        2,
+        Ending::Fault(Arith::Overflow, 2),
+    ),
+    ("(% (- -9223372036854775807 1) -1)", 1, Ending::Spent),
+    // a test that chooses takes one step, and the other branch none
+    ("(if true 1 (/ 1 0))", 9, Ending::Value("x = 1\n", 1)),
+    (
+        "(if (== 1 2) (/ 1 0) (+ 1 1))",
+        9,
+        Ending::Value("x = 2\n", 3),
+    ),
+    // of two operands the left one's fault is met
+    (
+        "(+ (* 2 4611686018427387904) (/ 1 0))",
+        9,
+        Ending::Fault(Arith::Overflow, 1),
+    ),
+    // a hidden type and a function of types
+    (
+        "(call (inst (tfn * (fn a0 x0)) int) (open (pack bool 7 (some * int)) x0))",
+        9,
+        Ending::Value("x = 7\n", 3),
+    ),
+];
+
 #[test]
-fn division(rt: HostRuntime) -> Result<(), Fail> {
-    let alloc = rt.alloc();
-    let end = number(alloc, b"(/ -7 2)", 1)?;
-    assert!(rt; shows(&end, b"x = -3\n", 1));
-    let end = number(alloc, b"(% -7 2)", 1)?;
-    assert!(rt; shows(&end, b"x = -1\n", 1));
-    let end = number(alloc, b"(/ 1 0)", 1)?;
-    assert!(rt; faults(&end, Arith::DivideByZero, 1));
-    let end = number(alloc, b"(% 1 0)", 1)?;
-    assert!(rt; faults(&end, Arith::DivideByZero, 1));
-    let end = number(alloc, b"(/ (- -9223372036854775807 1) -1)", 2)?;
-    assert!(rt; faults(&end, Arith::Overflow, 2));
-    let end = number(alloc, b"(% (- -9223372036854775807 1) -1)", 2)?;
-    assert!(rt; faults(&end, Arith::Overflow, 2));
-    let end = number(alloc, b"(% (- -9223372036854775807 1) -1)", 1)?;
-    assert!(rt; matches!(end, End::Spent));
+fn numbers(rt: HostRuntime) -> Result<(), Fail> {
+    for (term, budget, ending) in &NUMBERS {
+        let text = format!(in rt.alloc();
+            "omega 1\n(rec (x (rec (.val int))))\n(rec (x (rec (.val {term}))))\n"
+        )?;
+        ends(&rt, rt.alloc(), &text, *budget, *ending)?;
+    }
     Ok(())
 }
 
 // `val x = 1 + 2`
-#[test]
-fn a_binding(rt: HostRuntime) -> Result<(), Fail> {
-    let alloc = rt.alloc();
-    let text =
-        b"omega 1\n(rec (x (rec (.val int))))\n(call (fn (rec (.val int)) (rec (x x0))) (rec (.val (+ 1 2))))\n";
-    assert!(rt; shows(&outcome(alloc, text, 2)?, b"x = 3\n", 2));
-    assert!(rt; shows(&outcome(alloc, text, 10_000_000)?, b"x = 3\n", 2));
-    assert!(rt; matches!(outcome(alloc, text, 1)?, End::Spent));
-    Ok(())
-}
+const BINDING: &str =
+    "omega 1\n(rec (x (rec (.val int))))\n(call (fn (rec (.val int)) (rec (x x0))) (rec (.val (+ 1 2))))\n";
 
 // `module M = struct type t = Int val x = 5 end :> sig type t val x : t end`
-fn sealed(alloc: Global) -> Result<Vec<u8>, Fail> {
-    let mut text = b"omega 1\n".to_vec(alloc)?;
-    text.extend_from_slice(SEALED_TYPE)?;
-    text.extend_from_slice(b"\n(pack int (call (fn ")?;
-    text.extend_from_slice(SEALED_RECORD)?;
-    text.extend_from_slice(b" (rec (M x0))) (get (call (fn ")?;
-    text.extend_from_slice(SEALED_RECORD)?;
-    text.extend_from_slice(b" (call (fn ")?;
-    text.extend_from_slice(SEALED_RECORD)?;
-    text.extend_from_slice(b" (rec (%0 x1) (%1 x0))) (call (fn ")?;
-    text.extend_from_slice(SEALED_RECORD)?;
-    text.extend_from_slice(b" (rec (t (call (fn ")?;
-    text.extend_from_slice(TYPE_PART)?;
-    text.extend_from_slice(
-        b" x2) (get x1 t))) (x (call (fn (rec (.val int)) x2) (get x1 x))))) x0))) (call (fn ",
-    )?;
-    text.extend_from_slice(TYPE_PART)?;
-    text.extend_from_slice(
-        b" (call (fn (rec (.val int)) (rec (t x0) (x x1))) (rec (.val 5)))) (rec (.typ (tfn (> * *) (fn (@ a0 int) x0)))))) %0)) ",
-    )?;
-    text.extend_from_slice(SEALED_TYPE)?;
-    text.extend_from_slice(b")\n")?;
-    Ok(text)
-}
+const SEALED: &str = "omega 1\n\
+    (some * (rec (M (rec (t (rec (.typ (all (> * *) (-> (@ a1 a0) (@ a1 a0)))))) (x (rec (.val a0)))))))\n\
+    (pack int (call (fn \
+    (rec (t (rec (.typ (all (> * *) (-> (@ a0 int) (@ a0 int)))))) (x (rec (.val int)))) \
+    (rec (M x0))) (get (call (fn \
+    (rec (t (rec (.typ (all (> * *) (-> (@ a0 int) (@ a0 int)))))) (x (rec (.val int)))) \
+    (call (fn \
+    (rec (t (rec (.typ (all (> * *) (-> (@ a0 int) (@ a0 int)))))) (x (rec (.val int)))) \
+    (rec (%0 x1) (%1 x0))) (call (fn \
+    (rec (t (rec (.typ (all (> * *) (-> (@ a0 int) (@ a0 int)))))) (x (rec (.val int)))) \
+    (rec (t (call (fn \
+    (rec (.typ (all (> * *) (-> (@ a0 int) (@ a0 int))))) \
+    x2) (get x1 t))) (x (call (fn (rec (.val int)) x2) (get x1 x))))) x0))) (call (fn \
+    (rec (.typ (all (> * *) (-> (@ a0 int) (@ a0 int))))) \
+    (call (fn (rec (.val int)) (rec (t x0) (x x1))) (rec (.val 5)))) \
+    (rec (.typ (tfn (> * *) (fn (@ a0 int) x0)))))) %0)) \
+    (some * (rec (M (rec (t (rec (.typ (all (> * *) (-> (@ a1 a0) (@ a1 a0)))))) (x (rec (.val a0))))))))\n";
 
-const TYPE_PART: &[u8] = b"(rec (.typ (all (> * *) (-> (@ a0 int) (@ a0 int)))))";
-
-const SEALED_RECORD: &[u8] =
-    b"(rec (t (rec (.typ (all (> * *) (-> (@ a0 int) (@ a0 int)))))) (x (rec (.val int))))";
-
-const SEALED_TYPE: &[u8] =
-    b"(some * (rec (M (rec (t (rec (.typ (all (> * *) (-> (@ a1 a0) (@ a1 a0)))))) (x (rec (.val a0)))))))";
-
-#[test]
-fn a_sealed_structure(rt: HostRuntime) -> Result<(), Fail> {
-    let alloc = rt.alloc();
-    let text = sealed(alloc)?;
-    assert!(rt; shows(&outcome(alloc, &text, 11)?, b"M = {t = type, x = 5}\n", 11));
-    assert!(rt; matches!(outcome(alloc, &text, 10)?, End::Spent));
-    Ok(())
-}
-
-// What `val f = fix g (n : Int) : Int => .. val y = f ..` comes to, with the body and the argument given. The names
-// are `(get (rec (.val x0)) .val)` for g and `(get (rec (.val x1)) .val)` for n.
-fn recursive(alloc: Global, body: &[u8], arg: &[u8], budget: u64) -> Result<End, Fail> {
-    let mut text =
-        b"omega 1\n(rec (f (rec (.val (-> int int)))) (y (rec (.val int))))\n(call (fn (rec (.val (-> int int))) (call (fn (rec (.val int)) (rec (f x0) (y x1))) (rec (.val (call (get x0 .val) ".to_vec(
-            alloc,
-        )?;
-    text.extend_from_slice(arg)?;
-    text.extend_from_slice(b"))))) (rec (.val (fix int int ")?;
-    text.extend_from_slice(body)?;
-    text.extend_from_slice(b"))))\n")?;
-    outcome(alloc, &text, budget)
-}
-
-// `g x` in `fix g (x : Int) : Int`
-#[test]
-fn a_loop_spends_every_budget(rt: HostRuntime) -> Result<(), Fail> {
-    let alloc = rt.alloc();
-    let body = b"(call (get (rec (.val x0)) .val) (get (rec (.val x1)) .val))";
-    assert!(rt; matches!(recursive(alloc, body, b"1", 1_000_000)?, End::Spent));
-    Ok(())
-}
-
-// `if n < 1 then 0 else g (n - 1)`
-#[test]
-fn counting_down(rt: HostRuntime) -> Result<(), Fail> {
-    let alloc = rt.alloc();
-    let body =
-        b"(if (< (get (rec (.val x1)) .val) 1) 0 (call (get (rec (.val x0)) .val) (- (get (rec (.val x1)) .val) 1)))";
-    let end = recursive(alloc, body, b"3", 28)?;
-    assert!(rt; shows(&end, b"f = fun\ny = 0\n", 28));
-    assert!(rt; matches!(recursive(alloc, body, b"3", 27)?, End::Spent));
-    Ok(())
-}
-
-// `g x + 1`, whose calls nest
-#[test]
-fn nested_calls_take_no_stack(rt: HostRuntime) -> Result<(), Fail> {
-    let alloc = rt.alloc();
-    assert!(rt;
-        matches!(
-            recursive(alloc, b"(+ (call x0 x1) 1)", b"1", 300_000)?,
-            End::Spent
-        )
-    );
-    Ok(())
-}
-
-// A test that chooses takes one step, and the other branch none.
-#[test]
-fn one_branch_is_reduced(rt: HostRuntime) -> Result<(), Fail> {
-    let alloc = rt.alloc();
-    let end = number(alloc, b"(if true 1 (/ 1 0))", 9)?;
-    assert!(rt; shows(&end, b"x = 1\n", 1));
-    let end = number(alloc, b"(if (== 1 2) (/ 1 0) (+ 1 1))", 9)?;
-    assert!(rt; shows(&end, b"x = 2\n", 3));
-    Ok(())
-}
-
-// The first field's fault is met, and of two operands the left one's.
-#[test]
-fn from_left_to_right(rt: HostRuntime) -> Result<(), Fail> {
-    let alloc = rt.alloc();
-    let text =
-        b"omega 1\n(rec (a int) (b int))\n(rec (a (+ 1 (/ 1 0))) (b (+ 9223372036854775807 1)))\n";
-    assert!(rt; faults(&outcome(alloc, text, 9)?, Arith::DivideByZero, 1));
-    let end = number(alloc, b"(+ (* 2 4611686018427387904) (/ 1 0))", 9)?;
-    assert!(rt; faults(&end, Arith::Overflow, 1));
-    Ok(())
-}
-
-#[test]
-fn values_are_shown(rt: HostRuntime) -> Result<(), Fail> {
-    let alloc = rt.alloc();
-    let text = b"omega 1\n(rec (s (rec (.val text))))\n(rec (s (rec (.val \"a\\\"b\\\\c\\n\"))))\n";
-    assert!(rt; shows(&outcome(alloc, text, 0)?, b"s = \"a\\\"b\\\\c\\n\"\n", 0));
-    let text = b"omega 1\n(rec)\n(rec)\n";
-    assert!(rt; shows(&outcome(alloc, text, 0)?, b"", 0));
-    let text =
-        b"omega 1\n(rec (A (rec)) (B (rec (.sig (-> int int)))) (c (rec (.val (rec (p bool) (q (some * a0)))))))\n(rec (A (rec)) (B (rec (.sig (fn int x0)))) (c (rec (.val (rec (p false) (q (pack int 1 (some * a0))))))))\n";
-    assert!(rt;
-        shows(
-            &outcome(alloc, text, 0)?,
-            b"A = {}\nB = sig\nc = {p = false, q = pack}\n",
-            0
-        )
-    );
-    Ok(())
-}
-
-// A hidden type and a function of types.
-#[test]
-fn types_are_put_in(rt: HostRuntime) -> Result<(), Fail> {
-    let alloc = rt.alloc();
-    let end = number(
-        alloc,
-        b"(call (inst (tfn * (fn a0 x0)) int) (open (pack bool 7 (some * int)) x0))",
+const PROGRAMS: [(&str, u64, Ending); 9] = [
+    (BINDING, 2, Ending::Value("x = 3\n", 2)),
+    (BINDING, 10_000_000, Ending::Value("x = 3\n", 2)),
+    (BINDING, 1, Ending::Spent),
+    (SEALED, 11, Ending::Value("M = {t = type, x = 5}\n", 11)),
+    (SEALED, 10, Ending::Spent),
+    // of two fields the first one's fault is met
+    (
+        "omega 1\n(rec (a int) (b int))\n(rec (a (+ 1 (/ 1 0))) (b (+ 9223372036854775807 1)))\n",
         9,
-    )?;
-    assert!(rt; shows(&end, b"x = 7\n", 3));
+        Ending::Fault(Arith::DivideByZero, 1),
+    ),
+    // what values show
+    (
+        "omega 1\n(rec (s (rec (.val text))))\n(rec (s (rec (.val \"a\\\"b\\\\c\\n\"))))\n",
+        0,
+        Ending::Value("s = \"a\\\"b\\\\c\\n\"\n", 0),
+    ),
+    ("omega 1\n(rec)\n(rec)\n", 0, Ending::Value("", 0)),
+    (
+        "omega 1\n(rec (A (rec)) (B (rec (.sig (-> int int)))) (c (rec (.val (rec (p bool) (q (some * a0)))))))\n(rec (A (rec)) (B (rec (.sig (fn int x0)))) (c (rec (.val (rec (p false) (q (pack int 1 (some * a0))))))))\n",
+        0,
+        Ending::Value("A = {}\nB = sig\nc = {p = false, q = pack}\n", 0),
+    ),
+];
+
+#[test]
+fn programs(rt: HostRuntime) -> Result<(), Fail> {
+    for (text, budget, ending) in &PROGRAMS {
+        ends(&rt, rt.alloc(), text, *budget, *ending)?;
+    }
+    Ok(())
+}
+
+// Bodies of g and arguments in `val f = fix g (n : Int) : Int => .. val y = f ..`, a budget, and how it ends. The names
+// are `(get (rec (.val x0)) .val)` for g and `(get (rec (.val x1)) .val)` for n.
+const RECURSIVE: [(&str, &str, u64, Ending); 4] = [
+    // `g n`
+    (
+        "(call (get (rec (.val x0)) .val) (get (rec (.val x1)) .val))",
+        "1",
+        1_000_000,
+        Ending::Spent,
+    ),
+    // `if n < 1 then 0 else g (n - 1)`
+    (
+        "(if (< (get (rec (.val x1)) .val) 1) 0 (call (get (rec (.val x0)) .val) (- (get (rec (.val x1)) .val) 1)))",
+        "3",
+        28,
+        Ending::Value("f = fun\ny = 0\n", 28),
+    ),
+    (
+        "(if (< (get (rec (.val x1)) .val) 1) 0 (call (get (rec (.val x0)) .val) (- (get (rec (.val x1)) .val) 1)))",
+        "3",
+        27,
+        Ending::Spent,
+    ),
+    // `g n + 1`, whose calls nest and take no stack
+    ("(+ (call x0 x1) 1)", "1", 300_000, Ending::Spent),
+];
+
+#[test]
+fn recursion(rt: HostRuntime) -> Result<(), Fail> {
+    for (body, arg, budget, ending) in &RECURSIVE {
+        let text = format!(in rt.alloc();
+            "omega 1\n(rec (f (rec (.val (-> int int)))) (y (rec (.val int))))\n(call (fn (rec (.val (-> int int))) (call (fn (rec (.val int)) (rec (f x0) (y x1))) (rec (.val (call (get x0 .val) {arg}))))) (rec (.val (fix int int {body}))))\n"
+        )?;
+        ends(&rt, rt.alloc(), &text, *budget, *ending)?;
+    }
     Ok(())
 }

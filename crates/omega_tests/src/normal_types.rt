@@ -1,188 +1,168 @@
-// Normal forms, kinds and substitutions of types that are written beside them, and of a deep type.
-use omega_kinds::{Kind, Label, Mem, arrow};
-use omega_types::{Ty, TyFields, TyNode, kind_of, shift, substitute};
+// Normal forms, kinds and substitutions of types that are written beside them, and of deep types. A text with binders
+// `some` outermost stands for the type below them, and the first of them gives the variable its kind.
+use crate::texts::{below_somes, nested, ty};
+use omega_kinds::{Kind, Mem};
+use omega_types::{Ty, TyNode, kind_of, substitute};
 use std::alloc::Global;
 use std::test::Fail;
 use type_normal::{NormalTy, as_normal, hsubst, lower, mentions, normal, raise, same};
 
-fn var(alloc: Global, index: u64) -> Result<Ty, Mem> {
-    Ty::make(alloc, TyNode::Var(index))
+// What is made of a type: its normal form, or a type with another one in place of its variable, hereditarily or not, or
+// with its variables raised or lowered.
+#[derive(Clone, Copy)]
+enum Change {
+    Normal,
+    Filled(&'static str),
+    Replaced(&'static str),
+    Raised(u64),
+    Lowered(u64),
 }
 
-fn int(alloc: Global) -> Result<Ty, Mem> {
-    Ty::make(alloc, TyNode::Int)
+// The type below the binders.
+fn open(ty: &Ty) -> Result<NormalTy, Mem> {
+    Ok(as_normal(below_somes(ty).share()?))
 }
 
-fn apply(alloc: Global, operator: Ty, arg: Ty) -> Result<Ty, Mem> {
-    Ty::make(alloc, TyNode::Apply(operator, arg))
-}
-
-// (lam * body)
-fn lam(alloc: Global, body: Ty) -> Result<Ty, Mem> {
-    Ty::make(alloc, TyNode::Lam(Kind::Star, body))
-}
-
-// (-> ty ty)
-fn twice(alloc: Global, ty: Ty) -> Result<Ty, Mem> {
-    let to = ty.share()?;
-    Ty::make(alloc, TyNode::Arrow(ty, to))
-}
-
-// (> * *)
-fn operators(alloc: Global) -> Result<Kind, Mem> {
-    arrow(alloc, Kind::Star, Kind::Star)
-}
-
-// (@ v int), where v is the innermost variable
-fn applied(alloc: Global) -> Result<Ty, Mem> {
-    apply(alloc, var(alloc, 0)?, int(alloc)?)
-}
-
-// (lam * a0)
-fn identity(alloc: Global) -> Result<Ty, Mem> {
-    lam(alloc, var(alloc, 0)?)
-}
-
-fn is(found: &NormalTy, expected: Ty) -> bool {
-    same(found, &as_normal(expected))
-}
-
-// (@ (lam * (-> a0 a0)) int) at * is (-> int int)
-fn redex(alloc: Global) -> Result<bool, Mem> {
-    let operator = lam(alloc, twice(alloc, var(alloc, 0)?)?)?;
-    let found = normal(
-        alloc,
-        &[],
-        &apply(alloc, operator, int(alloc)?)?,
-        &Kind::Star,
-    )?;
-    Ok(is(&found, twice(alloc, int(alloc)?)?))
-}
-
-// a0 of kind (> * *) is (lam * (@ a0 a1))
-fn operator(alloc: Global) -> Result<bool, Mem> {
-    let ctx = [operators(alloc)?];
-    let found = normal(alloc, &ctx, &var(alloc, 0)?, &operators(alloc)?)?;
-    let body = apply(alloc, var(alloc, 1)?, var(alloc, 0)?)?;
-    Ok(is(&found, lam(alloc, body)?))
-}
-
-// (@ (lam * int) v) mentions v, and its normal form does not
-fn unmentioned(alloc: Global) -> Result<bool, Mem> {
-    let ty = apply(alloc, lam(alloc, int(alloc)?)?, var(alloc, 0)?)?;
-    let found = normal(alloc, &[Kind::Star], &ty, &Kind::Star)?;
-    Ok(mentions(&as_normal(ty), 0) && !mentions(&found, 0))
-}
-
-// (@ int int) has no kind
-fn kindless(alloc: Global) -> Result<bool, Mem> {
-    let ty = apply(alloc, int(alloc)?, int(alloc)?)?;
-    Ok(kind_of(alloc, &[], &ty)?.is_none())
-}
-
-// (rec (.val int) (.typ a0))
-fn record(alloc: Global) -> Result<Ty, Mem> {
-    let mut fields = TyFields::new(alloc);
-    fields.push((Label::Val, int(alloc)?))?;
-    fields.push((Label::Typ, var(alloc, 0)?))?;
-    Ty::make(alloc, TyNode::Fields(fields))
-}
-
-// the record has kind *
-fn kind_of_record(alloc: Global) -> Result<bool, Mem> {
-    let found = kind_of(alloc, &[Kind::Star], &record(alloc)?)?;
-    Ok(matches!(found, Some(Kind::Star)))
-}
-
-// (@ v int) with v replaced by (lam * a0) is int hereditarily
-fn filled(alloc: Global) -> Result<bool, Mem> {
-    let body = as_normal(applied(alloc)?);
-    let arg = as_normal(identity(alloc)?);
-    let found = hsubst(alloc, &body, 0, &arg, &operators(alloc)?)?;
-    Ok(is(&found, int(alloc)?))
-}
-
-// and (@ (lam * a0) int) by plain substitution
-fn substituted(alloc: Global) -> Result<bool, Mem> {
-    let found = substitute(alloc, &applied(alloc)?, 0, &identity(alloc)?)?;
-    let expected = apply(alloc, identity(alloc)?, int(alloc)?)?;
-    Ok(is(&as_normal(found), expected))
-}
-
-// int lowered by 1 is int
-fn lowered(alloc: Global) -> Result<bool, Mem> {
-    let found = lower(alloc, &as_normal(int(alloc)?), 1)?;
-    Ok(is(&found, int(alloc)?))
-}
-
-// raising moves the variable of the record, and lowering moves it back
-fn raised(alloc: Global) -> Result<bool, Mem> {
-    let found = raise(alloc, &as_normal(record(alloc)?), 2, 0)?;
-    let back = lower(alloc, &found.share()?, 2)?;
-    Ok(mentions(&found, 2) && is(&back, record(alloc)?))
-}
-
-#[test]
-fn normal_forms(rt: HostRuntime) -> Result<(), Fail> {
-    assert!(rt; redex(rt.alloc())?);
-    assert!(rt; operator(rt.alloc())?);
-    assert!(rt; unmentioned(rt.alloc())?);
-    Ok(())
-}
-
-#[test]
-fn kinds_and_substitutions(rt: HostRuntime) -> Result<(), Fail> {
-    assert!(rt; kindless(rt.alloc())?);
-    assert!(rt; kind_of_record(rt.alloc())?);
-    assert!(rt; filled(rt.alloc())?);
-    assert!(rt; substituted(rt.alloc())?);
-    assert!(rt; lowered(rt.alloc())?);
-    assert!(rt; raised(rt.alloc())?);
-    Ok(())
-}
-
-const DEPTH: u64 = 4_000;
-
-// the body below so many binders `all`
-fn nested(alloc: Global, body: Ty) -> Result<Ty, Mem> {
-    let mut whole = body;
-    for _ in 0..DEPTH {
-        whole = Ty::make(alloc, TyNode::All(Kind::Star, whole))?;
+fn normal_of(alloc: Global, ty: &Ty) -> Result<NormalTy, Mem> {
+    match ty.node() {
+        TyNode::Ex(kind, body) => normal(alloc, &[kind.share()?], body, kind),
+        _ => normal(alloc, &[], ty, &Kind::Star),
     }
-    Ok(whole)
 }
 
-// the variable outside below the binders
-fn deep(alloc: Global) -> Result<Ty, Mem> {
-    nested(alloc, var(alloc, DEPTH)?)
+fn filled(alloc: Global, ty: &Ty, arg: &NormalTy) -> Result<NormalTy, Mem> {
+    match ty.node() {
+        TyNode::Ex(kind, _) => hsubst(alloc, &open(ty)?, 0, arg, kind),
+        _ => open(ty),
+    }
 }
 
-fn deep_kind(alloc: Global) -> Result<bool, Mem> {
-    let found = kind_of(alloc, &[Kind::Star], &deep(alloc)?)?;
-    Ok(matches!(found, Some(Kind::Star)))
+fn changed(alloc: Global, whole: &Ty, change: Change) -> Result<NormalTy, Fail> {
+    match change {
+        Change::Normal => Ok(normal_of(alloc, whole)?),
+        Change::Filled(arg) => Ok(filled(alloc, whole, &as_normal(ty(alloc, arg)?))?),
+        Change::Replaced(arg) => Ok(as_normal(substitute(
+            alloc,
+            below_somes(whole),
+            0,
+            &ty(alloc, arg)?,
+        )?)),
+        Change::Raised(by) => Ok(raise(alloc, &open(whole)?, by, 0)?),
+        Change::Lowered(by) => Ok(lower(alloc, &open(whole)?, by)?),
+    }
 }
 
-fn deep_normal(alloc: Global) -> Result<bool, Mem> {
-    let found = normal(alloc, &[Kind::Star], &deep(alloc)?, &Kind::Star)?;
-    Ok(is(&found, deep(alloc)?))
+// Whether the change makes the one type of the other.
+fn makes(alloc: Global, given: &str, change: Change, expected: &str) -> Result<bool, Fail> {
+    let found = changed(alloc, &ty(alloc, given)?, change)?;
+    Ok(same(&found, &open(&ty(alloc, expected)?)?))
 }
 
-fn deep_filled(alloc: Global) -> Result<bool, Mem> {
-    let arg = as_normal(int(alloc)?);
-    let found = hsubst(alloc, &as_normal(deep(alloc)?), 0, &arg, &Kind::Star)?;
-    Ok(is(&found, nested(alloc, int(alloc)?)?))
+const CHANGES: [(&str, Change, &str); 8] = [
+    ("(@ (lam * (-> a0 a0)) int)", Change::Normal, "(-> int int)"),
+    (
+        "(some (> * *) a0)",
+        Change::Normal,
+        "(some (> * *) (lam * (@ a0 a1)))",
+    ),
+    ("(some * (@ (lam * int) a0))", Change::Normal, "int"),
+    (
+        "(some (> * *) (@ a0 int))",
+        Change::Filled("(lam * a0)"),
+        "int",
+    ),
+    (
+        "(some (> * *) (@ a0 int))",
+        Change::Replaced("(lam * a0)"),
+        "(@ (lam * a0) int)",
+    ),
+    ("int", Change::Lowered(1), "int"),
+    (
+        "(some * (rec (.val int) (.typ a0)))",
+        Change::Raised(2),
+        "(some * (some * (some * (rec (.val int) (.typ a0)))))",
+    ),
+    (
+        "(some * (some * (some * (rec (.val int) (.typ a0)))))",
+        Change::Lowered(2),
+        "(some * (rec (.val int) (.typ a0)))",
+    ),
+];
+
+#[test]
+fn changes(rt: HostRuntime) -> Result<(), Fail> {
+    for (given, change, expected) in &CHANGES {
+        assert!(rt; makes(rt.alloc(), given, *change, expected)?, "at {given}");
+    }
+    Ok(())
 }
 
-fn deep_shifted(alloc: Global) -> Result<bool, Mem> {
-    let found = shift(alloc, &deep(alloc)?, 1, 0)?;
-    Ok(!is(&as_normal(found), deep(alloc)?))
+// Whether the type mentions the variable of this index.
+const MENTIONS: [(&str, u64, bool); 3] = [
+    ("(some * (@ (lam * int) a0))", 0, true),
+    ("int", 0, false),
+    (
+        "(some * (some * (some * (rec (.val int) (.typ a0)))))",
+        2,
+        true,
+    ),
+];
+
+#[test]
+fn variables_are_mentioned(rt: HostRuntime) -> Result<(), Fail> {
+    for (text, index, is_there) in &MENTIONS {
+        let found = open(&ty(rt.alloc(), text)?)?;
+        assert_eq!(rt; mentions(&found, *index), *is_there, "at {text}");
+    }
+    Ok(())
 }
+
+// Whether the type has kind `*`.
+const KINDS: [(&str, bool); 2] = [
+    ("(@ int int)", false),
+    ("(some * (rec (.val int) (.typ a0)))", true),
+];
+
+fn has_kind_star(alloc: Global, text: &str) -> Result<bool, Fail> {
+    let whole = ty(alloc, text)?;
+    let kind = match whole.node() {
+        TyNode::Ex(kind, body) => kind_of(alloc, &[kind.share()?], body)?,
+        _ => kind_of(alloc, &[], &whole)?,
+    };
+    Ok(matches!(kind, Some(Kind::Star)))
+}
+
+#[test]
+fn kinds(rt: HostRuntime) -> Result<(), Fail> {
+    for (text, is_star) in &KINDS {
+        assert_eq!(rt; has_kind_star(rt.alloc(), text)?, *is_star, "at {text}");
+    }
+    Ok(())
+}
+
+// The inner type below 3,990 binders `all`, and they between a front and an end.
+fn deep(alloc: Global, front: &str, inner: &str, end: &str) -> Result<String, Fail> {
+    let binders = nested(alloc, 3990, "(all * ", inner, ")")?;
+    Ok(format!(in alloc; "{front}{binders}{end}")?)
+}
+
+// What becomes of the variable that is bound outside.
+const DEEP: [(Change, &str, &str, &str); 3] = [
+    (Change::Normal, "(some * ", "a0", ")"),
+    (Change::Filled("int"), "", "int", ""),
+    (Change::Raised(1), "(some * (some * ", "a0", "))"),
+];
 
 #[test]
 fn deep_types(rt: HostRuntime) -> Result<(), Fail> {
-    assert!(rt; deep_kind(rt.alloc())?);
-    assert!(rt; deep_normal(rt.alloc())?);
-    assert!(rt; deep_filled(rt.alloc())?);
-    assert!(rt; deep_shifted(rt.alloc())?);
+    let given = deep(rt.alloc(), "(some * ", "a0", ")")?;
+    assert!(rt; has_kind_star(rt.alloc(), &given)?);
+    for (change, front, inner, end) in &DEEP {
+        let expected = deep(rt.alloc(), front, inner, end)?;
+        assert!(rt;
+            makes(rt.alloc(), &given, *change, &expected)?,
+            "at {inner}"
+        );
+    }
     Ok(())
 }

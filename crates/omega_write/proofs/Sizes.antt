@@ -61,8 +61,8 @@ weight (piece.Label l) = 0
 weight (piece.Kind k) = 6 * kind_size (kind_tree k.now) + 1
 weight (piece.Ty n t) = 6 * ty_size t.now + 1
 weight (piece.TyFields n f) = 6 * row_size (row f.now) + 1
-weight (piece.Term n m e) = 6 * term_size e.now + 1
-weight (piece.TermFields n m f) = 6 * term_row_size (term_row f.now) + 1
+weight (piece.Term here e) = 6 * term_size e.now + 1
+weight (piece.TermFields here f) = 6 * term_row_size (term_row f.now) + 1
 
 abbrev pub weights : List Piece → ℕ
 weights [] = 0

@@ -19,13 +19,17 @@ piece_text (piece.Label l) = label_text l.now
 piece_text (piece.Kind k) = kind_text (kind_tree k.now)
 piece_text (piece.Ty n t) = counted_ty n t.now
 piece_text (piece.TyFields n f) = counted_row n (row f.now)
-piece_text (piece.Term n m e) = counted_term n m e.now
-piece_text (piece.TermFields n m f) = counted_term_row n m (term_row f.now)
+piece_text (piece.Term here e) = counted_term here.types here.terms e.now
+piece_text (piece.TermFields here f) = counted_term_row here.types here.terms (term_row f.now)
 
 abbrev pub pieces_text : List Piece → List ℕ
 pieces_text [] = []
 pieces_text (p ∷ []) = piece_text p
 pieces_text (p ∷ q ∷ ps) = piece_text p then pieces_text (q ∷ ps)
+
+-- a record of fields
+abbrev pub record_text : (fields : List ℕ) → List ℕ
+record_text fields = codes "(rec" then fields then codes ")"
 
 -- forms of two and of three parts
 abbrev pub two_text : (front first second : List ℕ) → List ℕ

@@ -6,11 +6,13 @@ ghost use Rattle.omega_terms.specs.Fields.{term_row};
 ghost use Rattle.omega_terms.specs.InScope.{TyInScope, TermInScope};
 ghost use Rattle.omega_terms.specs.KindText.{kind_text};
 ghost use Rattle.omega_terms.specs.OmegaText.{omega_text};
-ghost use Rattle.omega_terms.specs.TermText.{term_text, op_front};
+ghost use Rattle.omega_terms.specs.TermText.{term_text, op_front, quoted_text};
 ghost use Rattle.omega_terms.specs.TypeText.{ty_text};
-ghost use Rattle.std.specs.Prelude.{◌≡◌};
+ghost use Rattle.std.specs.Prelude.{◌≡◌, decimal};
+ghost use Rattle.omega_kinds.specs.Text.{◌then◌};
 ghost use Rattle.omega_write.specs.Counted.{level_in, next_in, counted_ty, counted_row, counted_term, counted_term_row};
-ghost use Rattle.omega_write.specs.Pieces.{piece_text, pieces_text, field_text, two_text, three_text};
+ghost use Rattle.omega_write.specs.Pieces.{piece_text, pieces_text, record_text, field_text, two_text, three_text};
+ghost use Rattle.omega_write.specs.declared.trees.Piece.TheVariants as piece;
 
 use crate::leaves::{write_bytes, write_label, write_number, write_signed};
 use fing_text::{Sink, WriteFault, put};
@@ -29,8 +31,51 @@ enum Piece<'a> {
     Kind(&'a Kind),
     Ty(u64, &'a Ty),
     TyFields(u64, &'a TyFields),
-    Term(u64, u64, &'a Term),
-    TermFields(u64, u64, &'a TermFields),
+    Term(Scope, &'a Term),
+    TermFields(Scope, &'a TermFields),
+}
+
+// How many type variables and how many term variables are in scope.
+#[derive(Clone, Copy)]
+struct Scope {
+    types: u64,
+    terms: u64,
+}
+
+impl Scope {
+    // Below a binder of a type variable.
+    fn under_type(self) -> Scope
+        ensures { result ≡ record { types = next_in self.types; terms = self.terms } }
+    {
+        Scope {
+            types: next(self.types),
+            terms: self.terms,
+        }
+    }
+
+    // Below a binder of a term variable.
+    fn under_term(self) -> Scope
+        ensures { result ≡ record { types = self.types; terms = next_in self.terms } }
+    {
+        Scope {
+            types: self.types,
+            terms: next(self.terms),
+        }
+    }
+
+    // A type here.
+    fn ty<'x>(self, ty: &'x Ty) -> Piece<'x>
+        ensures { result ≡ piece.Ty self.types ty.entry }
+    {
+        Piece::Ty(self.types, ty)
+    }
+
+    // A term here.
+    fn term<'x>(self, term: &'x Term) -> Piece<'x>
+        ensures { result ≡ piece.Term self term.entry }
+    {
+        Piece::Term(self, term)
+    }
 }
 
 // The level of a variable, where so many of its sort are in scope.
@@ -65,22 +110,12 @@ fn write_type<K: Sink>(sink: &mut K, types: u64, ty: &Ty) -> Result<(), WriteFau
     ensures { Wrote (K.told sink.old) (K.told sink.new) (counted_ty types ty.now) result }
 {
     match ty.node() {
-        TyNode::Var(index) => write_pieces(
-            sink,
-            &[Piece::Bytes(b"a"), Piece::Number(level(types, *index))],
-        ),
+        TyNode::Var(index) => write_variable(sink, b"a", level(types, *index)),
         TyNode::Int => put(sink, b"int"),
         TyNode::Bool => put(sink, b"bool"),
         TyNode::Text => put(sink, b"text"),
         TyNode::Arrow(a, b) => write_two(sink, b"(-> ", Piece::Ty(types, a), Piece::Ty(types, b)),
-        TyNode::Fields(fields) => write_pieces(
-            sink,
-            &[
-                Piece::Bytes(b"(rec"),
-                Piece::TyFields(types, fields),
-                Piece::Bytes(b")"),
-            ],
-        ),
+        TyNode::Fields(fields) => write_record(sink, Piece::TyFields(types, fields)),
         TyNode::All(k, b) => write_two(sink, b"(all ", Piece::Kind(k), Piece::Ty(next(types), b)),
         TyNode::Ex(k, b) => write_two(sink, b"(some ", Piece::Kind(k), Piece::Ty(next(types), b)),
         TyNode::Lam(k, b) => write_two(sink, b"(lam ", Piece::Kind(k), Piece::Ty(next(types), b)),
@@ -101,111 +136,38 @@ fn write_ty_fields<K: Sink>(sink: &mut K, types: u64, fields: &TyFields) -> Resu
 
 // Writes a term, whose variables in scope are counted modulo 2^64.
 #[cycle(trees)]
-fn write_expression<K: Sink>(
-    sink: &mut K,
-    types: u64,
-    terms: u64,
-    term: &Term,
-) -> Result<(), WriteFault>
-    ensures { Wrote (K.told sink.old) (K.told sink.new) (counted_term types terms term.now) result }
+fn write_expression<K: Sink>(sink: &mut K, here: Scope, term: &Term) -> Result<(), WriteFault>
+    ensures { Wrote (K.told sink.old) (K.told sink.new) (counted_term here.types here.terms term.now) result }
 {
+    let under = here.under_term();
     match term.node() {
-        TermNode::Var(index) => write_pieces(
-            sink,
-            &[Piece::Bytes(b"x"), Piece::Number(level(terms, *index))],
-        ),
+        TermNode::Var(index) => write_variable(sink, b"x", level(here.terms, *index)),
         TermNode::Int(z) => write_signed(sink, *z),
         TermNode::Bool(true) => put(sink, b"true"),
         TermNode::Bool(false) => put(sink, b"false"),
-        TermNode::Text(text) => write_pieces(
-            sink,
-            &[
-                Piece::Bytes(b"\""),
-                Piece::Text(text.bytes()),
-                Piece::Bytes(b"\""),
-            ],
-        ),
-        TermNode::Lam(t, e) => {
-            write_two(
-                sink,
-                b"(fn ",
-                Piece::Ty(types, t),
-                Piece::Term(types, next(terms), e),
-            )
-        }
-        TermNode::Call(f, a) => {
-            write_two(
-                sink,
-                b"(call ",
-                Piece::Term(types, terms, f),
-                Piece::Term(types, terms, a),
-            )
-        }
+        TermNode::Text(text) => write_quoted(sink, text.bytes()),
+        TermNode::Lam(t, e) => write_two(sink, b"(fn ", here.ty(t), under.term(e)),
+        TermNode::Call(f, a) => write_two(sink, b"(call ", here.term(f), here.term(a)),
         TermNode::TyLam(k, e) => {
-            write_two(
-                sink,
-                b"(tfn ",
-                Piece::Kind(k),
-                Piece::Term(next(types), terms, e),
-            )
+            write_two(sink, b"(tfn ", Piece::Kind(k), here.under_type().term(e))
         }
-        TermNode::Inst(e, t) => {
-            write_two(
-                sink,
-                b"(inst ",
-                Piece::Term(types, terms, e),
-                Piece::Ty(types, t),
-            )
+        TermNode::Inst(e, t) => write_two(sink, b"(inst ", here.term(e), here.ty(t)),
+        TermNode::Fields(fields) => write_record(sink, Piece::TermFields(here, fields)),
+        TermNode::Get(e, l) => write_two(sink, b"(get ", here.term(e), Piece::Label(l)),
+        TermNode::Pack(t, e, u) => {
+            write_three(sink, b"(pack ", here.ty(t), here.term(e), here.ty(u))
         }
-        TermNode::Fields(fields) => write_pieces(
-            sink,
-            &[
-                Piece::Bytes(b"(rec"),
-                Piece::TermFields(types, terms, fields),
-                Piece::Bytes(b")"),
-            ],
-        ),
-        TermNode::Get(e, l) => {
-            write_two(
-                sink,
-                b"(get ",
-                Piece::Term(types, terms, e),
-                Piece::Label(l),
-            )
+        TermNode::Unpack(p, e) => {
+            write_two(sink, b"(open ", here.term(p), under.under_type().term(e))
         }
-        TermNode::Pack(t, e, u) => write_three(
-            sink,
-            b"(pack ",
-            Piece::Ty(types, t),
-            Piece::Term(types, terms, e),
-            Piece::Ty(types, u),
-        ),
-        TermNode::Unpack(p, e) => write_two(
-            sink,
-            b"(open ",
-            Piece::Term(types, terms, p),
-            Piece::Term(next(types), next(terms), e),
-        ),
-        TermNode::If(a, b, c) => write_three(
-            sink,
-            b"(if ",
-            Piece::Term(types, terms, a),
-            Piece::Term(types, terms, b),
-            Piece::Term(types, terms, c),
-        ),
-        TermNode::Arith(op, a, b) => write_two(
-            sink,
-            front(*op),
-            Piece::Term(types, terms, a),
-            Piece::Term(types, terms, b),
-        ),
-        TermNode::Fix(t, u, e) => write_three(
-            sink,
-            b"(fix ",
-            Piece::Ty(types, t),
-            Piece::Ty(types, u),
-            Piece::Term(types, next(next(terms)), e),
-        ),
+        TermNode::If(a, b, c) => {
+            write_three(sink, b"(if ", here.term(a), here.term(b), here.term(c))
+        }
+        TermNode::Arith(op, a, b) => write_two(sink, front(*op), here.term(a), here.term(b)),
+        TermNode::Fix(t, u, e) => {
+            let body = under.under_term().term(e);
+            write_three(sink, b"(fix ", here.ty(t), here.ty(u), body)
+        }
     }
 }
 
@@ -228,14 +190,13 @@ fn front(op: Op) -> &'static [u8]
 #[cycle(trees)]
 fn write_term_fields<K: Sink>(
     sink: &mut K,
-    types: u64,
-    terms: u64,
+    here: Scope,
     fields: &TermFields,
 ) -> Result<(), WriteFault>
-    ensures { Wrote (K.told sink.old) (K.told sink.new) (counted_term_row types terms (term_row fields.now)) result }
+    ensures { Wrote (K.told sink.old) (K.told sink.new) (counted_term_row here.types here.terms (term_row fields.now)) result }
 {
     for field in fields.items() {
-        write_field(sink, &field.0, Piece::Term(types, terms, &field.1))?;
+        write_field(sink, &field.0, Piece::Term(here, &field.1))?;
     }
     Ok(())
 }
@@ -250,6 +211,33 @@ fn write_field<'x, K: Sink>(
     ensures { Wrote (K.told sink.old) (K.told sink.new) (field_text label.now (piece_text part.entry)) result }
 {
     write_two(sink, b" (", Piece::Label(label), part)
+}
+
+// Writes a variable of a sort by its level.
+#[cycle(trees)]
+fn write_variable<'x, K: Sink>(sink: &mut K, sort: &'x [u8], level: u64) -> Result<(), WriteFault>
+    ensures { Wrote (K.told sink.old) (K.told sink.new) (sort.now then decimal level) result }
+{
+    write_pieces(sink, &[Piece::Bytes(sort), Piece::Number(level)])
+}
+
+// Writes a text in quotes.
+#[cycle(trees)]
+fn write_quoted<'x, K: Sink>(sink: &mut K, text: &'x [u8]) -> Result<(), WriteFault>
+    ensures { Wrote (K.told sink.old) (K.told sink.new) (quoted_text text.now) result }
+{
+    write_pieces(
+        sink,
+        &[Piece::Bytes(b"\""), Piece::Text(text), Piece::Bytes(b"\"")],
+    )
+}
+
+// Writes a record of these fields.
+#[cycle(trees)]
+fn write_record<'x, K: Sink>(sink: &mut K, fields: Piece<'x>) -> Result<(), WriteFault>
+    ensures { Wrote (K.told sink.old) (K.told sink.new) (record_text (piece_text fields.entry)) result }
+{
+    write_pieces(sink, &[Piece::Bytes(b"(rec"), fields, Piece::Bytes(b")")])
 }
 
 // Writes a form of two parts.
@@ -323,8 +311,8 @@ fn write_piece<K: Sink>(sink: &mut K, piece: &Piece<'_>) -> Result<(), WriteFaul
         Piece::Kind(kind) => write_kind(sink, kind),
         Piece::Ty(types, ty) => write_type(sink, *types, ty),
         Piece::TyFields(types, fields) => write_ty_fields(sink, *types, fields),
-        Piece::Term(types, terms, term) => write_expression(sink, *types, *terms, term),
-        Piece::TermFields(types, terms, fields) => write_term_fields(sink, *types, *terms, fields),
+        Piece::Term(here, term) => write_expression(sink, *here, term),
+        Piece::TermFields(here, fields) => write_term_fields(sink, *here, fields),
     }
 }
 
@@ -349,7 +337,7 @@ pub fn write_term<K: Sink>(
     requires { TermInScope types terms term.now }
     ensures { Wrote (K.told sink.old) (K.told sink.new) (term_text types terms term.now) result }
 {
-    write_expression(sink, types, terms, term)
+    write_expression(sink, Scope { types, terms }, term)
 }
 
 /// Writes the whole text of a closed type and a closed term, in three lines: `omega 1`, the type and the term.
@@ -367,7 +355,7 @@ pub fn write_omega<'x, K: Sink>(sink: &mut K, ty: &'x Ty, term: &'x Term) -> Res
             Piece::Bytes(b"omega 1\n"),
             Piece::Ty(0, ty),
             line_end,
-            Piece::Term(0, 0, term),
+            Piece::Term(Scope { types: 0, terms: 0 }, term),
             text_end,
         ],
     )

@@ -25,8 +25,7 @@ fn number(stack: &mut Stack<'_>) -> Result<(), BuildRefusal>
     stack.push(Part::Exp(Exp {
         span: token.span,
         what: ExpWhat::Int(value),
-    }))?;
-    Ok(())
+    }))
 }
 
 fn text(stack: &mut Stack<'_>, alloc: Global) -> Result<(), BuildRefusal>
@@ -38,8 +37,7 @@ fn text(stack: &mut Stack<'_>, alloc: Global) -> Result<(), BuildRefusal>
     stack.push(Part::Exp(Exp {
         span: token.span,
         what: ExpWhat::Text(bytes),
-    }))?;
-    Ok(())
+    }))
 }
 
 fn true_exp(stack: &mut Stack<'_>) -> Result<(), BuildRefusal>
@@ -50,8 +48,7 @@ fn true_exp(stack: &mut Stack<'_>) -> Result<(), BuildRefusal>
     stack.push(Part::Exp(Exp {
         span: word.span,
         what: ExpWhat::Bool(true),
-    }))?;
-    Ok(())
+    }))
 }
 
 fn false_exp(stack: &mut Stack<'_>) -> Result<(), BuildRefusal>
@@ -62,8 +59,7 @@ fn false_exp(stack: &mut Stack<'_>) -> Result<(), BuildRefusal>
     stack.push(Part::Exp(Exp {
         span: word.span,
         what: ExpWhat::Bool(false),
-    }))?;
-    Ok(())
+    }))
 }
 
 fn path(stack: &mut Stack<'_>) -> Result<(), BuildRefusal>
@@ -74,8 +70,7 @@ fn path(stack: &mut Stack<'_>) -> Result<(), BuildRefusal>
     stack.push(Part::Exp(Exp {
         span: path.span,
         what: ExpWhat::Path(path),
-    }))?;
-    Ok(())
+    }))
 }
 
 fn fields(stack: &mut Stack<'_>) -> Result<(), BuildRefusal>
@@ -90,8 +85,7 @@ fn fields(stack: &mut Stack<'_>) -> Result<(), BuildRefusal>
     stack.push(Part::Exp(Exp {
         span,
         what: ExpWhat::Fields(fields),
-    }))?;
-    Ok(())
+    }))
 }
 
 fn let_in(stack: &mut Stack<'_>, alloc: Global) -> Result<(), BuildRefusal>
@@ -106,8 +100,7 @@ fn let_in(stack: &mut Stack<'_>, alloc: Global) -> Result<(), BuildRefusal>
     binds.reverse();
     let span = up_to(word.span, last.span);
     let exp = let_exp(alloc, span, binds, body.take())?;
-    stack.push(Part::Exp(exp))?;
-    Ok(())
+    stack.push(Part::Exp(exp))
 }
 
 fn pack(stack: &mut Stack<'_>, alloc: Global) -> Result<(), BuildRefusal>
@@ -120,8 +113,7 @@ fn pack(stack: &mut Stack<'_>, alloc: Global) -> Result<(), BuildRefusal>
     let sig = stack.sig()?;
     let span = up_to(word.span, sig.span);
     let exp = pack_exp(alloc, span, module.take(), sig)?;
-    stack.push(Part::Exp(exp))?;
-    Ok(())
+    stack.push(Part::Exp(exp))
 }
 
 fn paren(stack: &mut Stack<'_>) -> Result<(), BuildRefusal>
@@ -135,16 +127,14 @@ fn paren(stack: &mut Stack<'_>) -> Result<(), BuildRefusal>
     stack.push(Part::Exp(Exp {
         span,
         what: exp.take().what,
-    }))?;
-    Ok(())
+    }))
 }
 
 fn no_fields(stack: &mut Stack<'_>, alloc: Global) -> Result<(), BuildRefusal>
     ensures made { IfOk result (λ _. played the.no_exp_fields (held stack.old) ≡ Some (held stack.new)) }
     ensures misfit { IfErr result (λ e. e ≡ Misfit → played the.no_exp_fields (held stack.old) ≡ None) }
 {
-    stack.push(Part::FieldExps(Vec::new(alloc)))?;
-    Ok(())
+    stack.push(Part::FieldExps(Vec::new(alloc)))
 }
 
 #[tactic(auto, using(parse_forms::proofs::Chained::reverse_push))]
@@ -158,8 +148,7 @@ fn field(stack: &mut Stack<'_>, alloc: Global) -> Result<(), BuildRefusal>
     let mut rest = stack.field_exps()?;
     let name = named(alloc, name)?;
     rest.push((name, value.take()))?;
-    stack.push(Part::FieldExps(rest))?;
-    Ok(())
+    stack.push(Part::FieldExps(rest))
 }
 
 #[tactic(auto, using(parse_forms::proofs::Chained::reverse_push))]
@@ -174,8 +163,7 @@ fn next_field(stack: &mut Stack<'_>, alloc: Global) -> Result<(), BuildRefusal>
     let mut rest = stack.field_exps()?;
     let name = named(alloc, name)?;
     rest.push((name, value.take()))?;
-    stack.push(Part::FieldExps(rest))?;
-    Ok(())
+    stack.push(Part::FieldExps(rest))
 }
 
 /// Plays a production: its parts are taken off the stack, the first one on top, and what it gives is put there.

@@ -19,8 +19,7 @@ fn none(stack: &mut Stack<'_>, alloc: Global) -> Result<(), BuildRefusal>
     ensures made { IfOk result (λ _. played the.no_binds (held stack.old) ≡ Some (held stack.new)) }
     ensures misfit { IfErr result (λ e. e ≡ Misfit → played the.no_binds (held stack.old) ≡ None) }
 {
-    stack.push(Part::Binds(Vec::new(alloc)))?;
-    Ok(())
+    stack.push(Part::Binds(Vec::new(alloc)))
 }
 
 #[tactic(auto, using(parse_forms::proofs::Chained::reverse_push))]
@@ -31,8 +30,7 @@ fn more(stack: &mut Stack<'_>) -> Result<(), BuildRefusal>
     let first = Kept::new(stack.bind()?);
     let mut rest = stack.binds()?;
     rest.push(first.take())?;
-    stack.push(Part::Binds(rest))?;
-    Ok(())
+    stack.push(Part::Binds(rest))
 }
 
 fn val(stack: &mut Stack<'_>, alloc: Global) -> Result<(), BuildRefusal>
@@ -48,8 +46,7 @@ fn val(stack: &mut Stack<'_>, alloc: Global) -> Result<(), BuildRefusal>
     stack.push(Part::Bind(Bind {
         span,
         what: BindWhat::Val(name, value.take()),
-    }))?;
-    Ok(())
+    }))
 }
 
 fn ty(stack: &mut Stack<'_>, alloc: Global) -> Result<(), BuildRefusal>
@@ -65,8 +62,7 @@ fn ty(stack: &mut Stack<'_>, alloc: Global) -> Result<(), BuildRefusal>
     stack.push(Part::Bind(Bind {
         span,
         what: BindWhat::Ty(name, ty.take()),
-    }))?;
-    Ok(())
+    }))
 }
 
 fn module(stack: &mut Stack<'_>, alloc: Global) -> Result<(), BuildRefusal>
@@ -82,8 +78,7 @@ fn module(stack: &mut Stack<'_>, alloc: Global) -> Result<(), BuildRefusal>
     stack.push(Part::Bind(Bind {
         span,
         what: BindWhat::Module(name, module.take()),
-    }))?;
-    Ok(())
+    }))
 }
 
 fn signature(stack: &mut Stack<'_>, alloc: Global) -> Result<(), BuildRefusal>
@@ -99,8 +94,7 @@ fn signature(stack: &mut Stack<'_>, alloc: Global) -> Result<(), BuildRefusal>
     stack.push(Part::Bind(Bind {
         span,
         what: BindWhat::Signature(name, sig.take()),
-    }))?;
-    Ok(())
+    }))
 }
 
 fn include(stack: &mut Stack<'_>) -> Result<(), BuildRefusal>
@@ -113,8 +107,7 @@ fn include(stack: &mut Stack<'_>) -> Result<(), BuildRefusal>
     stack.push(Part::Bind(Bind {
         span,
         what: BindWhat::Include(module),
-    }))?;
-    Ok(())
+    }))
 }
 
 /// Plays a production: its parts are taken off the stack, the first one on top, and what it gives is put there.

@@ -21,8 +21,7 @@ fn none(stack: &mut Stack<'_>, alloc: Global) -> Result<(), BuildRefusal>
     ensures made { IfOk result (λ _. played the.no_decls (held stack.old) ≡ Some (held stack.new)) }
     ensures misfit { IfErr result (λ e. e ≡ Misfit → played the.no_decls (held stack.old) ≡ None) }
 {
-    stack.push(Part::Decls(Vec::new(alloc)))?;
-    Ok(())
+    stack.push(Part::Decls(Vec::new(alloc)))
 }
 
 #[tactic(auto, using(parse_forms::proofs::Chained::reverse_push))]
@@ -33,8 +32,7 @@ fn more(stack: &mut Stack<'_>) -> Result<(), BuildRefusal>
     let first = Kept::new(stack.decl()?);
     let mut rest = stack.decls()?;
     rest.push(first.take())?;
-    stack.push(Part::Decls(rest))?;
-    Ok(())
+    stack.push(Part::Decls(rest))
 }
 
 fn val(stack: &mut Stack<'_>, alloc: Global) -> Result<(), BuildRefusal>
@@ -50,8 +48,7 @@ fn val(stack: &mut Stack<'_>, alloc: Global) -> Result<(), BuildRefusal>
     stack.push(Part::Decl(Decl {
         span,
         what: DeclWhat::Val(name, ty.take()),
-    }))?;
-    Ok(())
+    }))
 }
 
 fn ty(stack: &mut Stack<'_>, alloc: Global) -> Result<(), BuildRefusal>
@@ -62,8 +59,7 @@ fn ty(stack: &mut Stack<'_>, alloc: Global) -> Result<(), BuildRefusal>
     let name = stack.token()?;
     let tail = stack.tail()?;
     let decl = declared_type(alloc, word, name, tail)?;
-    stack.push(Part::Decl(decl))?;
-    Ok(())
+    stack.push(Part::Decl(decl))
 }
 
 fn module(stack: &mut Stack<'_>, alloc: Global) -> Result<(), BuildRefusal>
@@ -79,8 +75,7 @@ fn module(stack: &mut Stack<'_>, alloc: Global) -> Result<(), BuildRefusal>
     stack.push(Part::Decl(Decl {
         span,
         what: DeclWhat::Module(name, sig.take()),
-    }))?;
-    Ok(())
+    }))
 }
 
 fn signature(stack: &mut Stack<'_>, alloc: Global) -> Result<(), BuildRefusal>
@@ -96,8 +91,7 @@ fn signature(stack: &mut Stack<'_>, alloc: Global) -> Result<(), BuildRefusal>
     stack.push(Part::Decl(Decl {
         span,
         what: DeclWhat::Signature(name, sig.take()),
-    }))?;
-    Ok(())
+    }))
 }
 
 fn include(stack: &mut Stack<'_>) -> Result<(), BuildRefusal>
@@ -110,16 +104,14 @@ fn include(stack: &mut Stack<'_>) -> Result<(), BuildRefusal>
     stack.push(Part::Decl(Decl {
         span,
         what: DeclWhat::Include(sig),
-    }))?;
-    Ok(())
+    }))
 }
 
 fn open_type(stack: &mut Stack<'_>) -> Result<(), BuildRefusal>
     ensures made { IfOk result (λ _. played the.type_of_nothing (held stack.old) ≡ Some (held stack.new)) }
     ensures misfit { IfErr result (λ e. e ≡ Misfit → played the.type_of_nothing (held stack.old) ≡ None) }
 {
-    stack.push(Part::Tail(TypeTail::Open))?;
-    Ok(())
+    stack.push(Part::Tail(TypeTail::Open))
 }
 
 fn known_type(stack: &mut Stack<'_>) -> Result<(), BuildRefusal>
@@ -128,8 +120,7 @@ fn known_type(stack: &mut Stack<'_>) -> Result<(), BuildRefusal>
 {
     stack.token()?;
     let ty = stack.ty()?;
-    stack.push(Part::Tail(TypeTail::Is(ty)))?;
-    Ok(())
+    stack.push(Part::Tail(TypeTail::Is(ty)))
 }
 
 fn kinded_type(stack: &mut Stack<'_>) -> Result<(), BuildRefusal>
@@ -138,8 +129,7 @@ fn kinded_type(stack: &mut Stack<'_>) -> Result<(), BuildRefusal>
 {
     stack.token()?;
     let kind = stack.kind()?;
-    stack.push(Part::Tail(TypeTail::Has(kind)))?;
-    Ok(())
+    stack.push(Part::Tail(TypeTail::Has(kind)))
 }
 
 /// Plays a production: its parts are taken off the stack, the first one on top, and what it gives is put there.

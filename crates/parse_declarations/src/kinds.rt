@@ -22,16 +22,14 @@ fn chain(stack: &mut Stack<'_>, alloc: Global) -> Result<(), BuildRefusal>
     let from = stack.kind()?;
     let to = stack.kind_arrow()?;
     let kind = kind_chain(alloc, from, to)?;
-    stack.push(Part::Kind(kind))?;
-    Ok(())
+    stack.push(Part::Kind(kind))
 }
 
 fn no_arrow(stack: &mut Stack<'_>) -> Result<(), BuildRefusal>
     ensures made { IfOk result (λ _. played the.no_kind_arrow (held stack.old) ≡ Some (held stack.new)) }
     ensures misfit { IfErr result (λ e. e ≡ Misfit → played the.no_kind_arrow (held stack.old) ≡ None) }
 {
-    stack.push(Part::KindArrow(None))?;
-    Ok(())
+    stack.push(Part::KindArrow(None))
 }
 
 fn arrow(stack: &mut Stack<'_>) -> Result<(), BuildRefusal>
@@ -40,8 +38,7 @@ fn arrow(stack: &mut Stack<'_>) -> Result<(), BuildRefusal>
 {
     stack.token()?;
     let kind = stack.kind()?;
-    stack.push(Part::KindArrow(Some(kind)))?;
-    Ok(())
+    stack.push(Part::KindArrow(Some(kind)))
 }
 
 fn ty(stack: &mut Stack<'_>) -> Result<(), BuildRefusal>
@@ -52,8 +49,7 @@ fn ty(stack: &mut Stack<'_>) -> Result<(), BuildRefusal>
     stack.push(Part::Kind(KindPart {
         kind: Kind::Star,
         last: word.span,
-    }))?;
-    Ok(())
+    }))
 }
 
 fn paren(stack: &mut Stack<'_>) -> Result<(), BuildRefusal>
@@ -63,8 +59,7 @@ fn paren(stack: &mut Stack<'_>) -> Result<(), BuildRefusal>
     stack.token()?;
     let kind = stack.kind()?.kind;
     let last = stack.token()?.span;
-    stack.push(Part::Kind(KindPart { kind, last }))?;
-    Ok(())
+    stack.push(Part::Kind(KindPart { kind, last }))
 }
 
 /// Plays a production: its parts are taken off the stack, the first one on top, and what it gives is put there.

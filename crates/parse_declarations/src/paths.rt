@@ -27,8 +27,7 @@ fn name(stack: &mut Stack<'_>, alloc: Global) -> Result<(), BuildRefusal>
         what: ModWhat::Name(named(alloc, first)?),
     };
     let path = project_all(alloc, whole, names)?;
-    stack.push(Part::Mod(path))?;
-    Ok(())
+    stack.push(Part::Mod(path))
 }
 
 fn from(stack: &mut Stack<'_>, alloc: Global) -> Result<(), BuildRefusal>
@@ -46,16 +45,14 @@ fn from(stack: &mut Stack<'_>, alloc: Global) -> Result<(), BuildRefusal>
     let name = named(alloc, name)?;
     let whole = projected(alloc, span, module.take(), name)?;
     let path = project_all(alloc, whole, names)?;
-    stack.push(Part::Mod(path))?;
-    Ok(())
+    stack.push(Part::Mod(path))
 }
 
 fn no_dots(stack: &mut Stack<'_>, alloc: Global) -> Result<(), BuildRefusal>
     ensures made { IfOk result (λ _. played the.no_dots (held stack.old) ≡ Some (held stack.new)) }
     ensures misfit { IfErr result (λ e. e ≡ Misfit → played the.no_dots (held stack.old) ≡ None) }
 {
-    stack.push(Part::Names(Vec::new(alloc)))?;
-    Ok(())
+    stack.push(Part::Names(Vec::new(alloc)))
 }
 
 #[tactic(auto, using(parse_forms::proofs::Chained::reverse_push))]
@@ -67,8 +64,7 @@ fn more_dots(stack: &mut Stack<'_>, alloc: Global) -> Result<(), BuildRefusal>
     let name = stack.token()?;
     let mut rest = stack.names()?;
     rest.push(named(alloc, name)?)?;
-    stack.push(Part::Names(rest))?;
-    Ok(())
+    stack.push(Part::Names(rest))
 }
 
 /// Plays a production: its parts are taken off the stack, the first one on top, and what it gives is put there.

@@ -25,8 +25,7 @@ fn fun(stack: &mut Stack<'_>, alloc: Global) -> Result<(), BuildRefusal>
     let word = stack.token()?;
     let abstraction = stack.abstraction()?;
     let exp = abstracted(alloc, word, abstraction)?;
-    stack.push(Part::Exp(exp))?;
-    Ok(())
+    stack.push(Part::Exp(exp))
 }
 
 fn fix(stack: &mut Stack<'_>, alloc: Global) -> Result<(), BuildRefusal>
@@ -57,8 +56,7 @@ fn fix(stack: &mut Stack<'_>, alloc: Global) -> Result<(), BuildRefusal>
             result: result.take(),
             body,
         },
-    }))?;
-    Ok(())
+    }))
 }
 
 fn if_else(stack: &mut Stack<'_>, alloc: Global) -> Result<(), BuildRefusal>
@@ -76,8 +74,7 @@ fn if_else(stack: &mut Stack<'_>, alloc: Global) -> Result<(), BuildRefusal>
     stack.push(Part::Exp(Exp {
         span,
         what: ExpWhat::If(test, yes, no),
-    }))?;
-    Ok(())
+    }))
 }
 
 fn compare(stack: &mut Stack<'_>, alloc: Global) -> Result<(), BuildRefusal>
@@ -87,8 +84,7 @@ fn compare(stack: &mut Stack<'_>, alloc: Global) -> Result<(), BuildRefusal>
     let first = Kept::new(stack.exp()?);
     let rest = stack.ops()?;
     let exp = ops_chain(alloc, first.take(), rest)?;
-    stack.push(Part::Exp(exp))?;
-    Ok(())
+    stack.push(Part::Exp(exp))
 }
 
 fn lam_value(stack: &mut Stack<'_>, alloc: Global) -> Result<(), BuildRefusal>
@@ -104,8 +100,7 @@ fn lam_value(stack: &mut Stack<'_>, alloc: Global) -> Result<(), BuildRefusal>
     let body = Kept::new(stack.exp()?);
     let name = named(alloc, name)?;
     let abstraction = Abstraction::Value(name, ty.take(), body.take());
-    stack.push(Part::Abstraction(abstraction))?;
-    Ok(())
+    stack.push(Part::Abstraction(abstraction))
 }
 
 fn lam_type(stack: &mut Stack<'_>, alloc: Global) -> Result<(), BuildRefusal>
@@ -121,8 +116,7 @@ fn lam_type(stack: &mut Stack<'_>, alloc: Global) -> Result<(), BuildRefusal>
     let body = Kept::new(stack.exp()?);
     let name = named(alloc, name)?;
     let abstraction = Abstraction::Type(name, kind.take(), body.take());
-    stack.push(Part::Abstraction(abstraction))?;
-    Ok(())
+    stack.push(Part::Abstraction(abstraction))
 }
 
 /// Plays a production: its parts are taken off the stack, the first one on top, and what it gives is put there.

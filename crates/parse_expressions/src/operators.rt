@@ -19,8 +19,7 @@ fn no_ops(stack: &mut Stack<'_>, alloc: Global) -> Result<(), BuildRefusal>
     ensures made { IfOk result (λ _. played the.no_compare (held stack.old) ≡ Some (held stack.new)) }
     ensures misfit { IfErr result (λ e. e ≡ Misfit → played the.no_compare (held stack.old) ≡ None) }
 {
-    stack.push(Part::Ops(Vec::new(alloc)))?;
-    Ok(())
+    stack.push(Part::Ops(Vec::new(alloc)))
 }
 
 #[tactic(auto, using(parse_forms::proofs::Chained::reverse_push))]
@@ -32,8 +31,7 @@ fn less(stack: &mut Stack<'_>, alloc: Global) -> Result<(), BuildRefusal>
     let right = stack.exp()?;
     let mut ops = Vec::new(alloc);
     ops.push((Op::Less, right))?;
-    stack.push(Part::Ops(ops))?;
-    Ok(())
+    stack.push(Part::Ops(ops))
 }
 
 #[tactic(auto, using(parse_forms::proofs::Chained::reverse_push))]
@@ -45,8 +43,7 @@ fn equal(stack: &mut Stack<'_>, alloc: Global) -> Result<(), BuildRefusal>
     let right = stack.exp()?;
     let mut ops = Vec::new(alloc);
     ops.push((Op::Equal, right))?;
-    stack.push(Part::Ops(ops))?;
-    Ok(())
+    stack.push(Part::Ops(ops))
 }
 
 fn chain(stack: &mut Stack<'_>, alloc: Global) -> Result<(), BuildRefusal>
@@ -56,8 +53,7 @@ fn chain(stack: &mut Stack<'_>, alloc: Global) -> Result<(), BuildRefusal>
     let first = Kept::new(stack.exp()?);
     let rest = stack.ops()?;
     let exp = ops_chain(alloc, first.take(), rest)?;
-    stack.push(Part::Exp(exp))?;
-    Ok(())
+    stack.push(Part::Exp(exp))
 }
 
 #[tactic(auto, using(parse_forms::proofs::Chained::reverse_push))]
@@ -69,8 +65,7 @@ fn add(stack: &mut Stack<'_>) -> Result<(), BuildRefusal>
     let right = Kept::new(stack.exp()?);
     let mut rest = stack.ops()?;
     rest.push((Op::Add, right.take()))?;
-    stack.push(Part::Ops(rest))?;
-    Ok(())
+    stack.push(Part::Ops(rest))
 }
 
 #[tactic(auto, using(parse_forms::proofs::Chained::reverse_push))]
@@ -82,8 +77,7 @@ fn subtract(stack: &mut Stack<'_>) -> Result<(), BuildRefusal>
     let right = Kept::new(stack.exp()?);
     let mut rest = stack.ops()?;
     rest.push((Op::Sub, right.take()))?;
-    stack.push(Part::Ops(rest))?;
-    Ok(())
+    stack.push(Part::Ops(rest))
 }
 
 #[tactic(auto, using(parse_forms::proofs::Chained::reverse_push))]
@@ -95,8 +89,7 @@ fn multiply(stack: &mut Stack<'_>) -> Result<(), BuildRefusal>
     let right = Kept::new(stack.exp()?);
     let mut rest = stack.ops()?;
     rest.push((Op::Mul, right.take()))?;
-    stack.push(Part::Ops(rest))?;
-    Ok(())
+    stack.push(Part::Ops(rest))
 }
 
 #[tactic(auto, using(parse_forms::proofs::Chained::reverse_push))]
@@ -108,8 +101,7 @@ fn divide(stack: &mut Stack<'_>) -> Result<(), BuildRefusal>
     let right = Kept::new(stack.exp()?);
     let mut rest = stack.ops()?;
     rest.push((Op::Div, right.take()))?;
-    stack.push(Part::Ops(rest))?;
-    Ok(())
+    stack.push(Part::Ops(rest))
 }
 
 #[tactic(auto, using(parse_forms::proofs::Chained::reverse_push))]
@@ -121,8 +113,7 @@ fn remainder(stack: &mut Stack<'_>) -> Result<(), BuildRefusal>
     let right = Kept::new(stack.exp()?);
     let mut rest = stack.ops()?;
     rest.push((Op::Rem, right.take()))?;
-    stack.push(Part::Ops(rest))?;
-    Ok(())
+    stack.push(Part::Ops(rest))
 }
 
 /// Plays a production: its parts are taken off the stack, the first one on top, and what it gives is put there.

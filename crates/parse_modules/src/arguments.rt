@@ -23,16 +23,14 @@ fn args(stack: &mut Stack<'_>, alloc: Global) -> Result<(), BuildRefusal>
     let function = Kept::new(stack.exp()?);
     let args = stack.args()?;
     let exp = args_chain(alloc, function.take(), args)?;
-    stack.push(Part::Exp(exp))?;
-    Ok(())
+    stack.push(Part::Exp(exp))
 }
 
 fn no_args(stack: &mut Stack<'_>, alloc: Global) -> Result<(), BuildRefusal>
     ensures made { IfOk result (λ _. played the.no_args (held stack.old) ≡ Some (held stack.new)) }
     ensures misfit { IfErr result (λ e. e ≡ Misfit → played the.no_args (held stack.old) ≡ None) }
 {
-    stack.push(Part::Args(Vec::new(alloc)))?;
-    Ok(())
+    stack.push(Part::Args(Vec::new(alloc)))
 }
 
 #[tactic(auto, using(parse_forms::proofs::Chained::reverse_push))]
@@ -43,8 +41,7 @@ fn value(stack: &mut Stack<'_>) -> Result<(), BuildRefusal>
     let first = Kept::new(stack.exp()?);
     let mut rest = stack.args()?;
     rest.push(Arg::Exp(first.take()))?;
-    stack.push(Part::Args(rest))?;
-    Ok(())
+    stack.push(Part::Args(rest))
 }
 
 #[tactic(auto, using(parse_forms::proofs::Chained::reverse_push))]
@@ -57,8 +54,7 @@ fn ty(stack: &mut Stack<'_>) -> Result<(), BuildRefusal>
     let last = stack.token()?;
     let mut rest = stack.args()?;
     rest.push(Arg::Ty(ty.take(), up_to(mark.span, last.span)))?;
-    stack.push(Part::Args(rest))?;
-    Ok(())
+    stack.push(Part::Args(rest))
 }
 
 fn gets(stack: &mut Stack<'_>, alloc: Global) -> Result<(), BuildRefusal>
@@ -68,16 +64,14 @@ fn gets(stack: &mut Stack<'_>, alloc: Global) -> Result<(), BuildRefusal>
     let first = Kept::new(stack.exp()?);
     let names = stack.names()?;
     let exp = get_all(alloc, first.take(), names)?;
-    stack.push(Part::Exp(exp))?;
-    Ok(())
+    stack.push(Part::Exp(exp))
 }
 
 fn no_gets(stack: &mut Stack<'_>, alloc: Global) -> Result<(), BuildRefusal>
     ensures made { IfOk result (λ _. played the.no_gets (held stack.old) ≡ Some (held stack.new)) }
     ensures misfit { IfErr result (λ e. e ≡ Misfit → played the.no_gets (held stack.old) ≡ None) }
 {
-    stack.push(Part::Names(Vec::new(alloc)))?;
-    Ok(())
+    stack.push(Part::Names(Vec::new(alloc)))
 }
 
 #[tactic(auto, using(parse_forms::proofs::Chained::reverse_push))]
@@ -89,8 +83,7 @@ fn more_gets(stack: &mut Stack<'_>, alloc: Global) -> Result<(), BuildRefusal>
     let name = stack.token()?;
     let mut rest = stack.names()?;
     rest.push(named(alloc, name)?)?;
-    stack.push(Part::Names(rest))?;
-    Ok(())
+    stack.push(Part::Names(rest))
 }
 
 /// Plays a production: its parts are taken off the stack, the first one on top, and what it gives is put there.

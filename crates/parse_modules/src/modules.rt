@@ -41,8 +41,7 @@ fn fun(stack: &mut Stack<'_>, alloc: Global) -> Result<(), BuildRefusal>
             param,
             body,
         },
-    }))?;
-    Ok(())
+    }))
 }
 
 fn generative(stack: &mut Stack<'_>, alloc: Global) -> Result<(), BuildRefusal>
@@ -68,8 +67,7 @@ fn generative(stack: &mut Stack<'_>, alloc: Global) -> Result<(), BuildRefusal>
             param,
             body,
         },
-    }))?;
-    Ok(())
+    }))
 }
 
 fn unpack(stack: &mut Stack<'_>, alloc: Global) -> Result<(), BuildRefusal>
@@ -85,8 +83,7 @@ fn unpack(stack: &mut Stack<'_>, alloc: Global) -> Result<(), BuildRefusal>
     stack.push(Part::Mod(Mod {
         span,
         what: ModWhat::Unpack(value, sig),
-    }))?;
-    Ok(())
+    }))
 }
 
 fn chain(stack: &mut Stack<'_>, alloc: Global) -> Result<(), BuildRefusal>
@@ -98,16 +95,14 @@ fn chain(stack: &mut Stack<'_>, alloc: Global) -> Result<(), BuildRefusal>
     let seals = stack.ascriptions()?;
     let applied = apply_all(alloc, first.take(), args)?;
     let module = ascribe_all(alloc, applied, seals)?;
-    stack.push(Part::Mod(module))?;
-    Ok(())
+    stack.push(Part::Mod(module))
 }
 
 fn no_args(stack: &mut Stack<'_>, alloc: Global) -> Result<(), BuildRefusal>
     ensures made { IfOk result (λ _. played the.no_mod_args (held stack.old) ≡ Some (held stack.new)) }
     ensures misfit { IfErr result (λ e. e ≡ Misfit → played the.no_mod_args (held stack.old) ≡ None) }
 {
-    stack.push(Part::Mods(Vec::new(alloc)))?;
-    Ok(())
+    stack.push(Part::Mods(Vec::new(alloc)))
 }
 
 #[tactic(auto, using(parse_forms::proofs::Chained::reverse_push))]
@@ -118,16 +113,14 @@ fn more_args(stack: &mut Stack<'_>) -> Result<(), BuildRefusal>
     let first = Kept::new(stack.module()?);
     let mut rest = stack.mods()?;
     rest.push(first.take())?;
-    stack.push(Part::Mods(rest))?;
-    Ok(())
+    stack.push(Part::Mods(rest))
 }
 
 fn no_seals(stack: &mut Stack<'_>, alloc: Global) -> Result<(), BuildRefusal>
     ensures made { IfOk result (λ _. played the.no_seals (held stack.old) ≡ Some (held stack.new)) }
     ensures misfit { IfErr result (λ e. e ≡ Misfit → played the.no_seals (held stack.old) ≡ None) }
 {
-    stack.push(Part::Ascriptions(Vec::new(alloc)))?;
-    Ok(())
+    stack.push(Part::Ascriptions(Vec::new(alloc)))
 }
 
 #[tactic(auto, using(parse_forms::proofs::Chained::reverse_push))]
@@ -139,8 +132,7 @@ fn seal(stack: &mut Stack<'_>) -> Result<(), BuildRefusal>
     let sig = Kept::new(stack.sig()?);
     let mut rest = stack.ascriptions()?;
     rest.push(Ascription::Sealed(sig.take()))?;
-    stack.push(Part::Ascriptions(rest))?;
-    Ok(())
+    stack.push(Part::Ascriptions(rest))
 }
 
 #[tactic(auto, using(parse_forms::proofs::Chained::reverse_push))]
@@ -152,8 +144,7 @@ fn ascribe(stack: &mut Stack<'_>) -> Result<(), BuildRefusal>
     let sig = Kept::new(stack.sig()?);
     let mut rest = stack.ascriptions()?;
     rest.push(Ascription::Shown(sig.take()))?;
-    stack.push(Part::Ascriptions(rest))?;
-    Ok(())
+    stack.push(Part::Ascriptions(rest))
 }
 
 fn path(stack: &mut Stack<'_>) -> Result<(), BuildRefusal>
@@ -161,8 +152,7 @@ fn path(stack: &mut Stack<'_>) -> Result<(), BuildRefusal>
     ensures misfit { IfErr result (λ e. e ≡ Misfit → played the.mod_path (held stack.old) ≡ None) }
 {
     let path = stack.module()?;
-    stack.push(Part::Mod(path))?;
-    Ok(())
+    stack.push(Part::Mod(path))
 }
 
 fn structure(stack: &mut Stack<'_>) -> Result<(), BuildRefusal>
@@ -177,8 +167,7 @@ fn structure(stack: &mut Stack<'_>) -> Result<(), BuildRefusal>
     stack.push(Part::Mod(Mod {
         span,
         what: ModWhat::Struct(binds),
-    }))?;
-    Ok(())
+    }))
 }
 
 fn let_in(stack: &mut Stack<'_>, alloc: Global) -> Result<(), BuildRefusal>
@@ -193,8 +182,7 @@ fn let_in(stack: &mut Stack<'_>, alloc: Global) -> Result<(), BuildRefusal>
     binds.reverse();
     let span = up_to(word.span, last.span);
     let module = let_mod(alloc, span, binds, body.take())?;
-    stack.push(Part::Mod(module))?;
-    Ok(())
+    stack.push(Part::Mod(module))
 }
 
 fn paren(stack: &mut Stack<'_>) -> Result<(), BuildRefusal>
@@ -208,8 +196,7 @@ fn paren(stack: &mut Stack<'_>) -> Result<(), BuildRefusal>
     stack.push(Part::Mod(Mod {
         span,
         what: module.take().what,
-    }))?;
-    Ok(())
+    }))
 }
 
 /// Plays a production: its parts are taken off the stack, the first one on top, and what it gives is put there.

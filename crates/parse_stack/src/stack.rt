@@ -6,21 +6,18 @@ ghost use Rattle.parse_stack.specs.Item.{TokenItem, as_token, as_binds, as_bind,
 ghost use Rattle.parse_forms.specs.Part.{kind_in, tail_in, where_in, ascription_in, abstraction_in};
 ghost use Rattle.parse_stack.specs.Part.{part_in, held};
 ghost use Rattle.parse_stack.specs.Play.{uncons, top};
-ghost use Rattle.parse_stack.specs.declared.refusal.BuildRefusal.TheVariants.{Misfit};
+ghost use Rattle.parse_stack.specs.declared.refusal.BuildRefusal.TheVariants.{Mem as WantOfMemory};
 
 use crate::part::Part;
-use crate::refusal::BuildRefusal;
+use crate::refusal::{BuildRefusal, Misfit};
 use fing_lexer::Token;
 use fing_syntax::{Arg, Bind, Decl, Exp, Mod, Op, SigEx, SpanName, TyEx};
-use omega_kinds::Mem;
 use parse_forms::part::{Abstraction, Ascription, KindPart, TypeTail, Where};
 use std::alloc::Global;
 
 // Lets a part go that is not what was asked for.
-fn misfit(_other: Option<Part<'_>>) -> BuildRefusal
-    ensures { result ≡ Misfit }
-{
-    BuildRefusal::Misfit
+fn misfit(_other: Option<Part<'_>>) -> Misfit {
+    Misfit
 }
 
 /// The parts of productions that are not played yet, the last one on top.
@@ -29,8 +26,8 @@ pub struct Stack<'a> {
     pub parts: Vec<Part<'a>>,
 }
 
-/// Each call that is named for a kind of part takes the top part off as that. `Err` comes exactly where nothing stands
-/// there or something else does; it is `Misfit`, and the part that does not fit is let go.
+/// Each call that is named for a kind of part takes the top part off as that. `Misfit` comes exactly where nothing stands
+/// there or something else does.
 impl<'a> Stack<'a> {
     /// A stack with nothing on it.
     pub fn new(alloc: Global) -> Stack<'a>
@@ -41,11 +38,12 @@ impl<'a> Stack<'a> {
         }
     }
 
-    /// Puts a part on top. `Err` is want of memory, and then the stack stands as it was.
+    /// Puts a part on top. `Mem` is want of memory, and then the stack stands as it was; there is no other refusal.
     #[tactic(auto, using(crate::proofs::Stacked::items_push))]
-    pub fn push(&mut self, part: Part<'a>) -> Result<(), Mem>
+    pub fn push(&mut self, part: Part<'a>) -> Result<(), BuildRefusal>
         ensures ok { OnOk result (held self.new ≡ part_in part.entry ∷ held self.old) }
         ensures err { OnErr result (held self.new ≡ held self.old) }
+        ensures memory { IfErr result (λ e. e ≡ WantOfMemory) }
     {
         self.parts.push(part)?;
         Ok(())
@@ -60,7 +58,7 @@ impl<'a> Stack<'a> {
     }
 
     /// The top part as a token.
-    pub fn token(&mut self) -> Result<&'a Token, BuildRefusal>
+    pub fn token(&mut self) -> Result<&'a Token, Misfit>
         ensures part { IfOk result (λ t. top as_token (held self.old) ≡ Some (t.now, held self.new)) }
         ensures misfit { IfErr result (λ e. top as_token (held self.old) ≡ None) }
     {
@@ -71,7 +69,7 @@ impl<'a> Stack<'a> {
     }
 
     /// The top part as bindings, the first one last.
-    pub fn binds(&mut self) -> Result<Vec<Bind>, BuildRefusal>
+    pub fn binds(&mut self) -> Result<Vec<Bind>, Misfit>
         ensures part { IfOk result (λ v. top as_binds (held self.old) ≡ Some (binds_of (reverse v.items), held self.new)) }
         ensures misfit { IfErr result (λ e. top as_binds (held self.old) ≡ None) }
     {
@@ -82,7 +80,7 @@ impl<'a> Stack<'a> {
     }
 
     /// The top part as a binding.
-    pub fn bind(&mut self) -> Result<Bind, BuildRefusal>
+    pub fn bind(&mut self) -> Result<Bind, Misfit>
         ensures part { IfOk result (λ v. top as_bind (held self.old) ≡ Some (v, held self.new)) }
         ensures misfit { IfErr result (λ e. top as_bind (held self.old) ≡ None) }
     {
@@ -93,7 +91,7 @@ impl<'a> Stack<'a> {
     }
 
     /// The top part as declarations, the first one last.
-    pub fn decls(&mut self) -> Result<Vec<Decl>, BuildRefusal>
+    pub fn decls(&mut self) -> Result<Vec<Decl>, Misfit>
         ensures part { IfOk result (λ v. top as_decls (held self.old) ≡ Some (decls_of (reverse v.items), held self.new)) }
         ensures misfit { IfErr result (λ e. top as_decls (held self.old) ≡ None) }
     {
@@ -104,7 +102,7 @@ impl<'a> Stack<'a> {
     }
 
     /// The top part as a declaration.
-    pub fn decl(&mut self) -> Result<Decl, BuildRefusal>
+    pub fn decl(&mut self) -> Result<Decl, Misfit>
         ensures part { IfOk result (λ v. top as_decl (held self.old) ≡ Some (v, held self.new)) }
         ensures misfit { IfErr result (λ e. top as_decl (held self.old) ≡ None) }
     {
@@ -115,7 +113,7 @@ impl<'a> Stack<'a> {
     }
 
     /// The top part as what stands behind the name in a declaration of a type.
-    pub fn tail(&mut self) -> Result<TypeTail, BuildRefusal>
+    pub fn tail(&mut self) -> Result<TypeTail, Misfit>
         ensures part { IfOk result (λ v. top as_tail (held self.old) ≡ Some (tail_in v, held self.new)) }
         ensures misfit { IfErr result (λ e. top as_tail (held self.old) ≡ None) }
     {
@@ -126,7 +124,7 @@ impl<'a> Stack<'a> {
     }
 
     /// The top part as a kind.
-    pub fn kind(&mut self) -> Result<KindPart, BuildRefusal>
+    pub fn kind(&mut self) -> Result<KindPart, Misfit>
         ensures part { IfOk result (λ v. top as_kind (held self.old) ≡ Some (kind_in v, held self.new)) }
         ensures misfit { IfErr result (λ e. top as_kind (held self.old) ≡ None) }
     {
@@ -137,7 +135,7 @@ impl<'a> Stack<'a> {
     }
 
     /// The top part as what stands behind a kind: the kind behind an arrow, or nothing.
-    pub fn kind_arrow(&mut self) -> Result<Option<KindPart>, BuildRefusal>
+    pub fn kind_arrow(&mut self) -> Result<Option<KindPart>, Misfit>
         ensures part { IfOk result (λ v. top as_kind_arrow (held self.old) ≡ Some (option_map kind_in v, held self.new)) }
         ensures misfit { IfErr result (λ e. top as_kind_arrow (held self.old) ≡ None) }
     {
@@ -148,7 +146,7 @@ impl<'a> Stack<'a> {
     }
 
     /// The top part as a module.
-    pub fn module(&mut self) -> Result<Mod, BuildRefusal>
+    pub fn module(&mut self) -> Result<Mod, Misfit>
         ensures part { IfOk result (λ v. top as_mod (held self.old) ≡ Some (v, held self.new)) }
         ensures misfit { IfErr result (λ e. top as_mod (held self.old) ≡ None) }
     {
@@ -159,7 +157,7 @@ impl<'a> Stack<'a> {
     }
 
     /// The top part as names, the first one last.
-    pub fn names(&mut self) -> Result<Vec<SpanName>, BuildRefusal>
+    pub fn names(&mut self) -> Result<Vec<SpanName>, Misfit>
         ensures part { IfOk result (λ v. top as_names (held self.old) ≡ Some (map spelled (reverse v.items), held self.new)) }
         ensures misfit { IfErr result (λ e. top as_names (held self.old) ≡ None) }
     {
@@ -170,7 +168,7 @@ impl<'a> Stack<'a> {
     }
 
     /// The top part as a type.
-    pub fn ty(&mut self) -> Result<TyEx, BuildRefusal>
+    pub fn ty(&mut self) -> Result<TyEx, Misfit>
         ensures part { IfOk result (λ v. top as_ty (held self.old) ≡ Some (v, held self.new)) }
         ensures misfit { IfErr result (λ e. top as_ty (held self.old) ≡ None) }
     {
@@ -181,7 +179,7 @@ impl<'a> Stack<'a> {
     }
 
     /// The top part as what stands behind a type: the type behind an arrow, or nothing.
-    pub fn ty_arrow(&mut self) -> Result<Option<TyEx>, BuildRefusal>
+    pub fn ty_arrow(&mut self) -> Result<Option<TyEx>, Misfit>
         ensures part { IfOk result (λ v. top as_ty_arrow (held self.old) ≡ Some (v, held self.new)) }
         ensures misfit { IfErr result (λ e. top as_ty_arrow (held self.old) ≡ None) }
     {
@@ -192,7 +190,7 @@ impl<'a> Stack<'a> {
     }
 
     /// The top part as types, the first one last.
-    pub fn tys(&mut self) -> Result<Vec<TyEx>, BuildRefusal>
+    pub fn tys(&mut self) -> Result<Vec<TyEx>, Misfit>
         ensures part { IfOk result (λ v. top as_tys (held self.old) ≡ Some (tys_of (reverse v.items), held self.new)) }
         ensures misfit { IfErr result (λ e. top as_tys (held self.old) ≡ None) }
     {
@@ -203,7 +201,7 @@ impl<'a> Stack<'a> {
     }
 
     /// The top part as fields of a record type, the first one last.
-    pub fn field_tys(&mut self) -> Result<Vec<(SpanName, TyEx)>, BuildRefusal>
+    pub fn field_tys(&mut self) -> Result<Vec<(SpanName, TyEx)>, Misfit>
         ensures part { IfOk result (λ v. top as_field_tys (held self.old) ≡ Some (field_tys_of (reverse v.items), held self.new)) }
         ensures misfit { IfErr result (λ e. top as_field_tys (held self.old) ≡ None) }
     {
@@ -214,7 +212,7 @@ impl<'a> Stack<'a> {
     }
 
     /// The top part as a signature.
-    pub fn sig(&mut self) -> Result<SigEx, BuildRefusal>
+    pub fn sig(&mut self) -> Result<SigEx, Misfit>
         ensures part { IfOk result (λ v. top as_sig (held self.old) ≡ Some (v, held self.new)) }
         ensures misfit { IfErr result (λ e. top as_sig (held self.old) ≡ None) }
     {
@@ -225,7 +223,7 @@ impl<'a> Stack<'a> {
     }
 
     /// The top part as whether a functor is pure.
-    pub fn pure(&mut self) -> Result<bool, BuildRefusal>
+    pub fn pure(&mut self) -> Result<bool, Misfit>
         ensures part { IfOk result (λ v. top as_pure (held self.old) ≡ Some (v, held self.new)) }
         ensures misfit { IfErr result (λ e. top as_pure (held self.old) ≡ None) }
     {
@@ -236,7 +234,7 @@ impl<'a> Stack<'a> {
     }
 
     /// The top part as refinements, the first one last.
-    pub fn wheres(&mut self) -> Result<Vec<Where>, BuildRefusal>
+    pub fn wheres(&mut self) -> Result<Vec<Where>, Misfit>
         ensures part { IfOk result (λ v. top as_wheres (held self.old) ≡ Some (map where_in (reverse v.items), held self.new)) }
         ensures misfit { IfErr result (λ e. top as_wheres (held self.old) ≡ None) }
     {
@@ -247,7 +245,7 @@ impl<'a> Stack<'a> {
     }
 
     /// The top part as modules, the first one last.
-    pub fn mods(&mut self) -> Result<Vec<Mod>, BuildRefusal>
+    pub fn mods(&mut self) -> Result<Vec<Mod>, Misfit>
         ensures part { IfOk result (λ v. top as_mods (held self.old) ≡ Some (reverse v.items, held self.new)) }
         ensures misfit { IfErr result (λ e. top as_mods (held self.old) ≡ None) }
     {
@@ -258,7 +256,7 @@ impl<'a> Stack<'a> {
     }
 
     /// The top part as signatures behind a module, the first one last.
-    pub fn ascriptions(&mut self) -> Result<Vec<Ascription>, BuildRefusal>
+    pub fn ascriptions(&mut self) -> Result<Vec<Ascription>, Misfit>
         ensures part { IfOk result (λ v. top as_ascriptions (held self.old) ≡ Some (map ascription_in (reverse v.items), held self.new)) }
         ensures misfit { IfErr result (λ e. top as_ascriptions (held self.old) ≡ None) }
     {
@@ -269,7 +267,7 @@ impl<'a> Stack<'a> {
     }
 
     /// The top part as an expression.
-    pub fn exp(&mut self) -> Result<Exp, BuildRefusal>
+    pub fn exp(&mut self) -> Result<Exp, Misfit>
         ensures part { IfOk result (λ v. top as_exp (held self.old) ≡ Some (v, held self.new)) }
         ensures misfit { IfErr result (λ e. top as_exp (held self.old) ≡ None) }
     {
@@ -280,7 +278,7 @@ impl<'a> Stack<'a> {
     }
 
     /// The top part as what follows `fun` in an expression.
-    pub fn abstraction(&mut self) -> Result<Abstraction, BuildRefusal>
+    pub fn abstraction(&mut self) -> Result<Abstraction, Misfit>
         ensures part { IfOk result (λ v. top as_abstraction (held self.old) ≡ Some (abstraction_in v, held self.new)) }
         ensures misfit { IfErr result (λ e. top as_abstraction (held self.old) ≡ None) }
     {
@@ -291,7 +289,7 @@ impl<'a> Stack<'a> {
     }
 
     /// The top part as operators with their right sides, the first one last.
-    pub fn ops(&mut self) -> Result<Vec<(Op, Exp)>, BuildRefusal>
+    pub fn ops(&mut self) -> Result<Vec<(Op, Exp)>, Misfit>
         ensures part { IfOk result (λ v. top as_ops (held self.old) ≡ Some (ops_of (reverse v.items), held self.new)) }
         ensures misfit { IfErr result (λ e. top as_ops (held self.old) ≡ None) }
     {
@@ -302,7 +300,7 @@ impl<'a> Stack<'a> {
     }
 
     /// The top part as arguments, the first one last.
-    pub fn args(&mut self) -> Result<Vec<Arg>, BuildRefusal>
+    pub fn args(&mut self) -> Result<Vec<Arg>, Misfit>
         ensures part { IfOk result (λ v. top as_args (held self.old) ≡ Some (args_of (reverse v.items), held self.new)) }
         ensures misfit { IfErr result (λ e. top as_args (held self.old) ≡ None) }
     {
@@ -313,7 +311,7 @@ impl<'a> Stack<'a> {
     }
 
     /// The top part as fields of a record, the first one last.
-    pub fn field_exps(&mut self) -> Result<Vec<(SpanName, Exp)>, BuildRefusal>
+    pub fn field_exps(&mut self) -> Result<Vec<(SpanName, Exp)>, Misfit>
         ensures part { IfOk result (λ v. top as_field_exps (held self.old) ≡ Some (field_exps_of (reverse v.items), held self.new)) }
         ensures misfit { IfErr result (λ e. top as_field_exps (held self.old) ≡ None) }
     {

@@ -40,8 +40,7 @@ fn fun(stack: &mut Stack<'_>, alloc: Global) -> Result<(), BuildRefusal>
             param,
             result,
         },
-    }))?;
-    Ok(())
+    }))
 }
 
 fn refined(stack: &mut Stack<'_>, alloc: Global) -> Result<(), BuildRefusal>
@@ -51,8 +50,7 @@ fn refined(stack: &mut Stack<'_>, alloc: Global) -> Result<(), BuildRefusal>
     let sig = Kept::new(stack.sig()?);
     let wheres = stack.wheres()?;
     let sig = refine_all(alloc, sig.take(), wheres)?;
-    stack.push(Part::Sig(sig))?;
-    Ok(())
+    stack.push(Part::Sig(sig))
 }
 
 fn generative(stack: &mut Stack<'_>) -> Result<(), BuildRefusal>
@@ -60,8 +58,7 @@ fn generative(stack: &mut Stack<'_>) -> Result<(), BuildRefusal>
     ensures misfit { IfErr result (λ e. e ≡ Misfit → played the.generative (held stack.old) ≡ None) }
 {
     stack.token()?;
-    stack.push(Part::Pure(false))?;
-    Ok(())
+    stack.push(Part::Pure(false))
 }
 
 fn applicative(stack: &mut Stack<'_>) -> Result<(), BuildRefusal>
@@ -69,16 +66,14 @@ fn applicative(stack: &mut Stack<'_>) -> Result<(), BuildRefusal>
     ensures misfit { IfErr result (λ e. e ≡ Misfit → played the.applicative (held stack.old) ≡ None) }
 {
     stack.token()?;
-    stack.push(Part::Pure(true))?;
-    Ok(())
+    stack.push(Part::Pure(true))
 }
 
 fn no_wheres(stack: &mut Stack<'_>, alloc: Global) -> Result<(), BuildRefusal>
     ensures made { IfOk result (λ _. played the.no_wheres (held stack.old) ≡ Some (held stack.new)) }
     ensures misfit { IfErr result (λ e. e ≡ Misfit → played the.no_wheres (held stack.old) ≡ None) }
 {
-    stack.push(Part::Wheres(Vec::new(alloc)))?;
-    Ok(())
+    stack.push(Part::Wheres(Vec::new(alloc)))
 }
 
 #[tactic(auto, using(parse_forms::proofs::Chained::reverse_push))]
@@ -97,8 +92,7 @@ fn more_wheres(stack: &mut Stack<'_>, alloc: Global) -> Result<(), BuildRefusal>
     let first = named(alloc, first)?;
     let ty = ty.take();
     wheres.push(Where { first, rest, ty })?;
-    stack.push(Part::Wheres(wheres))?;
-    Ok(())
+    stack.push(Part::Wheres(wheres))
 }
 
 fn path(stack: &mut Stack<'_>) -> Result<(), BuildRefusal>
@@ -109,8 +103,7 @@ fn path(stack: &mut Stack<'_>) -> Result<(), BuildRefusal>
     stack.push(Part::Sig(SigEx {
         span: path.span,
         what: SigWhat::Path(path),
-    }))?;
-    Ok(())
+    }))
 }
 
 fn decls(stack: &mut Stack<'_>) -> Result<(), BuildRefusal>
@@ -125,8 +118,7 @@ fn decls(stack: &mut Stack<'_>) -> Result<(), BuildRefusal>
     stack.push(Part::Sig(SigEx {
         span,
         what: SigWhat::Sig(decls),
-    }))?;
-    Ok(())
+    }))
 }
 
 fn paren(stack: &mut Stack<'_>) -> Result<(), BuildRefusal>
@@ -140,8 +132,7 @@ fn paren(stack: &mut Stack<'_>) -> Result<(), BuildRefusal>
     stack.push(Part::Sig(SigEx {
         span,
         what: sig.take().what,
-    }))?;
-    Ok(())
+    }))
 }
 
 /// Plays a production: its parts are taken off the stack, the first one on top, and what it gives is put there.

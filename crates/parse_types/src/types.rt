@@ -34,8 +34,7 @@ fn lam(stack: &mut Stack<'_>, alloc: Global) -> Result<(), BuildRefusal>
     stack.push(Part::Ty(TyEx {
         span,
         what: TyWhat::Lam(name, kind.take(), body),
-    }))?;
-    Ok(())
+    }))
 }
 
 fn all(stack: &mut Stack<'_>, alloc: Global) -> Result<(), BuildRefusal>
@@ -55,8 +54,7 @@ fn all(stack: &mut Stack<'_>, alloc: Global) -> Result<(), BuildRefusal>
     stack.push(Part::Ty(TyEx {
         span,
         what: TyWhat::All(name, kind.take(), body),
-    }))?;
-    Ok(())
+    }))
 }
 
 fn chain(stack: &mut Stack<'_>, alloc: Global) -> Result<(), BuildRefusal>
@@ -66,16 +64,14 @@ fn chain(stack: &mut Stack<'_>, alloc: Global) -> Result<(), BuildRefusal>
     let from = Kept::new(stack.ty()?);
     let to = stack.ty_arrow()?;
     let ty = arrow_chain(alloc, from.take(), to)?;
-    stack.push(Part::Ty(ty))?;
-    Ok(())
+    stack.push(Part::Ty(ty))
 }
 
 fn no_arrow(stack: &mut Stack<'_>) -> Result<(), BuildRefusal>
     ensures made { IfOk result (λ _. played the.no_arrow (held stack.old) ≡ Some (held stack.new)) }
     ensures misfit { IfErr result (λ e. e ≡ Misfit → played the.no_arrow (held stack.old) ≡ None) }
 {
-    stack.push(Part::TyArrow(None))?;
-    Ok(())
+    stack.push(Part::TyArrow(None))
 }
 
 fn arrow(stack: &mut Stack<'_>) -> Result<(), BuildRefusal>
@@ -84,8 +80,7 @@ fn arrow(stack: &mut Stack<'_>) -> Result<(), BuildRefusal>
 {
     stack.token()?;
     let ty = stack.ty()?;
-    stack.push(Part::TyArrow(Some(ty)))?;
-    Ok(())
+    stack.push(Part::TyArrow(Some(ty)))
 }
 
 fn args(stack: &mut Stack<'_>, alloc: Global) -> Result<(), BuildRefusal>
@@ -95,16 +90,14 @@ fn args(stack: &mut Stack<'_>, alloc: Global) -> Result<(), BuildRefusal>
     let operator = Kept::new(stack.ty()?);
     let args = stack.tys()?;
     let ty = ty_chain(alloc, operator.take(), args)?;
-    stack.push(Part::Ty(ty))?;
-    Ok(())
+    stack.push(Part::Ty(ty))
 }
 
 fn no_args(stack: &mut Stack<'_>, alloc: Global) -> Result<(), BuildRefusal>
     ensures made { IfOk result (λ _. played the.no_ty_args (held stack.old) ≡ Some (held stack.new)) }
     ensures misfit { IfErr result (λ e. e ≡ Misfit → played the.no_ty_args (held stack.old) ≡ None) }
 {
-    stack.push(Part::Tys(Vec::new(alloc)))?;
-    Ok(())
+    stack.push(Part::Tys(Vec::new(alloc)))
 }
 
 #[tactic(auto, using(parse_forms::proofs::Chained::reverse_push))]
@@ -115,8 +108,7 @@ fn more_args(stack: &mut Stack<'_>) -> Result<(), BuildRefusal>
     let first = Kept::new(stack.ty()?);
     let mut rest = stack.tys()?;
     rest.push(first.take())?;
-    stack.push(Part::Tys(rest))?;
-    Ok(())
+    stack.push(Part::Tys(rest))
 }
 
 fn int(stack: &mut Stack<'_>) -> Result<(), BuildRefusal>
@@ -127,8 +119,7 @@ fn int(stack: &mut Stack<'_>) -> Result<(), BuildRefusal>
     stack.push(Part::Ty(TyEx {
         span: word.span,
         what: TyWhat::Int,
-    }))?;
-    Ok(())
+    }))
 }
 
 fn bool_ty(stack: &mut Stack<'_>) -> Result<(), BuildRefusal>
@@ -139,8 +130,7 @@ fn bool_ty(stack: &mut Stack<'_>) -> Result<(), BuildRefusal>
     stack.push(Part::Ty(TyEx {
         span: word.span,
         what: TyWhat::Bool,
-    }))?;
-    Ok(())
+    }))
 }
 
 fn text(stack: &mut Stack<'_>) -> Result<(), BuildRefusal>
@@ -151,8 +141,7 @@ fn text(stack: &mut Stack<'_>) -> Result<(), BuildRefusal>
     stack.push(Part::Ty(TyEx {
         span: word.span,
         what: TyWhat::Text,
-    }))?;
-    Ok(())
+    }))
 }
 
 fn path(stack: &mut Stack<'_>) -> Result<(), BuildRefusal>
@@ -163,8 +152,7 @@ fn path(stack: &mut Stack<'_>) -> Result<(), BuildRefusal>
     stack.push(Part::Ty(TyEx {
         span: path.span,
         what: TyWhat::Path(path),
-    }))?;
-    Ok(())
+    }))
 }
 
 fn fields(stack: &mut Stack<'_>) -> Result<(), BuildRefusal>
@@ -179,8 +167,7 @@ fn fields(stack: &mut Stack<'_>) -> Result<(), BuildRefusal>
     stack.push(Part::Ty(TyEx {
         span,
         what: TyWhat::Fields(fields),
-    }))?;
-    Ok(())
+    }))
 }
 
 fn pack(stack: &mut Stack<'_>, alloc: Global) -> Result<(), BuildRefusal>
@@ -194,8 +181,7 @@ fn pack(stack: &mut Stack<'_>, alloc: Global) -> Result<(), BuildRefusal>
     stack.push(Part::Ty(TyEx {
         span,
         what: TyWhat::Pack(sig),
-    }))?;
-    Ok(())
+    }))
 }
 
 fn paren(stack: &mut Stack<'_>) -> Result<(), BuildRefusal>
@@ -209,16 +195,14 @@ fn paren(stack: &mut Stack<'_>) -> Result<(), BuildRefusal>
     stack.push(Part::Ty(TyEx {
         span,
         what: ty.take().what,
-    }))?;
-    Ok(())
+    }))
 }
 
 fn no_fields(stack: &mut Stack<'_>, alloc: Global) -> Result<(), BuildRefusal>
     ensures made { IfOk result (λ _. played the.no_ty_fields (held stack.old) ≡ Some (held stack.new)) }
     ensures misfit { IfErr result (λ e. e ≡ Misfit → played the.no_ty_fields (held stack.old) ≡ None) }
 {
-    stack.push(Part::FieldTys(Vec::new(alloc)))?;
-    Ok(())
+    stack.push(Part::FieldTys(Vec::new(alloc)))
 }
 
 #[tactic(auto, using(parse_forms::proofs::Chained::reverse_push))]
@@ -232,8 +216,7 @@ fn field(stack: &mut Stack<'_>, alloc: Global) -> Result<(), BuildRefusal>
     let mut rest = stack.field_tys()?;
     let name = named(alloc, name)?;
     rest.push((name, ty.take()))?;
-    stack.push(Part::FieldTys(rest))?;
-    Ok(())
+    stack.push(Part::FieldTys(rest))
 }
 
 #[tactic(auto, using(parse_forms::proofs::Chained::reverse_push))]
@@ -248,8 +231,7 @@ fn next_field(stack: &mut Stack<'_>, alloc: Global) -> Result<(), BuildRefusal>
     let mut rest = stack.field_tys()?;
     let name = named(alloc, name)?;
     rest.push((name, ty.take()))?;
-    stack.push(Part::FieldTys(rest))?;
-    Ok(())
+    stack.push(Part::FieldTys(rest))
 }
 
 /// Plays a production: its parts are taken off the stack, the first one on top, and what it gives is put there.

@@ -1,5 +1,5 @@
 -- What single declarations give, and the exit at a condition that fails.
-use Rattle.std.proofs.Common.{◌≡◌, List, [], Option, Some, None, Result, IfErr, IfSome, IsErrAnd, sym, ◌∙◌, subst}
+use Rattle.std.proofs.Common.{◌≡◌, List, [], Option, Some, None, Result, Ok, Err, IfErr, IfOk, IfSome, IsErrAnd, sym, ◌∙◌, subst}
 use Rattle.std.proofs.lemmas.Result.{err_from_is_err_and}
 use Rattle.omega_kinds.specs.Kind.{Kind}
 use Rattle.omega_kinds.specs.Name.{Name}
@@ -10,6 +10,11 @@ use Rattle.sig_rules.specs.SigRules.{GenerativeGives, ModuleGives, one_part}
 use Rattle.sig_rules.specs.SigWhy.{SigWhy}
 use Rattle.sig_calls.specs.declared.refusal.SigRefusal.{SigRefusal}
 use Rattle.sig_calls.specs.Plain.{plain_why}
+
+-- what holds of the value that a last call gives
+pub given-by : {T E : Type 0} (r : Result T E) (x : T) (Q : T → Type 0) → IfOk r (λ y. y ≡ x) → Q x → IfOk r Q
+given-by (Ok y) x Q e q = subst Q (sym e) q
+given-by (Err w) x Q e q = tt
 
 some-weaker : (o : Option SigWhy) (P Q : SigWhy → Type 0) → ((w : SigWhy) → P w → Q w) → IfSome o P → IfSome o Q
 some-weaker None P Q f h = tt

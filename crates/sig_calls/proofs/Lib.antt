@@ -4,5 +4,6 @@ pub mod Following
 pub mod Including
 pub mod Lists
 pub mod Merging
+pub mod NameKeys
 pub mod Naming
 pub mod Putting

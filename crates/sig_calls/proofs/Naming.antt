@@ -1,19 +1,10 @@
--- Names that are new, tried one after the other.
-use Rattle.std.proofs.Common.{◌≡◌, ◌↔◌, ℕ, ◌+◌, ◌<◌, ◌≤◌, List, length, get_or, drop, sym, subst}
+-- The names of fields, tried one after the other.
+use Rattle.std.proofs.Common.{◌≡◌, ℕ, ◌+◌, ◌<◌, List, length, get_or, drop, sym, subst}
 use Rattle.omega_kinds.specs.Name.{Name}
 use Rattle.semantic_sigs.specs.Fields.{SigPairs, sig_row}
 use Rattle.semantic_sigs.proofs.PartSteps.{left-more}
 use Rattle.signatures.specs.Signatures.RecordOrder.{AreNew, FirstOld, IsNew, here, there}
 use Rattle.signatures.specs.Signatures.Sig.{Sig}
-
--- a name that is found is not new, and the other names are still to be tried
-pub found : (l : Name) (names : List Name) (i : ℕ) (m : Name) → i < length names → m ≡ get_or names i m → l ≡ m → (IsNew l (drop i names) ↔ IsNew l names) → IsNew l names → ⊥
-found l names i m lt em e f n = (subst (IsNew l) (left-more names i m lt em) (f.1 n)).0 e
-
-pub not-found : (l : Name) (names : List Name) (i : ℕ) (m : Name) → i < length names → m ≡ get_or names i m → (l ≡ m → ⊥) → (IsNew l (drop i names) ↔ IsNew l names) → (IsNew l (drop (i + 1) names) ↔ IsNew l names)
-not-found l names i m lt em n f =
-    let e = left-more names i m lt em in
-    (λ h. f.0 (subst (IsNew l) (sym e) (n, h)), λ h. (subst (IsNew l) e (f.1 h)).1)
 
 -- what holds of the fields that are left holds of all
 abbrev pub Passes : List Name → SigPairs → SigPairs → Type 0

@@ -1,5 +1,5 @@
 // The rules of single declarations, of included signatures and of generative functors.
-ghost use Rattle.std.specs.Prelude.{◌≡◌, ◌≢◌, [], ◌∷◌, None, IfErr, IfOk, IfSome, OnOk};
+ghost use Rattle.std.specs.Prelude.{◌≡◌, ◌≢◌, [], ◌∷◌, IfErr, IfOk, IfSome, OnOk};
 ghost use Rattle.omega_kinds.specs.Kind.{Star};
 ghost use Rattle.omega_kinds.specs.View.{kind_tree};
 ghost use Rattle.signatures.specs.Signatures.Sig.{Ex};
@@ -45,23 +45,21 @@ fn expect_star(kind: &Kind) -> Result<(), SigRefusal>
     }
 }
 
-/// `type X = T`. The only refusal is want of memory.
-pub fn decl_is(alloc: Global, name: &Name, ty: &Kinded) -> Result<Abs, SigRefusal>
-    ensures given { IfOk result (λ x. TypeGives name.now ty.now.ty (kind_tree ty.now.kind) x) }
-    ensures refused { IfErr result (λ e. plain_why e ≡ None) }
+/// `type X = T`. `Err` is want of memory.
+pub fn decl_is(alloc: Global, name: &Name, ty: &Kinded) -> Result<Abs, Mem>
+    ensures { IfOk result (λ x. TypeGives name.now ty.now.ty (kind_tree ty.now.kind) x) }
 {
     let part = Sig::make(alloc, SigNode::Typ(ty.ty.share()?, ty.kind.share()?))?;
-    Ok(one_part(alloc, Kinds::new(alloc), name, part)?)
+    one_part(alloc, Kinds::new(alloc), name, part)
 }
 
-/// `type X : K`, which hides a type. The only refusal is want of memory.
-pub fn decl_of(alloc: Global, name: &Name, kind: &Kind) -> Result<Abs, SigRefusal>
-    ensures given { IfOk result (λ x. AbstractGives name.now (kind_tree kind.now) x) }
-    ensures refused { IfErr result (λ e. plain_why e ≡ None) }
+/// `type X : K`, which hides a type. `Err` is want of memory.
+pub fn decl_of(alloc: Global, name: &Name, kind: &Kind) -> Result<Abs, Mem>
+    ensures { IfOk result (λ x. AbstractGives name.now (kind_tree kind.now) x) }
 {
     let variable = innermost(alloc, kind)?;
     let part = Sig::make(alloc, SigNode::Typ(variable, kind.share()?))?;
-    Ok(one_part(alloc, one_kind(alloc, kind)?, name, part)?)
+    one_part(alloc, one_kind(alloc, kind)?, name, part)
 }
 
 // One kind.
@@ -73,27 +71,25 @@ fn one_kind(alloc: Global, kind: &Kind) -> Result<Kinds, Mem>
     Ok(kinds)
 }
 
-/// `module X : S`. The only refusal is want of memory.
-pub fn decl_module(alloc: Global, name: &Name, sig: &Abs) -> Result<Abs, SigRefusal>
-    ensures given { IfOk result (λ x. ModuleGives name.now sig.now x) }
-    ensures refused { IfErr result (λ e. plain_why e ≡ None) }
+/// `module X : S`. `Err` is want of memory.
+pub fn decl_module(alloc: Global, name: &Name, sig: &Abs) -> Result<Abs, Mem>
+    ensures { IfOk result (λ x. ModuleGives name.now sig.now x) }
 {
     let kinds = sig.kinds().share(alloc)?;
     let body = sig.body().share()?;
-    Ok(one_part(alloc, kinds, name, body)?)
+    one_part(alloc, kinds, name, body)
 }
 
-/// `signature X = S`. The only refusal is want of memory.
-pub fn decl_meta(alloc: Global, name: &Name, sig: &Abs) -> Result<Abs, SigRefusal>
-    ensures given { IfOk result (λ x. SignatureGives name.now sig.now x) }
-    ensures refused { IfErr result (λ e. plain_why e ≡ None) }
+/// `signature X = S`. `Err` is want of memory.
+pub fn decl_meta(alloc: Global, name: &Name, sig: &Abs) -> Result<Abs, Mem>
+    ensures { IfOk result (λ x. SignatureGives name.now sig.now x) }
 {
     let part = Sig::make(alloc, SigNode::Meta(sig.share()?))?;
-    Ok(one_part(alloc, Kinds::new(alloc), name, part)?)
+    one_part(alloc, Kinds::new(alloc), name, part)
 }
 
 /// `include S`. `NotStructure` comes exactly where S is the signature of no structure.
-pub fn include(_alloc: Global, sig: &Abs) -> Result<Abs, SigRefusal>
+pub fn include(sig: &Abs) -> Result<Abs, SigRefusal>
     ensures given { IfOk result (λ x. IncludeGives sig.now x) }
     ensures refused { IfErr result (λ e. IfSome (plain_why e) (λ why. IncludeRefuses sig.now why)) }
 {
@@ -103,10 +99,9 @@ pub fn include(_alloc: Global, sig: &Abs) -> Result<Abs, SigRefusal>
     }
 }
 
-/// `fun (X : S1) -> S2`, S2 under the hidden types of S1. The only refusal is want of memory.
-pub fn functor_sig(alloc: Global, param: &Abs, target: &Abs) -> Result<Abs, SigRefusal>
-    ensures given { IfOk result (λ x. GenerativeGives param.now target.now x) }
-    ensures refused { IfErr result (λ e. plain_why e ≡ None) }
+/// `fun (X : S1) -> S2`, S2 under the hidden types of S1. `Err` is want of memory.
+pub fn functor_sig(alloc: Global, param: &Abs, target: &Abs) -> Result<Abs, Mem>
+    ensures { IfOk result (λ x. GenerativeGives param.now target.now x) }
 {
     let functor = Sig::make(
         alloc,
@@ -117,5 +112,5 @@ pub fn functor_sig(alloc: Global, param: &Abs, target: &Abs) -> Result<Abs, SigR
             result: target.share()?,
         },
     )?;
-    Ok(Abs::make(alloc, Kinds::new(alloc), functor)?)
+    Abs::make(alloc, Kinds::new(alloc), functor)
 }

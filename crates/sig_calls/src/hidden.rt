@@ -53,8 +53,7 @@ pub(crate) fn variable(alloc: Global, kind: &Kind, index: u64) -> Result<NormalT
     ensures { IfOk result (λ t. t ≡ eta_of (kind_tree kind.now) (Var index)) }
 {
     let own = innermost(alloc, kind)?;
-    let raised = raise(alloc, &own, index, 0)?;
-    Ok(raised)
+    raise(alloc, &own, index, 0)
 }
 
 // A type for the first of some hidden types, and for each later one, of these kinds, its own variable.

@@ -1,5 +1,5 @@
 // The rules of signatures and declarations in code: each call gives the conclusion of its rule out of premises that are
-// handed in, or the refusal of the first condition that fails.
+// handed in, or the refusal of the first condition that fails. And sets of names, as of those declared before.
 // Stands on sig_rules, whose definitions say what is given and what is refused, and on semantic_sigs, in whose handles it
 // works.
 // Proved: what a call gives is the conclusion of its rule, and each refusal is one of its rule; want of memory alone is free.
@@ -7,11 +7,13 @@
 
 mod declarations;
 mod hidden;
+mod name_set;
 mod refinement;
 mod refusal;
 mod sequences;
 
 pub use declarations::{decl_is, decl_meta, decl_module, decl_of, decl_val, functor_sig, include};
+pub use name_set::NameSet;
 pub use refinement::where_type;
 pub use refusal::SigRefusal;
 pub use sequences::{distinct, seq_decl};

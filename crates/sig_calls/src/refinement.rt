@@ -1,10 +1,10 @@
 // The rule of a signature with one of its hidden types fixed.
-ghost use Rattle.std.specs.Prelude.{◌≡◌, ◌-◌, ◌<◌, ◌↔◌, IfErr, IfOk, IfSome, IsTrue, MatchOption, MatchResult, length, map};
+ghost use Rattle.std.specs.Prelude.{◌≡◌, ◌-◌, ◌<◌, ◌↔◌, IfErr, IfOk, IfSome, IsTrue, List, MatchOption, MatchResult, length, map};
+ghost use Rattle.omega_kinds.specs.Kind.{Kind as KindTree};
 ghost use Rattle.omega_kinds.specs.View.{kind_tree};
 ghost use Rattle.omega_types.specs.EtaLong.{eta as eta_of};
 ghost use Rattle.omega_types.specs.Index.{bump, shift};
 ghost use Rattle.omega_types.specs.Normality.{Normal};
-ghost use Rattle.omega_types.specs.Scope.{scope_of};
 ghost use Rattle.omega_types.specs.Ty.{Var};
 ghost use Rattle.signatures.specs.Explicit.SigPath.{Part};
 ghost use Rattle.signatures.specs.Signatures.Alike.{NormalAbs};
@@ -24,21 +24,14 @@ use std::alloc::Global;
 use type_normal::{NormalTy, raise, same};
 
 /// `S where type path = T`: S with T for the hidden type that its part at the path shows, which is hidden no longer. T
-/// stands outside the hidden types of S. Both are normal in the context `_ctx`, which lists the kinds of the type
-/// variables in scope, the innermost last.
+/// stands outside the hidden types of S. Both are normal in one context.
 /// `NoPart` comes exactly where the path leaves the structures, with the first name that leads nowhere; else
 /// `NotAbstract` exactly where the part at the path is no hidden type of S's own, with the path; else `KindDiffer` exactly
 /// where T has another kind than the hidden type: the kind of T, and that of the hidden type.
-pub fn where_type(
-    alloc: Global,
-    _ctx: &[Kind],
-    sig: &Abs,
-    path: &[Name],
-    ty: &Kinded,
-) -> Result<Abs, SigRefusal>
-    ensures given { IfOk result (λ x. NormalAbs (scope_of _ctx.now) sig.now
-        → Normal (scope_of _ctx.now) ty.now.ty (kind_tree ty.now.kind)
-        → Refined (scope_of _ctx.now) sig.now path.now ty.now.ty (kind_tree ty.now.kind) x) }
+pub fn where_type(alloc: Global, sig: &Abs, path: &[Name], ty: &Kinded) -> Result<Abs, SigRefusal>
+    ensures given { IfOk result (λ x. (ctx : List KindTree) → NormalAbs ctx sig.now
+        → Normal ctx ty.now.ty (kind_tree ty.now.kind)
+        → Refined ctx sig.now path.now ty.now.ty (kind_tree ty.now.kind) x) }
     ensures refused { IfErr result (λ e. IfSome (plain_why e) (λ why. WhereRefuses sig.now path.now ty.now.ty (kind_tree ty.now.kind) why)) }
 {
     let shown = match follow(sig.body(), path) {
@@ -134,8 +127,7 @@ fn fixed(alloc: Global, sig: &Abs, place: usize, ty: &NormalTy) -> Result<Abs, M
         kinds.len() as u64 - 1,
     )?;
     let left = joined(alloc, &kinds[..place], later)?;
-    let whole = Abs::make(alloc, left, body)?;
-    Ok(whole)
+    Abs::make(alloc, left, body)
 }
 
 // What stands under hidden types of these kinds, with a type put in for the first of them, and for each later one its own
@@ -153,8 +145,7 @@ fn put_first(
     let raised = raise(alloc, ty, others, 0)?;
     let types = with_own(alloc, raised, &kinds[1..])?;
     let whole = over_again(alloc, kinds, body)?;
-    let put = instantiate(alloc, &whole, types.items())?;
-    Ok(put)
+    instantiate(alloc, &whole, types.items())
 }
 
 // What stands under hidden types of these kinds, hiding them, as it is written under those after the first.

@@ -1,23 +1,24 @@
 // The rules of several declarations.
-ghost use Rattle.std.specs.Prelude.{◌≡◌, [], ◌∷◌, ◌++◌, ◌↔◌, List, None, IfErr, IfOk, IfSome, IsTrue, OnOk};
+ghost use Rattle.std.specs.Prelude.{◌≡◌, [], ◌∷◌, ◌++◌, List, IfErr, IfOk, IfSome, OnOk};
 ghost use Rattle.omega_kinds.specs.Kind.{Kind as KindTree};
 ghost use Rattle.signatures.specs.Signatures.FieldOrder.{merge as merge_of};
-ghost use Rattle.signatures.specs.Signatures.RecordOrder.{AreNew, IsNew};
+ghost use Rattle.signatures.specs.Signatures.RecordOrder.{AreNew};
 ghost use Rattle.signatures.specs.Signatures.Sig.{SigRow, Str, Ex};
 ghost use Rattle.semantic_sigs.specs.Fields.{MayFollow, Rises, sig_row};
 ghost use Rattle.sig_rules.specs.SigRules.{DeclarationsGive, DistinctRefuses};
 ghost use Rattle.sig_calls.specs.Plain.{AreApart, fields_in, plain_why};
 
 use crate::hidden::joined;
+use crate::name_set::NameSet;
 use crate::refusal::SigRefusal;
-use omega_kinds::{Mem, Name, Names, same_name};
+use omega_kinds::{Mem, Name};
 use semantic_sigs::{Abs, Sig, SigFields, SigNode, raise_sig};
 use std::alloc::Global;
 use std::cmp::Ordering;
 
 /// Whether the fields of a declaration, in the order of names, are all new after those before. `Duplicate` comes exactly
 /// where one is not, with the first such name.
-pub fn distinct(_alloc: Global, before: &Names, next: &Abs) -> Result<(), SigRefusal>
+pub fn distinct(before: &NameSet, next: &Abs) -> Result<(), SigRefusal>
     ensures given { OnOk result (AreNew (fields_in next.now) before.now) }
     ensures refused { IfErr result (λ e. IfSome (plain_why e) (λ why. DistinctRefuses before.now (fields_in next.now) why)) }
 {
@@ -25,37 +26,24 @@ pub fn distinct(_alloc: Global, before: &Names, next: &Abs) -> Result<(), SigRef
         return Ok(());
     };
     for field in fields.items() {
-        if !is_new(&field.0, before) {
+        if before.contains(&field.0) {
             return Err(SigRefusal::Duplicate(field.0.share()?));
         }
     }
     Ok(())
 }
 
-// Whether a name is none of these.
-fn is_new(name: &Name, names: &Names) -> bool
-    ensures { IsTrue result ↔ IsNew name.now names.now }
-{
-    for other in names.items() {
-        if same_name(name, other) {
-            return false;
-        }
-    }
-    true
-}
-
 /// Declarations and those after them, which stand under the hidden types of the first. Both are structures that share no
-/// name, which holds of declarations whose names are distinct. The only refusal is want of memory.
-pub fn seq_decl(alloc: Global, first: &Abs, rest: &Abs) -> Result<Abs, SigRefusal>
-    ensures given { IfOk result (λ x. (ks js : List KindTree) (fs gs : SigRow) → first.now ≡ Ex ks (Str fs) → rest.now ≡ Ex js (Str gs) → AreApart fs gs → DeclarationsGive first.now rest.now x) }
-    ensures refused { IfErr result (λ e. plain_why e ≡ None) }
+/// name, which holds of declarations whose names are distinct. `Err` is want of memory.
+pub fn seq_decl(alloc: Global, first: &Abs, rest: &Abs) -> Result<Abs, Mem>
+    ensures { IfOk result (λ x. (ks js : List KindTree) (fs gs : SigRow) → first.now ≡ Ex ks (Str fs) → rest.now ≡ Ex js (Str gs) → AreApart fs gs → DeclarationsGive first.now rest.now x) }
 {
     let later = rest.kinds().items();
     let raised = raise_sig(alloc, first.body(), later.len() as u64, 0)?;
     let fields = both(alloc, &raised, rest.body())?;
     let kinds = joined(alloc, first.kinds().items(), later)?;
     let body = Sig::make(alloc, SigNode::Str(fields))?;
-    Ok(Abs::make(alloc, kinds, body)?)
+    Abs::make(alloc, kinds, body)
 }
 
 // The fields of two structures that share no name; none where either is no structure.

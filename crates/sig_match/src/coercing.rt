@@ -6,7 +6,7 @@ ghost use Rattle.sig_match.specs.Coerced.{IsAbsCoercion};
 
 use crate::forms::Functor;
 use crate::refusal::Matched;
-use coercion_terms::{abs_part, functor_part, match_part};
+use coercion_terms::{Functors, abs_part, functor_part, match_part};
 use omega_kinds::Mem;
 use omega_terms::Term;
 use omega_types::Ty;
@@ -25,18 +25,15 @@ pub(crate) fn functor_coercion(
 ) -> Result<Term, Mem>
     ensures { IfOk result (λ e. e ≡ functor_part_of from.now left.now.effect right.now.effect right.now.kinds.now (enc right.now.param.now) inner.now.types inner.now.coercion outer.now) }
 {
-    let param = encode_sig(right.param)?;
-    functor_part(
-        alloc,
+    let sides = Functors {
         from,
-        left.effect,
-        right.effect,
-        right.kinds,
-        &param,
-        inner.types.items(),
-        &inner.coercion,
-        outer,
-    )
+        left: left.effect,
+        right: right.effect,
+        kinds: right.kinds,
+        param: &encode_sig(right.param)?,
+    };
+    let types = inner.types.items();
+    functor_part(alloc, &sides, types, &inner.coercion, outer)
 }
 
 /// The coercion between signatures that may hide types: under the left one's, `inner` is the match of its body with the

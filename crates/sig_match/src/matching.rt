@@ -34,6 +34,14 @@ use semantic_sigs::{
 use std::alloc::Global;
 use type_normal::{NormalTy, same};
 
+// A right side under its hidden types, into which the types that are found are put.
+#[derive(Clone, Copy)]
+struct RightSide<'a> {
+    kinds: &'a Kinds,
+    body: &'a Sig,
+    found: &'a Witnesses,
+}
+
 /// The match of a left side with a right one, where so many type variables are in scope: the hidden types are looked up
 /// in order, and then the right side at these types is compared.
 #[cycle(matching)]
@@ -97,7 +105,8 @@ fn look_root(
         Some(path) => {
             let kinds = right.kinds();
             let body = right.body();
-            let ty = look(alloc, depth, left, path.items(), kinds, body, found, made)?;
+            let side = RightSide { kinds, body, found };
+            let ty = look(alloc, depth, left, path.items(), &side, made)?;
             match ty {
                 Some(ty) => Ok(ty),
                 None => Err(no_root(alloc, index, path)),
@@ -117,19 +126,17 @@ fn look(
     depth: u64,
     left: &Sig,
     path: &[Item],
-    kinds: &Kinds,
-    right: &Sig,
-    found: &Witnesses,
+    right: &RightSide<'_>,
     made: &mut Vec<Made>,
 ) -> Result<Option<NormalTy>, Mem>
-    requires sides { MayLook depth left.now kinds.now right.now found.now }
+    requires sides { MayLook depth left.now right.now.kinds.now right.now.body.now right.now.found.now }
     requires made { AllHold made.old.items }
-    ensures found { IfOk result (λ o. EachLook depth left.now (map item_of path.now) kinds.now right.now found.now o) }
+    ensures found { IfOk result (λ o. EachLook depth left.now (map item_of path.now) right.now.kinds.now right.now.body.now right.now.found.now o) }
     ensures made { AllHold made.new.items }
 {
     match path {
-        [] => look_end(left, right),
-        [first, rest @ ..] => look_step(alloc, depth, left, first, rest, kinds, right, found, made),
+        [] => look_end(left, right.body),
+        [first, rest @ ..] => look_step(alloc, depth, left, first, rest, right, made),
     }
 }
 
@@ -141,20 +148,18 @@ fn look_step(
     left: &Sig,
     first: &Item,
     rest: &[Item],
-    kinds: &Kinds,
-    right: &Sig,
-    found: &Witnesses,
+    right: &RightSide<'_>,
     made: &mut Vec<Made>,
 ) -> Result<Option<NormalTy>, Mem>
-    requires sides { MayLook depth left.now kinds.now right.now found.now }
+    requires sides { MayLook depth left.now right.now.kinds.now right.now.body.now right.now.found.now }
     requires made { AllHold made.old.items }
-    ensures found { IfOk result (λ o. EachLook depth left.now (item_of first.now ∷ map item_of rest.now) kinds.now right.now found.now o) }
+    ensures found { IfOk result (λ o. EachLook depth left.now (item_of first.now ∷ map item_of rest.now) right.now.kinds.now right.now.body.now right.now.found.now o) }
     ensures made { AllHold made.new.items }
 {
     match first {
-        Item::Part(name) => look_part(alloc, depth, left, name, rest, kinds, right, found, made),
+        Item::Part(name) => look_part(alloc, depth, left, name, rest, right, made),
         Item::Res => {
-            let right = at_found(alloc, kinds, right, found)?;
+            let right = at_found(alloc, right.kinds, right.body, right.found)?;
             look_result(alloc, depth, left, rest, &right, made)
         }
         Item::Arg => Ok(None),
@@ -170,23 +175,24 @@ fn look_part(
     left: &Sig,
     name: &Name,
     rest: &[Item],
-    kinds: &Kinds,
-    right: &Sig,
-    found: &Witnesses,
+    right: &RightSide<'_>,
     made: &mut Vec<Made>,
 ) -> Result<Option<NormalTy>, Mem>
-    requires sides { MayLook depth left.now kinds.now right.now found.now }
+    requires sides { MayLook depth left.now right.now.kinds.now right.now.body.now right.now.found.now }
     requires made { AllHold made.old.items }
-    ensures found { IfOk result (λ o. EachLook depth left.now (Part name.now ∷ map item_of rest.now) kinds.now right.now found.now o) }
+    ensures found { IfOk result (λ o. EachLook depth left.now (Part name.now ∷ map item_of rest.now) right.now.kinds.now right.now.body.now right.now.found.now o) }
     ensures made { AllHold made.new.items }
 {
     let Some(left) = field(left, name) else {
         return Ok(None);
     };
-    let Some(right) = field(right, name) else {
+    let Some(body) = field(right.body, name) else {
         return Ok(None);
     };
-    look(alloc, depth, left, rest, kinds, right, found, made)
+    let kinds = right.kinds;
+    let found = right.found;
+    let side = RightSide { kinds, body, found };
+    look(alloc, depth, left, rest, &side, made)
 }
 
 // The type of a left type part that has the kind of the right one.
@@ -256,7 +262,12 @@ fn look_target(
     let none = Witnesses::new(alloc);
     let from = target.body();
     let to = right.target.body();
-    let ty = look(alloc, under, from, rest, &kinds, to, &none, made)?;
+    let side = RightSide {
+        kinds: &kinds,
+        body: to,
+        found: &none,
+    };
+    let ty = look(alloc, under, from, rest, &side, made)?;
     lam_found(alloc, right.kinds, ty)
 }
 

@@ -8,6 +8,8 @@ mod coercions;
 #[cfg(test)]
 mod instances;
 #[cfg(test)]
+mod literals;
+#[cfg(test)]
 mod matching;
 #[cfg(test)]
 mod refusal_texts;
@@ -19,3 +21,5 @@ mod scopes;
 mod sig_texts;
 #[cfg(test)]
 mod signatures_made;
+#[cfg(test)]
+mod term_texts;

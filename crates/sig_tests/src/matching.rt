@@ -1,5 +1,7 @@
 // A type that is found, one that is not, and a signature against itself.
-ghost use Rattle.std.specs.Prelude.{◌≡◌, IfOk};
+ghost use Rattle.std.specs.Prelude.{◌≡◌, [], ◌∷◌, IfOk};
+ghost use Rattle.omega_kinds.specs.Kind.{Star};
+ghost use Rattle.signatures.specs.Signatures.Sig.{Sig as SigTree, SigRow};
 ghost use Rattle.match_laws.specs.Examples.{name_t, with_int as with_int_of, with_nothing as with_nothing_of, hides_t as hides_t_of};
 
 use omega_kinds::{Kind, Kinds, Mem, Name, name_of};
@@ -8,7 +10,7 @@ use semantic_sigs::{Abs, Env, Item, Path, Sig, SigFields, SigNode, Witnesses};
 use sig_match::{MatchRefusal, match_sig, sub_abs};
 use std::alloc::Global;
 use std::test::Fail;
-use type_normal::{as_normal, plain};
+use type_normal::{NormalTy, as_normal, plain};
 
 fn t(alloc: Global) -> Result<Name, Mem>
     ensures { IfOk result (λ n. n ≡ name_t) }
@@ -16,15 +18,21 @@ fn t(alloc: Global) -> Result<Name, Mem>
     name_of(alloc, b"t")
 }
 
+// {t : [= ty : *]}
+fn with_t(alloc: Global, ty: NormalTy) -> Result<Sig, Mem>
+    ensures { IfOk result (λ s. s ≡ SigTree.Str (SigRow.More name_t (SigTree.Typ ty Star) SigRow.End)) }
+{
+    let part = Sig::make(alloc, SigNode::Typ(ty, Kind::Star))?;
+    let mut fields = SigFields::new(alloc);
+    fields.push((t(alloc)?, part))?;
+    Sig::make(alloc, SigNode::Str(fields))
+}
+
 // {t : [= int : *]}
 fn with_int(alloc: Global) -> Result<Sig, Mem>
     ensures { IfOk result (λ s. s ≡ with_int_of) }
 {
-    let int = as_normal(Ty::make(alloc, TyNode::Int)?);
-    let part = Sig::make(alloc, SigNode::Typ(int, Kind::Star))?;
-    let mut fields = SigFields::new(alloc);
-    fields.push((t(alloc)?, part))?;
-    Sig::make(alloc, SigNode::Str(fields))
+    with_t(alloc, as_normal(Ty::make(alloc, TyNode::Int)?))
 }
 
 // {}
@@ -34,17 +42,20 @@ fn with_nothing(alloc: Global) -> Result<Sig, Mem>
     Sig::make(alloc, SigNode::Str(SigFields::new(alloc)))
 }
 
+fn one_star(alloc: Global) -> Result<Kinds, Mem>
+    ensures { IfOk result (λ ks. ks ≡ Star ∷ []) }
+{
+    let mut kinds = Kinds::new(alloc);
+    kinds.push(Kind::Star)?;
+    Ok(kinds)
+}
+
 // ex (*) {t : [= a0 : *]}
 fn hides_t(alloc: Global) -> Result<Abs, Mem>
     ensures { IfOk result (λ x. x ≡ hides_t_of) }
 {
-    let own = as_normal(Ty::make(alloc, TyNode::Var(0))?);
-    let part = Sig::make(alloc, SigNode::Typ(own, Kind::Star))?;
-    let mut fields = SigFields::new(alloc);
-    fields.push((t(alloc)?, part))?;
-    let mut kinds = Kinds::new(alloc);
-    kinds.push(Kind::Star)?;
-    Abs::make(alloc, kinds, Sig::make(alloc, SigNode::Str(fields))?)
+    let body = with_t(alloc, as_normal(Ty::make(alloc, TyNode::Var(0))?))?;
+    Abs::make(alloc, one_star(alloc)?, body)
 }
 
 fn is_int(types: &Witnesses) -> bool {

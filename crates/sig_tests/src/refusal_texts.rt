@@ -1,176 +1,114 @@
 // The lines of all refusals.
-ghost use Rattle.std.specs.Prelude.{◌≡◌, IfOk};
-ghost use Rattle.omega_kinds.specs.Kind.{Star};
-ghost use Rattle.omega_types.specs.Ty.{Ty as TyTree};
-ghost use Rattle.refusal_lines.specs.Pieces.{GivenInScope};
-ghost use Rattle.refusal_lines.specs.Plain.{plain_reason};
-
+use crate::literals::ItemLit::{Arg, Meta, Part, Res};
+use crate::literals::KindLit::{Op, Star};
+use crate::literals::TyLit::{Closed, Lam, Var};
+use crate::literals::{ClashLit, WhyLit, why};
 use fing_text::{MemSink, Span};
-use omega_kinds::{Kind, Mem, Name, arrow, name_of};
-use omega_types::{Ty, TyNode};
-use refusal_lines::{ElabWhy, Refusal, write_line};
-use semantic_sigs::{Item, Path, Why};
+use refusal_lines::{Refusal, write_line};
+use sig_scopes::refusal_in_scope;
 use std::alloc::Global;
+use std::process::Abort;
 use std::test::Fail;
-use type_normal::{NormalTy, as_normal};
 
-// Whether the refusal of the bytes from 8 to 57, with so many type variables in scope, has this line.
-fn writes(alloc: Global, types: u64, why: ElabWhy, line: &[u8]) -> Result<bool, Mem>
-    requires { GivenInScope types (plain_reason why) }
-{
-    let refusal = Refusal {
+// Reasons, each with so many type variables in scope, and the line of its refusal of the bytes from 8 to 57.
+const LINES: [(u64, WhyLit<'static>, &str); 21] = [
+    (0, WhyLit::NotStructure, "refused 8-57 NotStructure\n"),
+    (0, WhyLit::NotFunctor, "refused 8-57 NotFunctor\n"),
+    (0, WhyLit::WrongPath, "refused 8-57 WrongPath\n"),
+    (0, WhyLit::Escapes, "refused 8-57 Escapes\n"),
+    (0, WhyLit::NotOperator, "refused 8-57 NotOperator\n"),
+    // names
+    (0, WhyLit::Unbound("x"), "refused 8-57 Unbound x\n"),
+    (0, WhyLit::NoPart("x"), "refused 8-57 NoPart x\n"),
+    (0, WhyLit::NoField("x"), "refused 8-57 NoField x\n"),
+    (
+        0,
+        WhyLit::DuplicateField("x"),
+        "refused 8-57 DuplicateField x\n",
+    ),
+    (0, WhyLit::Duplicate("x"), "refused 8-57 Duplicate x\n"),
+    // types and kinds
+    (1, WhyLit::NotArrow(Var(0)), "refused 8-57 NotArrow a0\n"),
+    (
+        0,
+        WhyLit::NotAll(Closed("int")),
+        "refused 8-57 NotAll int\n",
+    ),
+    (5, WhyLit::NotRecord(Var(2)), "refused 8-57 NotRecord a2\n"),
+    (
+        2,
+        WhyLit::Differ(Var(0), Var(1)),
+        "refused 8-57 Differ a1 a0\n",
+    ),
+    (
+        0,
+        WhyLit::KindDiffer(Op, Star),
+        "refused 8-57 KindDiffer (> * *) *\n",
+    ),
+    // paths
+    (
+        0,
+        WhyLit::NotAbstract(&[Part("x")]),
+        "refused 8-57 NotAbstract x\n",
+    ),
+    (
+        0,
+        WhyLit::NoRoot(10, &[Part("F"), Arg, Res, Meta, Part("x")]),
+        "refused 8-57 NoRoot 10 F.(arg).(res).(sig).x\n",
+    ),
+    // clashes
+    (
+        0,
+        WhyLit::Clash(&[], ClashLit::Effect),
+        "refused 8-57 Clash . Effect\n",
+    ),
+    (
+        0,
+        WhyLit::Clash(&[Arg], ClashLit::Form),
+        "refused 8-57 Clash (arg) Form\n",
+    ),
+    (
+        0,
+        WhyLit::Clash(&[Res], ClashLit::Missing),
+        "refused 8-57 Clash (res) Missing\n",
+    ),
+    (
+        3,
+        WhyLit::Clash(&[Meta], ClashLit::Types(Var(0), Lam(&Var(0)))),
+        "refused 8-57 Clash (sig) Types a2 (lam * a3)\n",
+    ),
+];
+
+fn refusal(alloc: Global, types: u64, literal: &WhyLit<'_>) -> Result<Refusal, Fail> {
+    Ok(Refusal {
         at: Span { from: 8, to: 57 },
         types,
-        why,
-    };
-    let mut sink = MemSink::new(alloc, 100, 7, Vec::new(alloc))?;
-    let done = write_line(&mut sink, &refusal).is_ok();
-    Ok(done && sink.bytes() == line)
+        why: why(alloc, literal)?,
+    })
 }
 
-fn x(alloc: Global) -> Result<Name, Mem> {
-    name_of(alloc, b"x")
-}
-
-fn var(alloc: Global, index: u64) -> Result<NormalTy, Mem>
-    ensures { IfOk result (λ t. t ≡ TyTree.Var index) }
-{
-    Ok(as_normal(Ty::make(alloc, TyNode::Var(index))?))
-}
-
-fn int(alloc: Global) -> Result<NormalTy, Mem>
-    ensures { IfOk result (λ t. t ≡ TyTree.Int) }
-{
-    Ok(as_normal(Ty::make(alloc, TyNode::Int)?))
-}
-
-// fun (a : Type) => a
-fn identity(alloc: Global) -> Result<NormalTy, Mem>
-    ensures { IfOk result (λ t. t ≡ TyTree.Lam Star (TyTree.Var 0)) }
-{
-    let body = Ty::make(alloc, TyNode::Var(0))?;
-    Ok(as_normal(Ty::make(alloc, TyNode::Lam(Kind::Star, body))?))
-}
-
-fn path(alloc: Global, first: Item) -> Result<Path, Mem> {
-    let mut path = Path::new(alloc);
-    path.push(first)?;
-    Ok(path)
-}
-
-// F, its parameter, its result, what a signature part holds, and x
-fn long_path(alloc: Global) -> Result<Path, Mem> {
-    let mut path = path(alloc, Item::Part(name_of(alloc, b"F")?))?;
-    path.push(Item::Arg)?;
-    path.push(Item::Res)?;
-    path.push(Item::Meta)?;
-    path.push(Item::Part(x(alloc)?))?;
-    Ok(path)
+// Whether the whole line went into the sink.
+fn is_written(rt: &impl Abort, sink: &mut MemSink, refusal: &Refusal) -> bool {
+    assert!(rt; refusal_in_scope(refusal));
+    write_line(sink, refusal).is_ok()
 }
 
 #[test]
-fn lines_of_words(rt: HostRuntime) -> Result<(), Fail> {
-    let alloc = rt.alloc();
-    let line = b"refused 8-57 NotStructure\n";
-    assert!(rt; writes(alloc, 0, ElabWhy::NotStructure, line)?);
-    let line = b"refused 8-57 NotFunctor\n";
-    assert!(rt; writes(alloc, 0, ElabWhy::NotFunctor, line)?);
-    let line = b"refused 8-57 WrongPath\n";
-    assert!(rt; writes(alloc, 0, ElabWhy::WrongPath, line)?);
-    let line = b"refused 8-57 Escapes\n";
-    assert!(rt; writes(alloc, 0, ElabWhy::Escapes, line)?);
-    let line = b"refused 8-57 NotOperator\n";
-    assert!(rt; writes(alloc, 0, ElabWhy::NotOperator, line)?);
-    Ok(())
-}
-
-#[test]
-fn lines_of_names(rt: HostRuntime) -> Result<(), Fail> {
-    let alloc = rt.alloc();
-    let line = b"refused 8-57 Unbound x\n";
-    assert!(rt; writes(alloc, 0, ElabWhy::Unbound(x(alloc)?), line)?);
-    let line = b"refused 8-57 NoPart x\n";
-    assert!(rt; writes(alloc, 0, ElabWhy::NoPart(x(alloc)?), line)?);
-    let line = b"refused 8-57 NoField x\n";
-    assert!(rt; writes(alloc, 0, ElabWhy::NoField(x(alloc)?), line)?);
-    let line = b"refused 8-57 DuplicateField x\n";
-    assert!(rt; writes(alloc, 0, ElabWhy::DuplicateField(x(alloc)?), line)?);
-    let line = b"refused 8-57 Duplicate x\n";
-    assert!(rt; writes(alloc, 0, ElabWhy::Duplicate(x(alloc)?), line)?);
-    Ok(())
-}
-
-#[test]
-fn lines_of_types_and_kinds(rt: HostRuntime) -> Result<(), Fail> {
-    let alloc = rt.alloc();
-    let line = b"refused 8-57 NotArrow a0\n";
-    assert!(rt; writes(alloc, 1, ElabWhy::NotArrow(var(alloc, 0)?), line)?);
-    let line = b"refused 8-57 NotAll int\n";
-    assert!(rt; writes(alloc, 0, ElabWhy::NotAll(int(alloc)?), line)?);
-    let line = b"refused 8-57 NotRecord a2\n";
-    assert!(rt; writes(alloc, 5, ElabWhy::NotRecord(var(alloc, 2)?), line)?);
-    let line = b"refused 8-57 Differ a1 a0\n";
-    let why = ElabWhy::Differ(var(alloc, 0)?, var(alloc, 1)?);
-    assert!(rt; writes(alloc, 2, why, line)?);
-    let line = b"refused 8-57 KindDiffer (> * *) *\n";
-    let why = ElabWhy::KindDiffer(arrow(alloc, Kind::Star, Kind::Star)?, Kind::Star);
-    assert!(rt; writes(alloc, 0, why, line)?);
-    Ok(())
-}
-
-#[test]
-fn lines_of_paths(rt: HostRuntime) -> Result<(), Fail> {
-    let alloc = rt.alloc();
-    let line = b"refused 8-57 NotAbstract x\n";
-    let why = ElabWhy::NotAbstract(path(alloc, Item::Part(x(alloc)?))?);
-    assert!(rt; writes(alloc, 0, why, line)?);
-    let line = b"refused 8-57 NoRoot 10 F.(arg).(res).(sig).x\n";
-    let path = long_path(alloc)?;
-    assert!(rt; writes(alloc, 0, ElabWhy::NoRoot { index: 10, path }, line)?);
-    Ok(())
-}
-
-#[test]
-fn lines_of_clashes(rt: HostRuntime) -> Result<(), Fail> {
-    let alloc = rt.alloc();
-    let line = b"refused 8-57 Clash . Effect\n";
-    let nowhere = Path::new(alloc);
-    let why = ElabWhy::Clash {
-        path: nowhere,
-        why: Why::Effect,
-    };
-    assert!(rt; writes(alloc, 0, why, line)?);
-    let line = b"refused 8-57 Clash (arg) Form\n";
-    let why = ElabWhy::Clash {
-        path: path(alloc, Item::Arg)?,
-        why: Why::Form,
-    };
-    assert!(rt; writes(alloc, 0, why, line)?);
-    let line = b"refused 8-57 Clash (res) Missing\n";
-    let why = ElabWhy::Clash {
-        path: path(alloc, Item::Res)?,
-        why: Why::Missing,
-    };
-    assert!(rt; writes(alloc, 0, why, line)?);
-    let line = b"refused 8-57 Clash (sig) Types a2 (lam * a3)\n";
-    let why = ElabWhy::Clash {
-        path: path(alloc, Item::Meta)?,
-        why: Why::Types(var(alloc, 0)?, identity(alloc)?),
-    };
-    assert!(rt; writes(alloc, 3, why, line)?);
+fn lines(rt: HostRuntime) -> Result<(), Fail> {
+    for (types, literal, line) in &LINES {
+        let mut sink = MemSink::new(rt.alloc(), 100, 7, Vec::new(rt.alloc()))?;
+        let refusal = refusal(rt.alloc(), *types, literal)?;
+        assert!(rt; is_written(&rt, &mut sink, &refusal), "at {line}");
+        assert!(rt; sink.bytes() == line.as_bytes(), "at {line}");
+    }
     Ok(())
 }
 
 #[test]
 fn a_full_sink_takes_a_front(rt: HostRuntime) -> Result<(), Fail> {
-    let alloc = rt.alloc();
-    let refusal = Refusal {
-        at: Span { from: 8, to: 57 },
-        types: 0,
-        why: ElabWhy::Escapes,
-    };
-    let mut sink = MemSink::new(alloc, 15, 7, Vec::new(alloc))?;
-    assert!(rt; write_line(&mut sink, &refusal).is_err());
+    let mut sink = MemSink::new(rt.alloc(), 15, 7, Vec::new(rt.alloc()))?;
+    let refusal = refusal(rt.alloc(), 0, &WhyLit::Escapes)?;
+    assert!(rt; !is_written(&rt, &mut sink, &refusal));
     assert!(rt; sink.bytes() == b"refused 8-57 Es".as_slice());
     Ok(())
 }

@@ -40,6 +40,10 @@ abbrev pub PiecesInScope : List Piece → Type 0
 PiecesInScope [] = Unit {0}
 PiecesInScope (p ∷ ps) = PieceInScope p × PiecesInScope ps
 
+-- a form of one part
+abbrev pub one_text : (front part : List ℕ) → List ℕ
+one_text front part = front then part then codes ")"
+
 -- a field of a structure
 abbrev pub field_text : ℕ → Name → Sig → List ℕ
 field_text n l s = codes " (" then l then codes " " then sig_text n s then codes ")"

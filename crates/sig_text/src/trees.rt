@@ -2,7 +2,7 @@
 ghost use Rattle.std.specs.Prelude.{◌≡◌};
 ghost use Rattle.fing_text.specs.Writes.{Wrote};
 ghost use Rattle.semantic_sigs.specs.Fields.{sig_row};
-ghost use Rattle.sig_text.specs.Pieces.{field_text, piece_text, pieces_text, PieceInScope, PiecesInScope};
+ghost use Rattle.sig_text.specs.Pieces.{field_text, one_text, piece_text, pieces_text, PieceInScope, PiecesInScope};
 ghost use Rattle.sig_text.specs.SigInScope.{AbsInScope, SigInScope, SigRowInScope};
 ghost use Rattle.sig_text.specs.SigText.{abs_text, effect_text, elab_text, functor_front, sig_row_text, sig_text};
 
@@ -98,14 +98,7 @@ fn write_sig<K: Sink>(sink: &mut K, types: u64, sig: &Sig) -> Result<(), WriteFa
     ensures { Wrote (K.told sink.old) (K.told sink.new) (sig_text types sig.now) result }
 {
     match sig.node() {
-        SigNode::Val(ty) => write_pieces(
-            sink,
-            &[
-                Piece::Bytes(b"(val "),
-                Piece::Ty(types, plain(ty)),
-                Piece::Bytes(b")"),
-            ],
-        ),
+        SigNode::Val(ty) => write_one(sink, b"(val ", Piece::Ty(types, plain(ty))),
         SigNode::Typ(ty, kind) => write_pieces(
             sink,
             &[
@@ -116,22 +109,8 @@ fn write_sig<K: Sink>(sink: &mut K, types: u64, sig: &Sig) -> Result<(), WriteFa
                 Piece::Bytes(b")"),
             ],
         ),
-        SigNode::Meta(abs) => write_pieces(
-            sink,
-            &[
-                Piece::Bytes(b"(sig "),
-                Piece::Abs(types, abs),
-                Piece::Bytes(b")"),
-            ],
-        ),
-        SigNode::Str(fields) => write_pieces(
-            sink,
-            &[
-                Piece::Bytes(b"(str"),
-                Piece::Fields(types, fields),
-                Piece::Bytes(b")"),
-            ],
-        ),
+        SigNode::Meta(abs) => write_one(sink, b"(sig ", Piece::Abs(types, abs)),
+        SigNode::Str(fields) => write_one(sink, b"(str", Piece::Fields(types, fields)),
         SigNode::Fun {
             effect,
             kinds,
@@ -188,6 +167,15 @@ fn write_field<'x, K: Sink>(
             Piece::Bytes(b")"),
         ],
     )
+}
+
+// Writes a form of one part.
+#[cycle(sigs)]
+fn write_one<'x, K: Sink>(sink: &mut K, front: &'x [u8], part: Piece<'x>) -> Result<(), WriteFault>
+    requires { PieceInScope part }
+    ensures { Wrote (K.told sink.old) (K.told sink.new) (one_text front.now (piece_text part.entry)) result }
+{
+    write_pieces(sink, &[Piece::Bytes(front), part, Piece::Bytes(b")")])
 }
 
 // Writes pieces one after the other.

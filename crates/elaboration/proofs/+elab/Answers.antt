@@ -13,8 +13,8 @@ use Rattle.elaboration.proofs.ArgSteps.{applied-normal, args-at, called-normal, 
 use Rattle.elaboration.proofs.BaseSteps.{bool-means, bool_exp-means, int-means, int_exp-means, text-means, text_exp-means}
 use Rattle.elaboration.proofs.FieldSteps.{ExpsLeft, TypesLeft, exps-later, exps-next, exps-none, record-means, record-parts, record-rule, record_type-means, record_type-parts, record_type-rule, types-later, types-next, types-none}
 use Rattle.elaboration.proofs.FixSteps.{entered, fix-env-in, left, value-env-in}
-use Rattle.elaboration.proofs.Given.{exit, no_star, no_type}
-use Rattle.elaboration.proofs.Included.{bind-include, body-module, ended, include-at, include-in, include-means, include-none, include-rest, include-size, included-env, included-names, left-included, left-under as mods-left-under, means-bind, placed-at, refused-bind}
+use Rattle.elaboration.proofs.Given.{err-at, err-map, exit, no_star, no_type, ok-at, ok-map, stays}
+use Rattle.elaboration.proofs.Included.{bind-include, body-module, ended, include-in, include-means, include-none, include-rest, include-size, included-env, included-names, left-included, left-under as mods-left-under, means-bind, placed-at, refused-bind}
 use Rattle.elaboration.proofs.Means.{bind-env, bind-names, binds-in, binds-mean, decls-again-in, decls-in, functor-means, generative-means, mod_functor-in, param-env, refine-in, rest-module, sig_fun-in}
 use Rattle.elaboration.proofs.Moved.{refused-in, rule-at, test-at}
 use Rattle.elaboration.proofs.Refuse.Expressions.{arg-later, arg-no_arrow, arg-rule, arg-value, exp_apply-args, exp_apply-function, exp_field-again, exp_field-value, exp_fix-body, exp_fix-param, exp_fix-result, exp_fix-rule, exp_get-no_record, exp_get-record, exp_get-rule, exp_if-no, exp_if-rule, exp_if-test, exp_if-test_type, exp_if-yes, exp_lam-body, exp_lam-param, exp_lam-rule, exp_ops-first, exp_ops-rest, exp_pack-name, exp_pack-sig, exp_path-module, exp_path-use, exp_ty_lam-body, operand-later, operand-left, operand-right, operand-rule, ty_arg-later as exps-ty_arg-later, ty_arg-no_all, ty_arg-rule as exps-ty_arg-rule, ty_arg-type as exps-ty_arg-type}
@@ -25,7 +25,7 @@ use Rattle.elaboration.proofs.SigLaws.{abstract-means, decl-body, decl-in, decls
 use Rattle.elaboration.proofs.UseSteps.{found-in, pack-means, pack-unmatched}
 use Rattle.elaboration.specs.Answered.{RefusedAs}
 use Rattle.fing_syntax.specs.Leaves.{op_of, place, spelled}
-use Rattle.fing_syntax.specs.Phrase.{Exp, MoreBinds}
+use Rattle.fing_syntax.specs.Phrase.{BindAt, BindInclude, Exp, MoreBinds, Span}
 use Rattle.fing_syntax.specs.Place.{exp_span, mod_span, sig_span, ty_span, up_to}
 use Rattle.fing_syntax.specs.View.{args, binds, field_exps, field_tys, ops, tys}
 use Rattle.fing_syntax.specs.declared.leaf.Op.{Op as OpIn}
@@ -35,7 +35,7 @@ use Rattle.semantic_sigs.specs.Fields.{sig_row}
 use Rattle.semantic_sigs.specs.Made.{module_of}
 use Rattle.semantic_sigs.specs.View.{kinds_of}
 use Rattle.signatures.specs.Env.{kinds, named_fields, type_vars}
-use Rattle.std.proofs.Common.{IfErr, IfOk, ap, arith, length, refl, rules, subst, sym, ◌+◌, ◌∙◌, ◌∷◌, ◌≡◌}
+use Rattle.std.proofs.Common.{ap, arith, length, refl, rules, subst, sym, ◌+◌, ◌∙◌}
 use Rattle.std.proofs.lemmas.Int.{to_z-of_z}
 use mir.Syntax.{w64}
 use mir.Val.{SFits, of_z, to_z}
@@ -52,53 +52,53 @@ types::value_ty-returns-in_err-expect_star-clause-refused t c = exit _ c.from_re
 -- T -> U
 
 pub types::ty_arrow-returns-in_err-left-clause-refused : goal.types::ty_arrow-returns-in_err-left-clause-refused
-types::ty_arrow-returns-in_err-left-clause-refused t c = exit _ c.from_residual.result c.in_err-left.field-0.0 c.from_residual.ensures.1 (ty_arrow-from c.in_err-left.ensures.refused)
+types::ty_arrow-returns-in_err-left-clause-refused t c = exit _ c.from_residual.result c.in_err-left.field-0.0 c.from_residual.ensures.1 (λ at. ty_arrow-from c.in_err-left.ensures.refused)
 
 pub types::ty_arrow-returns-in_err-right-clause-refused : goal.types::ty_arrow-returns-in_err-right-clause-refused
 types::ty_arrow-returns-in_err-right-clause-refused t c =
     let same = c.in_ok-left.ensures.same in
-    exit _ c.from_residual-in_err-right.result c.in_err-right.field-0.0 c.from_residual-in_err-right.ensures.1 (ty_arrow-to c.in_ok-left.ensures.given (rw same at c.in_err-right.ensures.refused))
+    exit _ c.from_residual-in_err-right.result c.in_err-right.field-0.0 c.from_residual-in_err-right.ensures.1 (λ at. ty_arrow-to c.in_ok-left.ensures.given (rw same at c.in_err-right.ensures.refused))
 
 pub types::ty_arrow-returns-clause-given : goal.types::ty_arrow-returns-clause-given
 types::ty_arrow-returns-clause-given t c =
     let same = c.in_ok-left.ensures.same in
-    ty_arrow c.in_ok-left.ensures.given (rw same at c.in_ok-right.ensures.given) (rw c.in_ok-left.ensures.star at c.in_ok-whole.ensures.given)
+    ok-at _ (rw c.in_ok-left.ensures.star at c.arrow_rule.ensures.given) (λ o p at. ty_arrow c.in_ok-left.ensures.given (rw same at c.in_ok-right.ensures.given) p)
 
 -- an operator and its arguments
 
 pub types::ty_apply-returns-in_err-found-clause-refused : goal.types::ty_apply-returns-in_err-found-clause-refused
-types::ty_apply-returns-in_err-found-clause-refused t c = exit _ c.from_residual.result c.in_err-found.field-0.0 c.from_residual.ensures.1 (ty_apply-operator c.in_err-found.ensures.refused)
+types::ty_apply-returns-in_err-found-clause-refused t c = exit _ c.from_residual.result c.in_err-found.field-0.0 c.from_residual.ensures.1 (λ at. ty_apply-operator c.in_err-found.ensures.refused)
 
 -- types under a parameter
 
 pub types::ty_all-returns-in_err-inner-clause-refused : goal.types::ty_all-returns-in_err-inner-clause-refused
-types::ty_all-returns-in_err-inner-clause-refused t c = exit _ c.from_residual.result c.in_err-inner.field-0.0 c.from_residual.ensures.1 (ty_all-body c.in_err-inner.ensures.refused)
+types::ty_all-returns-in_err-inner-clause-refused t c = exit _ c.from_residual.result c.in_err-inner.field-0.0 c.from_residual.ensures.1 (λ at. ty_all-body c.in_err-inner.ensures.refused)
 
 pub types::ty_lam-returns-in_err-inner-clause-refused : goal.types::ty_lam-returns-in_err-inner-clause-refused
-types::ty_lam-returns-in_err-inner-clause-refused t c = exit _ c.from_residual.result c.in_err-inner.field-0.0 c.from_residual.ensures.1 (ty_lam-body c.in_err-inner.ensures.refused)
+types::ty_lam-returns-in_err-inner-clause-refused t c = exit _ c.from_residual.result c.in_err-inner.field-0.0 c.from_residual.ensures.1 (λ at. ty_lam-body c.in_err-inner.ensures.refused)
 
 pub types::ty_lam-returns-clause-given : goal.types::ty_lam-returns-clause-given
-types::ty_lam-returns-clause-given t c = ty_lam c.in_ok-inner.ensures.given c.in_ok-whole.ensures.given
+types::ty_lam-returns-clause-given t c = ok-at _ c.lam_rule.ensures.given (λ o p at. ty_lam c.in_ok-inner.ensures.given p)
 
-pub types::ty_arrow-returns-in_err-whole-clause-refused : goal.types::ty_arrow-returns-in_err-whole-clause-refused
-types::ty_arrow-returns-in_err-whole-clause-refused t c =
+pub types::ty_arrow-returns-clause-refused : goal.types::ty_arrow-returns-clause-refused
+types::ty_arrow-returns-clause-refused t c =
     let same = c.in_ok-left.ensures.same in
-    exit _ c.from_residual-in_err-whole.result c.in_err-whole.field-0.0 c.from_residual-in_err-whole.ensures.1 (ty_arrow-rule c.in_ok-left.ensures.given (rw same at c.in_ok-right.ensures.given) (rule-at (c.in_ok-right.ensures.same ∙ same) (ap ty_span c.to.view_is) (rw c.in_ok-left.ensures.star at c.in_err-whole.ensures.refused)))
+    err-at _ (rw c.in_ok-left.ensures.star at c.arrow_rule.ensures.refused) (λ e r at. ty_arrow-rule c.in_ok-left.ensures.given (rw same at c.in_ok-right.ensures.given) (rule-at (c.in_ok-right.ensures.same ∙ same) (ap ty_span c.to.view_is) r))
 
 pub types::ty_apply-ty_args-requires : goal.types::ty_apply-ty_args-requires
 types::ty_apply-ty_args-requires t c = (omega arith, (env-in c.in_ok-found.ensures.same c.requires, type-normal c.in_ok-found.ensures.same c.requires c.in_ok-found.ensures.given))
 
-pub types::ty_apply-returns-in_err-whole-clause-refused : goal.types::ty_apply-returns-in_err-whole-clause-refused
-types::ty_apply-returns-in_err-whole-clause-refused t c = exit _ c.from_residual-in_err-whole.result c.in_err-whole.field-0.0 c.from_residual-in_err-whole.ensures.1 (ty_apply-args c.in_ok-found.ensures.given (type_args-at c.in_ok-found.ensures.same (ap ty_span c.operator.view_is) c.in_err-whole.ensures.refused))
+pub types::ty_apply-returns-clause-refused : goal.types::ty_apply-returns-clause-refused
+types::ty_apply-returns-clause-refused t c = err-at _ c.ty_args.ensures.refused (λ e r at. ty_apply-args c.in_ok-found.ensures.given (type_args-at c.in_ok-found.ensures.same (ap ty_span c.operator.view_is) r))
 
 pub types::ty_apply-returns-clause-given : goal.types::ty_apply-returns-clause-given
-types::ty_apply-returns-clause-given t c = ty_apply c.in_ok-found.ensures.given (rw c.in_ok-found.ensures.same at c.in_ok-whole.ensures.given)
+types::ty_apply-returns-clause-given t c = ok-at _ (rw c.in_ok-found.ensures.same at c.ty_args.ensures.given) (λ o p at. ty_apply c.in_ok-found.ensures.given p)
 
-pub types::ty_all-returns-in_err-whole-clause-refused : goal.types::ty_all-returns-in_err-whole-clause-refused
-types::ty_all-returns-in_err-whole-clause-refused t c = exit _ c.from_residual-in_err-whole.result c.in_err-whole.field-0.0 c.from_residual-in_err-whole.ensures.1 (ty_all-rule c.in_ok-inner.ensures.given (rule-at c.in_ok-inner.ensures.same (ap ty_span c.body.view_is) c.in_err-whole.ensures.refused))
+pub types::ty_all-returns-clause-refused : goal.types::ty_all-returns-clause-refused
+types::ty_all-returns-clause-refused t c = err-at _ c.all_rule.ensures.refused (λ e r at. ty_all-rule c.in_ok-inner.ensures.given (rule-at c.in_ok-inner.ensures.same (ap ty_span c.body.view_is) r))
 
 pub types::ty_all-returns-clause-given : goal.types::ty_all-returns-clause-given
-types::ty_all-returns-clause-given t c = ty_all c.in_ok-inner.ensures.given c.in_ok-whole.ensures.given
+types::ty_all-returns-clause-given t c = ok-at _ c.all_rule.ensures.given (λ o p at. ty_all c.in_ok-inner.ensures.given p)
 
 -- types of one word
 
@@ -131,26 +131,27 @@ types::ty_arg-returns-in_err-applied-clause-refused t c = exit _ c.from_residual
 pub types::ty_arg-ty_args-requires : goal.types::ty_arg-ty_args-requires
 types::ty_arg-ty_args-requires t c = (omega (arith, c.decreases), (env-in c.in_ok-arg.ensures.same c.requires.env, applied-normal c.in_ok-applied.ensures.given))
 
-pub types::ty_arg-returns-in_err-whole-clause-refused : goal.types::ty_arg-returns-in_err-whole-clause-refused
-types::ty_arg-returns-in_err-whole-clause-refused t c =
+pub types::ty_arg-returns-clause-refused : goal.types::ty_arg-returns-clause-refused
+types::ty_arg-returns-clause-refused t c =
     let same = c.in_ok-arg.ensures.same in
-    exit _ c.from_residual-in_err-whole.result c.in_err-whole.field-0.0 c.from_residual-in_err-whole.ensures.1 (ty_arg-later c.in_ok-expect_operator.ensures.given.1 c.in_ok-arg.ensures.given (rw same at c.in_ok-applied.ensures.given) (type_args-at same (ap place c.up_to-both.ensures ∙ ap (up_to (place c.args.at)) (ap ty_span c.first.view_is)) c.in_err-whole.ensures.refused))
+    let both = ap place c.up_to-both.ensures ∙ ap (up_to (place c.args.at)) (ap ty_span c.first.view_is) in
+    err-map _ c.ty_args.ensures.refused (λ e r. ty_arg-later c.in_ok-expect_operator.ensures.given.1 c.in_ok-arg.ensures.given (rw same at c.in_ok-applied.ensures.given) (type_args-at same both r))
 
 pub types::ty_arg-returns-clause-given : goal.types::ty_arg-returns-clause-given
 types::ty_arg-returns-clause-given t c =
     let same = c.in_ok-arg.ensures.same in
-    next_arg c.in_ok-arg.ensures.given (rw same at c.in_ok-applied.ensures.given) (rw same at c.in_ok-whole.ensures.given)
+    ok-map _ (rw same at c.ty_args.ensures.given) (λ o p. next_arg c.in_ok-arg.ensures.given (rw same at c.in_ok-applied.ensures.given) p)
 
 -- record types
 
 pub types::ty_record-returns-in_err-ty_fields-clause-refused : goal.types::ty_record-returns-in_err-ty_fields-clause-refused
 types::ty_record-returns-in_err-ty_fields-clause-refused t c = exit _ c.from_residual.result c.in_err-ty_fields.field-0.0 c.from_residual.ensures.1 (record_type-parts c.new-parts.result.items c.new-parts.ensures.items c.in_err-ty_fields.ensures.refused)
 
-pub types::ty_record-returns-in_err-whole-clause-refused : goal.types::ty_record-returns-in_err-whole-clause-refused
-types::ty_record-returns-in_err-whole-clause-refused t c = exit _ c.from_residual-in_err-whole.result c.in_err-whole.field-0.0 c.from_residual-in_err-whole.ensures.1 (record_type-rule c.new-parts.result.items c.ty_fields.new.done.items c.new-parts.ensures.items c.in_ok-ty_fields.ensures.given (rw c.in_ok-ty_fields.ensures.same at c.in_err-whole.ensures.refused))
+pub types::ty_record-returns-clause-refused : goal.types::ty_record-returns-clause-refused
+types::ty_record-returns-clause-refused t c = err-map _ (rw c.in_ok-ty_fields.ensures.same at c.fields_rule.ensures.refused) (λ e r. record_type-rule c.new-parts.result.items c.ty_fields.new.done.items c.new-parts.ensures.items c.in_ok-ty_fields.ensures.given r)
 
 pub types::ty_record-returns-clause-given : goal.types::ty_record-returns-clause-given
-types::ty_record-returns-clause-given t c = record_type-means c.new-parts.result.items c.ty_fields.new.done.items c.new-parts.ensures.items c.in_ok-ty_fields.ensures.given c.in_ok-whole.ensures.given
+types::ty_record-returns-clause-given t c = ok-map _ c.fields_rule.ensures.given (λ o p. record_type-means c.new-parts.result.items c.ty_fields.new.done.items c.new-parts.ensures.items c.in_ok-ty_fields.ensures.given p)
 
 pub types::ty_fields-returns-in-empty-clause-given : goal.types::ty_fields-returns-in-empty-clause-given
 types::ty_fields-returns-in-empty-clause-given t c = subst (λ fs. TypesLeft c.args.env.now c.args.done.now.items (field_tys fs) c.args.done.now.items) (sym (none-below c.args.fields.now c.in-empty.len_below)) (types-none _ _)
@@ -161,46 +162,52 @@ types::ty_field-returns-in_err-expect_new-clause-refused t c = exit _ c.from_res
 pub types::ty_field-returns-in_err-part-clause-refused : goal.types::ty_field-returns-in_err-part-clause-refused
 types::ty_field-returns-in_err-part-clause-refused t c = exit _ c.from_residual-in_err-part.result c.in_err-part.field-0.0 c.from_residual-in_err-part.ensures.1 (ty_field-type {x = spelled c.args.first.now.0} (rw c.deref.ensures.value at c.in_ok-expect_new.ensures.given) c.in_err-part.ensures.refused)
 
-pub types::ty_field-returns-in_err-ty_fields-clause-refused : goal.types::ty_field-returns-in_err-ty_fields-clause-refused
-types::ty_field-returns-in_err-ty_fields-clause-refused t c = exit _ c.from_residual-in_err-ty_fields.result c.in_err-ty_fields.field-0.0 c.from_residual-in_err-ty_fields.ensures.1 (types-later {x = spelled c.args.first.now.0} c.args.done.now.items c.add.new.done.items c.in_ok-part.part (rw c.deref.ensures.value at c.in_ok-expect_new.ensures.given) c.in_ok-part.ensures.given c.in_ok-add.ensures (rw c.in_ok-part.ensures.same at c.in_err-ty_fields.ensures.refused))
+pub types::ty_field-returns-clause-refused : goal.types::ty_field-returns-clause-refused
+types::ty_field-returns-clause-refused t c =
+    let new = rw c.deref.ensures.value at c.in_ok-expect_new.ensures.given in
+    err-map _ (rw c.in_ok-part.ensures.same at c.ty_fields.ensures.refused) (λ e r. types-later {x = spelled c.args.first.now.0} c.args.done.now.items c.add.new.done.items c.in_ok-part.part new c.in_ok-part.ensures.given c.in_ok-add.ensures r)
 
 pub types::ty_field-returns-clause-given : goal.types::ty_field-returns-clause-given
-types::ty_field-returns-clause-given t c = types-next {x = spelled c.args.first.now.0} c.args.done.now.items c.add.new.done.items c.ty_fields.new.done.items c.in_ok-part.part (rw c.deref.ensures.value at c.in_ok-expect_new.ensures.given) c.in_ok-part.ensures.given c.in_ok-part.ensures.star c.in_ok-add.ensures (rw c.in_ok-part.ensures.same at c.in_ok-ty_fields.ensures.given)
+types::ty_field-returns-clause-given t c =
+    let new = rw c.deref.ensures.value at c.in_ok-expect_new.ensures.given in
+    ok-map _ (rw c.in_ok-part.ensures.same at c.ty_fields.ensures.given) (λ _ p. types-next {x = spelled c.args.first.now.0} c.args.done.now.items c.add.new.done.items c.ty_fields.new.done.items c.in_ok-part.part new c.in_ok-part.ensures.given c.in_ok-part.ensures.star c.in_ok-add.ensures p)
 
 -- functions
 
 pub expressions::exp_lam-returns-in_err-from-clause-refused : goal.expressions::exp_lam-returns-in_err-from-clause-refused
-expressions::exp_lam-returns-in_err-from-clause-refused t c = exit _ c.from_residual.result c.in_err-from.field-0.0 c.from_residual.ensures.1 (exp_lam-param c.in_err-from.ensures.refused)
+expressions::exp_lam-returns-in_err-from-clause-refused t c = exit _ c.from_residual.result c.in_err-from.field-0.0 c.from_residual.ensures.1 (λ at. exp_lam-param c.in_err-from.ensures.refused)
 
 pub expressions::exp_lam-exp_under-requires : goal.expressions::exp_lam-exp_under-requires
 expressions::exp_lam-exp_under-requires t c = (omega arith, value-env-in c.args.name.now.name c.in_ok-from.ensures.same c.requires c.in_ok-from.ensures.given)
 
 pub expressions::exp_lam-returns-in_err-inner-clause-refused : goal.expressions::exp_lam-returns-in_err-inner-clause-refused
-expressions::exp_lam-returns-in_err-inner-clause-refused t c = exit _ c.from_residual-in_err-inner.result c.in_err-inner.field-0.0 c.from_residual-in_err-inner.ensures.1 (exp_lam-body c.in_ok-from.ensures.given (rw c.in_ok-from.ensures.same at c.in_err-inner.ensures.refused))
+expressions::exp_lam-returns-in_err-inner-clause-refused t c = exit _ c.from_residual-in_err-inner.result c.in_err-inner.field-0.0 c.from_residual-in_err-inner.ensures.1 (λ at. exp_lam-body c.in_ok-from.ensures.given (rw c.in_ok-from.ensures.same at c.in_err-inner.ensures.refused))
 
-pub expressions::exp_lam-returns-in_err-whole-clause-refused : goal.expressions::exp_lam-returns-in_err-whole-clause-refused
-expressions::exp_lam-returns-in_err-whole-clause-refused t c =
+pub expressions::exp_lam-returns-clause-refused : goal.expressions::exp_lam-returns-clause-refused
+expressions::exp_lam-returns-clause-refused t c =
     let same = c.in_ok-from.ensures.same in
-    exit _ c.from_residual-in_err-whole.result c.in_err-whole.field-0.0 c.from_residual-in_err-whole.ensures.1 (exp_lam-rule c.in_ok-from.ensures.given (rw same at c.in_ok-inner.ensures.given) (rule-at (c.in_ok-inner.ensures.same ∙ same) (ap ty_span c.param.view_is) (rw c.in_ok-from.ensures.star at c.in_err-whole.ensures.refused)))
+    err-at _ (rw c.in_ok-from.ensures.star at c.function_rule.ensures.refused) (λ e r at. exp_lam-rule c.in_ok-from.ensures.given (rw same at c.in_ok-inner.ensures.given) (rule-at (c.in_ok-inner.ensures.same ∙ same) (ap ty_span c.param.view_is) r))
 
 pub expressions::exp_lam-returns-clause-given : goal.expressions::exp_lam-returns-clause-given
 expressions::exp_lam-returns-clause-given t c =
     let same = c.in_ok-from.ensures.same in
-    exp_lam c.in_ok-from.ensures.given (rw same at c.in_ok-inner.ensures.given) (rw c.in_ok-from.ensures.star at c.in_ok-whole.ensures.given)
+    ok-at _ (rw c.in_ok-from.ensures.star at c.function_rule.ensures.given) (λ o p at. exp_lam c.in_ok-from.ensures.given (rw same at c.in_ok-inner.ensures.given) p)
 
 pub expressions::exp_ty_lam-returns-in_err-inner-clause-refused : goal.expressions::exp_ty_lam-returns-in_err-inner-clause-refused
-expressions::exp_ty_lam-returns-in_err-inner-clause-refused t c = exit _ c.from_residual-in_err-inner.result c.in_err-inner.field-0.0 c.from_residual-in_err-inner.ensures.1 (exp_ty_lam-body (refused-in c.in_ok-push_type.ensures c.in_err-inner.ensures.refused))
+expressions::exp_ty_lam-returns-in_err-inner-clause-refused t c = exit _ c.from_residual-in_err-inner.result c.in_err-inner.field-0.0 c.from_residual-in_err-inner.ensures.1 (λ at. exp_ty_lam-body (refused-in c.in_ok-push_type.ensures c.in_err-inner.ensures.refused))
 
 pub expressions::exp_ty_lam-returns-clause-given : goal.expressions::exp_ty_lam-returns-clause-given
-expressions::exp_ty_lam-returns-clause-given t c = exp_ty_lam (rw c.in_ok-push_type.ensures at c.in_ok-inner.ensures.given) c.in_ok-whole.ensures.given
+expressions::exp_ty_lam-returns-clause-given t c =
+    let means = rw c.in_ok-push_type.ensures at c.in_ok-inner.ensures.given in
+    ok-at _ c.type_function_rule.ensures.given (λ o p at. exp_ty_lam means p)
 
 -- recursive functions
 
 pub expressions::exp_fix-returns-in_err-from-clause-refused : goal.expressions::exp_fix-returns-in_err-from-clause-refused
-expressions::exp_fix-returns-in_err-from-clause-refused t c = exit _ c.from_residual.result c.in_err-from.field-0.0 c.from_residual.ensures.1 (exp_fix-param c.in_err-from.ensures.refused)
+expressions::exp_fix-returns-in_err-from-clause-refused t c = exit _ c.from_residual.result c.in_err-from.field-0.0 c.from_residual.ensures.1 (λ at. exp_fix-param c.in_err-from.ensures.refused)
 
 pub expressions::exp_fix-returns-in_err-to-clause-refused : goal.expressions::exp_fix-returns-in_err-to-clause-refused
-expressions::exp_fix-returns-in_err-to-clause-refused t c = exit _ c.from_residual-in_err-to.result c.in_err-to.field-0.0 c.from_residual-in_err-to.ensures.1 (exp_fix-result c.in_ok-from.ensures.given (rw c.in_ok-from.ensures.same at c.in_err-to.ensures.refused))
+expressions::exp_fix-returns-in_err-to-clause-refused t c = exit _ c.from_residual-in_err-to.result c.in_err-to.field-0.0 c.from_residual-in_err-to.ensures.1 (λ at. exp_fix-result c.in_ok-from.ensures.given (rw c.in_ok-from.ensures.same at c.in_err-to.ensures.refused))
 
 pub expressions::exp_fix-exp_under-requires : goal.expressions::exp_fix-exp_under-requires
 expressions::exp_fix-exp_under-requires t c =
@@ -212,102 +219,102 @@ pub expressions::exp_fix-returns-in_err-inner-clause-refused : goal.expressions:
 expressions::exp_fix-returns-in_err-inner-clause-refused t c =
     let same = c.in_ok-from.ensures.same in
     let scope = entered c.in_ok-push_value.ensures c.in_ok-own.ensures (c.in_ok-to.ensures.same ∙ same) in
-    exit _ c.from_residual-in_err-inner.result c.in_err-inner.field-0.0 c.from_residual-in_err-inner.ensures.1 (exp_fix-body c.in_ok-from.ensures.given (rw same at c.in_ok-to.ensures.given) (rw scope at c.in_err-inner.ensures.refused))
+    exit _ c.from_residual-in_err-inner.result c.in_err-inner.field-0.0 c.from_residual-in_err-inner.ensures.1 (λ at. exp_fix-body c.in_ok-from.ensures.given (rw same at c.in_ok-to.ensures.given) (rw scope at c.in_err-inner.ensures.refused))
 
-pub expressions::exp_fix-returns-in_err-whole-clause-refused : goal.expressions::exp_fix-returns-in_err-whole-clause-refused
-expressions::exp_fix-returns-in_err-whole-clause-refused t c =
+pub expressions::exp_fix-returns-clause-refused : goal.expressions::exp_fix-returns-clause-refused
+expressions::exp_fix-returns-clause-refused t c =
     let same = c.in_ok-from.ensures.same in
     let scope = entered c.in_ok-push_value.ensures c.in_ok-own.ensures (c.in_ok-to.ensures.same ∙ same) in
-    exit _ c.from_residual-in_err-whole.result c.in_err-whole.field-0.0 c.from_residual-in_err-whole.ensures.1 (exp_fix-rule c.in_ok-from.ensures.given (rw same at c.in_ok-to.ensures.given) (rw scope at c.in_ok-inner.ensures.given) (rule-at (left c.leave.ensures (c.in_ok-inner.ensures.same ∙ scope)) (ap exp_span c.body.view_is) (rw (c.in_ok-from.ensures.star, c.in_ok-to.ensures.star) at c.in_err-whole.ensures.refused)))
+    err-at _ (rw (c.in_ok-from.ensures.star, c.in_ok-to.ensures.star) at c.fix_rule.ensures.refused) (λ e r at. exp_fix-rule c.in_ok-from.ensures.given (rw same at c.in_ok-to.ensures.given) (rw scope at c.in_ok-inner.ensures.given) (rule-at (left c.leave.ensures (c.in_ok-inner.ensures.same ∙ scope)) (ap exp_span c.body.view_is) r))
 
 pub expressions::exp_fix-returns-clause-given : goal.expressions::exp_fix-returns-clause-given
 expressions::exp_fix-returns-clause-given t c =
     let same = c.in_ok-from.ensures.same in
     let scope = entered c.in_ok-push_value.ensures c.in_ok-own.ensures (c.in_ok-to.ensures.same ∙ same) in
-    exp_fix c.in_ok-from.ensures.given (rw same at c.in_ok-to.ensures.given) (rw scope at c.in_ok-inner.ensures.given) (rw (c.in_ok-from.ensures.star, c.in_ok-to.ensures.star) at c.in_ok-whole.ensures.given)
+    ok-at _ (rw (c.in_ok-from.ensures.star, c.in_ok-to.ensures.star) at c.fix_rule.ensures.given) (λ o p at. exp_fix c.in_ok-from.ensures.given (rw same at c.in_ok-to.ensures.given) (rw scope at c.in_ok-inner.ensures.given) p)
 
 pub expressions::exp_fix-returns-clause-same : goal.expressions::exp_fix-returns-clause-same
 expressions::exp_fix-returns-clause-same t c =
     let scope = entered c.in_ok-push_value.ensures c.in_ok-own.ensures (c.in_ok-to.ensures.same ∙ c.in_ok-from.ensures.same) in
-    left c.leave.ensures (c.in_ok-inner.ensures.same ∙ scope)
+    stays c.fix_rule.result (left c.leave.ensures (c.in_ok-inner.ensures.same ∙ scope))
 
 -- a choice
 
 pub expressions::exp_if-returns-in_err-first-clause-refused : goal.expressions::exp_if-returns-in_err-first-clause-refused
-expressions::exp_if-returns-in_err-first-clause-refused t c = exit _ c.from_residual.result c.in_err-first.field-0.0 c.from_residual.ensures.1 (exp_if-test c.in_err-first.ensures.refused)
+expressions::exp_if-returns-in_err-first-clause-refused t c = exit _ c.from_residual.result c.in_err-first.field-0.0 c.from_residual.ensures.1 (λ at. exp_if-test c.in_err-first.ensures.refused)
 
 pub expressions::exp_if-returns-in_err-expect_bool-clause-refused : goal.expressions::exp_if-returns-in_err-expect_bool-clause-refused
-expressions::exp_if-returns-in_err-expect_bool-clause-refused t c = exit _ c.from_residual-in_err-expect_bool.result c.in_err-expect_bool.field-0.0 c.from_residual-in_err-expect_bool.ensures.1 (exp_if-test_type c.in_ok-first.ensures.given (test-at c.in_ok-first.ensures.same (ap exp_span c.test.view_is) c.in_err-expect_bool.ensures.refused))
+expressions::exp_if-returns-in_err-expect_bool-clause-refused t c = exit _ c.from_residual-in_err-expect_bool.result c.in_err-expect_bool.field-0.0 c.from_residual-in_err-expect_bool.ensures.1 (λ at. exp_if-test_type c.in_ok-first.ensures.given (test-at c.in_ok-first.ensures.same (ap exp_span c.test.view_is) c.in_err-expect_bool.ensures.refused))
 
 pub expressions::exp_if-returns-in_err-second-clause-refused : goal.expressions::exp_if-returns-in_err-second-clause-refused
-expressions::exp_if-returns-in_err-second-clause-refused t c = exit _ c.from_residual-in_err-second.result c.in_err-second.field-0.0 c.from_residual-in_err-second.ensures.1 (exp_if-yes c.in_ok-first.ensures.given c.in_ok-expect_bool.ensures.given (refused-in c.in_ok-first.ensures.same c.in_err-second.ensures.refused))
+expressions::exp_if-returns-in_err-second-clause-refused t c = exit _ c.from_residual-in_err-second.result c.in_err-second.field-0.0 c.from_residual-in_err-second.ensures.1 (λ at. exp_if-yes c.in_ok-first.ensures.given c.in_ok-expect_bool.ensures.given (refused-in c.in_ok-first.ensures.same c.in_err-second.ensures.refused))
 
 pub expressions::exp_if-returns-in_err-third-clause-refused : goal.expressions::exp_if-returns-in_err-third-clause-refused
 expressions::exp_if-returns-in_err-third-clause-refused t c =
     let same = c.in_ok-first.ensures.same in
-    exit _ c.from_residual-in_err-third.result c.in_err-third.field-0.0 c.from_residual-in_err-third.ensures.1 (exp_if-no c.in_ok-first.ensures.given c.in_ok-expect_bool.ensures.given (rw same at c.in_ok-second.ensures.given) (refused-in (c.in_ok-second.ensures.same ∙ same) c.in_err-third.ensures.refused))
+    exit _ c.from_residual-in_err-third.result c.in_err-third.field-0.0 c.from_residual-in_err-third.ensures.1 (λ at. exp_if-no c.in_ok-first.ensures.given c.in_ok-expect_bool.ensures.given (rw same at c.in_ok-second.ensures.given) (refused-in (c.in_ok-second.ensures.same ∙ same) c.in_err-third.ensures.refused))
 
-pub expressions::exp_if-returns-in_err-whole-clause-refused : goal.expressions::exp_if-returns-in_err-whole-clause-refused
-expressions::exp_if-returns-in_err-whole-clause-refused t c =
+pub expressions::exp_if-returns-clause-refused : goal.expressions::exp_if-returns-clause-refused
+expressions::exp_if-returns-clause-refused t c =
     let same = c.in_ok-first.ensures.same in
     let both = c.in_ok-second.ensures.same ∙ same in
-    exit _ c.from_residual-in_err-whole.result c.in_err-whole.field-0.0 c.from_residual-in_err-whole.ensures.1 (exp_if-rule c.in_ok-first.ensures.given c.in_ok-expect_bool.ensures.given (rw same at c.in_ok-second.ensures.given) (rw both at c.in_ok-third.ensures.given) (rule-at (c.in_ok-third.ensures.same ∙ both) (ap exp_span c.yes.view_is) c.in_err-whole.ensures.refused))
+    err-at _ c.if_rule.ensures.refused (λ e r at. exp_if-rule c.in_ok-first.ensures.given c.in_ok-expect_bool.ensures.given (rw same at c.in_ok-second.ensures.given) (rw both at c.in_ok-third.ensures.given) (rule-at (c.in_ok-third.ensures.same ∙ both) (ap exp_span c.yes.view_is) r))
 
 pub expressions::exp_if-returns-clause-given : goal.expressions::exp_if-returns-clause-given
 expressions::exp_if-returns-clause-given t c =
     let same = c.in_ok-first.ensures.same in
     let both = c.in_ok-second.ensures.same ∙ same in
-    exp_if c.in_ok-first.ensures.given (rw same at c.in_ok-second.ensures.given) (rw both at c.in_ok-third.ensures.given) c.in_ok-whole.ensures.given
+    ok-at _ c.if_rule.ensures.given (λ o p at. exp_if c.in_ok-first.ensures.given (rw same at c.in_ok-second.ensures.given) (rw both at c.in_ok-third.ensures.given) p)
 
 -- operators
 
 pub expressions::exp_ops-returns-in_err-left-clause-refused : goal.expressions::exp_ops-returns-in_err-left-clause-refused
-expressions::exp_ops-returns-in_err-left-clause-refused t c = exit _ c.from_residual.result c.in_err-left.field-0.0 c.from_residual.ensures.1 (exp_ops-first c.in_err-left.ensures.refused)
+expressions::exp_ops-returns-in_err-left-clause-refused t c = exit _ c.from_residual.result c.in_err-left.field-0.0 c.from_residual.ensures.1 (λ at. exp_ops-first c.in_err-left.ensures.refused)
 
-pub expressions::exp_ops-returns-in_err-whole-clause-refused : goal.expressions::exp_ops-returns-in_err-whole-clause-refused
-expressions::exp_ops-returns-in_err-whole-clause-refused t c = exit _ c.from_residual-in_err-whole.result c.in_err-whole.field-0.0 c.from_residual-in_err-whole.ensures.1 (exp_ops-rest c.in_ok-left.ensures.given (operands-at c.in_ok-left.ensures.same (ap exp_span c.first.view_is) c.in_err-whole.ensures.refused))
+pub expressions::exp_ops-returns-clause-refused : goal.expressions::exp_ops-returns-clause-refused
+expressions::exp_ops-returns-clause-refused t c = err-at _ c.operands.ensures.refused (λ e r at. exp_ops-rest c.in_ok-left.ensures.given (operands-at c.in_ok-left.ensures.same (ap exp_span c.first.view_is) r))
 
 pub expressions::exp_ops-returns-clause-given : goal.expressions::exp_ops-returns-clause-given
-expressions::exp_ops-returns-clause-given t c = exp_ops c.in_ok-left.ensures.given (rw c.in_ok-left.ensures.same at c.in_ok-whole.ensures.given)
+expressions::exp_ops-returns-clause-given t c = ok-at _ (rw c.in_ok-left.ensures.same at c.operands.ensures.given) (λ o p at. exp_ops c.in_ok-left.ensures.given p)
 
 -- arguments
 
 pub expressions::exp_apply-returns-in_err-found-clause-refused : goal.expressions::exp_apply-returns-in_err-found-clause-refused
-expressions::exp_apply-returns-in_err-found-clause-refused t c = exit _ c.from_residual.result c.in_err-found.field-0.0 c.from_residual.ensures.1 (exp_apply-function c.in_err-found.ensures.refused)
+expressions::exp_apply-returns-in_err-found-clause-refused t c = exit _ c.from_residual.result c.in_err-found.field-0.0 c.from_residual.ensures.1 (λ at. exp_apply-function c.in_err-found.ensures.refused)
 
 pub expressions::exp_apply-arguments-requires : goal.expressions::exp_apply-arguments-requires
 expressions::exp_apply-arguments-requires t c = (omega arith, (env-in c.in_ok-found.ensures.same c.requires, exp-normal c.in_ok-found.ensures.same c.requires c.in_ok-found.ensures.given))
 
-pub expressions::exp_apply-returns-in_err-whole-clause-refused : goal.expressions::exp_apply-returns-in_err-whole-clause-refused
-expressions::exp_apply-returns-in_err-whole-clause-refused t c = exit _ c.from_residual-in_err-whole.result c.in_err-whole.field-0.0 c.from_residual-in_err-whole.ensures.1 (exp_apply-args c.in_ok-found.ensures.given (args-at c.in_ok-found.ensures.same (ap exp_span c.function.view_is) c.in_err-whole.ensures.refused))
+pub expressions::exp_apply-returns-clause-refused : goal.expressions::exp_apply-returns-clause-refused
+expressions::exp_apply-returns-clause-refused t c = err-at _ c.arguments.ensures.refused (λ e r at. exp_apply-args c.in_ok-found.ensures.given (args-at c.in_ok-found.ensures.same (ap exp_span c.function.view_is) r))
 
 pub expressions::exp_apply-returns-clause-given : goal.expressions::exp_apply-returns-clause-given
-expressions::exp_apply-returns-clause-given t c = exp_apply c.in_ok-found.ensures.given (rw c.in_ok-found.ensures.same at c.in_ok-whole.ensures.given)
+expressions::exp_apply-returns-clause-given t c = ok-at _ (rw c.in_ok-found.ensures.same at c.arguments.ensures.given) (λ o p at. exp_apply c.in_ok-found.ensures.given p)
 
 -- records
 
 pub expressions::exp_record-returns-in_err-exp_fields-clause-refused : goal.expressions::exp_record-returns-in_err-exp_fields-clause-refused
 expressions::exp_record-returns-in_err-exp_fields-clause-refused t c = exit _ c.from_residual.result c.in_err-exp_fields.field-0.0 c.from_residual.ensures.1 (record-parts c.new-parts.result.items c.new-parts.ensures.items c.in_err-exp_fields.ensures.refused)
 
-pub expressions::exp_record-returns-in_err-whole-clause-refused : goal.expressions::exp_record-returns-in_err-whole-clause-refused
-expressions::exp_record-returns-in_err-whole-clause-refused t c = exit _ c.from_residual-in_err-whole.result c.in_err-whole.field-0.0 c.from_residual-in_err-whole.ensures.1 (record-rule c.new-parts.result.items c.exp_fields.new.done.items c.new-parts.ensures.items c.in_ok-exp_fields.ensures.given (rw c.in_ok-exp_fields.ensures.same at c.in_err-whole.ensures.refused))
+pub expressions::exp_record-returns-clause-refused : goal.expressions::exp_record-returns-clause-refused
+expressions::exp_record-returns-clause-refused t c = err-map _ (rw c.in_ok-exp_fields.ensures.same at c.record_rule.ensures.refused) (λ e r. record-rule c.new-parts.result.items c.exp_fields.new.done.items c.new-parts.ensures.items c.in_ok-exp_fields.ensures.given r)
 
 pub expressions::exp_record-returns-clause-given : goal.expressions::exp_record-returns-clause-given
-expressions::exp_record-returns-clause-given t c = record-means c.new-parts.result.items c.exp_fields.new.done.items c.new-parts.ensures.items c.in_ok-exp_fields.ensures.given c.in_ok-whole.ensures.given
+expressions::exp_record-returns-clause-given t c = ok-map _ c.record_rule.ensures.given (λ o p. record-means c.new-parts.result.items c.exp_fields.new.done.items c.new-parts.ensures.items c.in_ok-exp_fields.ensures.given p)
 
 -- a field of a record
 
 pub expressions::exp_get-returns-in_err-found-clause-refused : goal.expressions::exp_get-returns-in_err-found-clause-refused
-expressions::exp_get-returns-in_err-found-clause-refused t c = exit _ c.from_residual.result c.in_err-found.field-0.0 c.from_residual.ensures.1 (exp_get-record c.in_err-found.ensures.refused)
+expressions::exp_get-returns-in_err-found-clause-refused t c = exit _ c.from_residual.result c.in_err-found.field-0.0 c.from_residual.ensures.1 (λ at. exp_get-record c.in_err-found.ensures.refused)
 
 pub expressions::exp_get-returns-in_err-expect_record-clause-refused : goal.expressions::exp_get-returns-in_err-expect_record-clause-refused
-expressions::exp_get-returns-in_err-expect_record-clause-refused t c = exit _ c.from_residual-in_err-expect_record.result c.in_err-expect_record.field-0.0 c.from_residual-in_err-expect_record.ensures.1 (exp_get-no_record c.in_ok-found.ensures.given (test-at c.in_ok-found.ensures.same (ap exp_span c.whole.view_is) c.in_err-expect_record.ensures.refused))
+expressions::exp_get-returns-in_err-expect_record-clause-refused t c = exit _ c.from_residual-in_err-expect_record.result c.in_err-expect_record.field-0.0 c.from_residual-in_err-expect_record.ensures.1 (λ at. exp_get-no_record c.in_ok-found.ensures.given (test-at c.in_ok-found.ensures.same (ap exp_span c.whole.view_is) c.in_err-expect_record.ensures.refused))
 
-pub expressions::exp_get-returns-in_err-part-clause-refused : goal.expressions::exp_get-returns-in_err-part-clause-refused
-expressions::exp_get-returns-in_err-part-clause-refused t c = exit _ c.from_residual-in_err-part.result c.in_err-part.field-0.0 c.from_residual-in_err-part.ensures.1 (exp_get-rule c.in_ok-found.ensures.given c.in_ok-expect_record.ensures.given.1 (rw c.in_ok-found.ensures.same at c.in_err-part.ensures.refused))
+pub expressions::exp_get-returns-clause-refused : goal.expressions::exp_get-returns-clause-refused
+expressions::exp_get-returns-clause-refused t c = err-at _ (rw c.in_ok-found.ensures.same at c.get_rule.ensures.refused) (λ e r at. exp_get-rule c.in_ok-found.ensures.given c.in_ok-expect_record.ensures.given.1 r)
 
 pub expressions::exp_get-returns-clause-given : goal.expressions::exp_get-returns-clause-given
-expressions::exp_get-returns-clause-given t c = exp_get c.in_ok-found.ensures.given c.in_ok-part.ensures.given
+expressions::exp_get-returns-clause-given t c = ok-at _ c.get_rule.ensures.given (λ o p at. exp_get c.in_ok-found.ensures.given p)
 
 -- operands
 
@@ -323,11 +330,16 @@ expressions::operand-returns-in_err-right-clause-refused t c = exit _ c.from_res
 pub expressions::operand-returns-in_err-whole-clause-refused : goal.expressions::operand-returns-in_err-whole-clause-refused
 expressions::operand-returns-in_err-whole-clause-refused t c = exit _ c.from_residual-in_err-whole.result c.in_err-whole.field-0.0 c.from_residual-in_err-whole.ensures.1 (operand-rule c.in_ok-expect_int.ensures.given c.in_ok-right.ensures.given (rule-at c.in_ok-right.ensures.same (ap (λ (p : OpIn × Exp). exp_span p.1) c.first.view_is) c.in_err-whole.ensures.refused))
 
-pub expressions::operand-returns-in_err-all-clause-refused : goal.expressions::operand-returns-in_err-all-clause-refused
-expressions::operand-returns-in_err-all-clause-refused t c = exit _ c.from_residual-in_err-all.result c.in_err-all.field-0.0 c.from_residual-in_err-all.ensures.1 (operand-later c.in_ok-expect_int.ensures.given c.in_ok-right.ensures.given (rw (c.omega_op-op.ensures ∙ ap (λ (p : OpIn × Exp). omega_op (op_of p.0)) c.first.view_is) at c.in_ok-whole.ensures.given) (operands-at c.in_ok-right.ensures.same (ap place c.up_to-both.ensures ∙ ap (up_to (place c.args.at)) (ap (λ (p : OpIn × Exp). exp_span p.1) c.first.view_is)) c.in_err-all.ensures.refused))
+pub expressions::operand-returns-clause-refused : goal.expressions::operand-returns-clause-refused
+expressions::operand-returns-clause-refused t c =
+    let means = rw (c.omega_op-op.ensures ∙ ap (λ (p : OpIn × Exp). omega_op (op_of p.0)) c.first.view_is) at c.in_ok-whole.ensures.given in
+    let both = ap place c.up_to-both.ensures ∙ ap (up_to (place c.args.at)) (ap (λ (p : OpIn × Exp). exp_span p.1) c.first.view_is) in
+    err-map _ c.operands.ensures.refused (λ e r. operand-later c.in_ok-expect_int.ensures.given c.in_ok-right.ensures.given means (operands-at c.in_ok-right.ensures.same both r))
 
 pub expressions::operand-returns-clause-given : goal.expressions::operand-returns-clause-given
-expressions::operand-returns-clause-given t c = next_op c.in_ok-right.ensures.given (rw (c.omega_op-op.ensures ∙ ap (λ (p : OpIn × Exp). omega_op (op_of p.0)) c.first.view_is) at c.in_ok-whole.ensures.given) (rw c.in_ok-right.ensures.same at c.in_ok-all.ensures.given)
+expressions::operand-returns-clause-given t c =
+    let means = rw (c.omega_op-op.ensures ∙ ap (λ (p : OpIn × Exp). omega_op (op_of p.0)) c.first.view_is) at c.in_ok-whole.ensures.given in
+    ok-map _ (rw c.in_ok-right.ensures.same at c.operands.ensures.given) (λ o p. next_op c.in_ok-right.ensures.given means p)
 
 -- arguments that are left
 
@@ -346,11 +358,13 @@ expressions::value_argument-returns-in_err-whole-clause-refused t c = exit _ c.f
 pub expressions::value_argument-arguments-requires : goal.expressions::value_argument-arguments-requires
 expressions::value_argument-arguments-requires t c = (omega (arith, c.decreases), (env-in c.in_ok-arg.ensures.same c.requires.env, called-normal (normal-in c.in_ok-arg.ensures.same c.requires.normal) c.in_ok-whole.ensures.given))
 
-pub expressions::value_argument-returns-in_err-all-clause-refused : goal.expressions::value_argument-returns-in_err-all-clause-refused
-expressions::value_argument-returns-in_err-all-clause-refused t c = exit _ c.from_residual-in_err-all.result c.in_err-all.field-0.0 c.from_residual-in_err-all.ensures.1 (arg-later c.in_ok-expect_arrow.ensures.given.1 c.in_ok-arg.ensures.given c.in_ok-whole.ensures.given (args-at c.in_ok-arg.ensures.same (ap place c.up_to-both.ensures ∙ ap (up_to (place c.args.at)) (ap exp_span c.first.view_is)) c.in_err-all.ensures.refused))
+pub expressions::value_argument-returns-clause-refused : goal.expressions::value_argument-returns-clause-refused
+expressions::value_argument-returns-clause-refused t c =
+    let both = ap place c.up_to-both.ensures ∙ ap (up_to (place c.args.at)) (ap exp_span c.first.view_is) in
+    err-map _ c.arguments.ensures.refused (λ e r. arg-later c.in_ok-expect_arrow.ensures.given.1 c.in_ok-arg.ensures.given c.in_ok-whole.ensures.given (args-at c.in_ok-arg.ensures.same both r))
 
 pub expressions::value_argument-returns-clause-given : goal.expressions::value_argument-returns-clause-given
-expressions::value_argument-returns-clause-given t c = next_value c.in_ok-arg.ensures.given c.in_ok-whole.ensures.given (rw c.in_ok-arg.ensures.same at c.in_ok-all.ensures.given)
+expressions::value_argument-returns-clause-given t c = ok-map _ (rw c.in_ok-arg.ensures.same at c.arguments.ensures.given) (λ o p. next_value c.in_ok-arg.ensures.given c.in_ok-whole.ensures.given p)
 
 pub expressions::type_argument-returns-in_err-expect_all-clause-refused : goal.expressions::type_argument-returns-in_err-expect_all-clause-refused
 expressions::type_argument-returns-in_err-expect_all-clause-refused t c = exit _ c.from_residual.result c.in_err-expect_all.field-0.0 c.from_residual.ensures.1 (ty_arg-no_all c.in_err-expect_all.ensures.refused)
@@ -370,15 +384,15 @@ expressions::type_argument-returns-in_err-whole-clause-refused t c = exit _ c.fr
 pub expressions::type_argument-arguments-requires : goal.expressions::type_argument-arguments-requires
 expressions::type_argument-arguments-requires t c = (omega (arith, c.decreases), (env-in c.in_ok-arg.ensures.same c.requires.env, instance-normal c.in_ok-whole.ensures.given))
 
-pub expressions::type_argument-returns-in_err-all-clause-refused : goal.expressions::type_argument-returns-in_err-all-clause-refused
-expressions::type_argument-returns-in_err-all-clause-refused t c =
+pub expressions::type_argument-returns-clause-refused : goal.expressions::type_argument-returns-clause-refused
+expressions::type_argument-returns-clause-refused t c =
     let same = c.in_ok-arg.ensures.same in
-    exit _ c.from_residual-in_err-all.result c.in_err-all.field-0.0 c.from_residual-in_err-all.ensures.1 (exps-ty_arg-later c.in_ok-expect_all.ensures.given.1 c.in_ok-arg.ensures.given (rw same at c.in_ok-whole.ensures.given) (args-at same (ap place c.up_to-both.ensures) c.in_err-all.ensures.refused))
+    err-map _ c.arguments.ensures.refused (λ e r. exps-ty_arg-later c.in_ok-expect_all.ensures.given.1 c.in_ok-arg.ensures.given (rw same at c.in_ok-whole.ensures.given) (args-at same (ap place c.up_to-both.ensures) r))
 
 pub expressions::type_argument-returns-clause-given : goal.expressions::type_argument-returns-clause-given
 expressions::type_argument-returns-clause-given t c =
     let same = c.in_ok-arg.ensures.same in
-    next_type c.in_ok-arg.ensures.given (rw same at c.in_ok-whole.ensures.given) (rw same at c.in_ok-all.ensures.given)
+    ok-map _ (rw same at c.arguments.ensures.given) (λ o p. next_type c.in_ok-arg.ensures.given (rw same at c.in_ok-whole.ensures.given) p)
 
 -- fields
 
@@ -391,11 +405,15 @@ expressions::exp_field-returns-in_err-expect_new-clause-refused t c = exit _ c.f
 pub expressions::exp_field-returns-in_err-part-clause-refused : goal.expressions::exp_field-returns-in_err-part-clause-refused
 expressions::exp_field-returns-in_err-part-clause-refused t c = exit _ c.from_residual-in_err-part.result c.in_err-part.field-0.0 c.from_residual-in_err-part.ensures.1 (exp_field-value {x = spelled c.args.first.now.0} (rw c.deref.ensures.value at c.in_ok-expect_new.ensures.given) c.in_err-part.ensures.refused)
 
-pub expressions::exp_field-returns-in_err-exp_fields-clause-refused : goal.expressions::exp_field-returns-in_err-exp_fields-clause-refused
-expressions::exp_field-returns-in_err-exp_fields-clause-refused t c = exit _ c.from_residual-in_err-exp_fields.result c.in_err-exp_fields.field-0.0 c.from_residual-in_err-exp_fields.ensures.1 (exps-later {x = spelled c.args.first.now.0} c.args.done.now.items c.add.new.done.items c.in_ok-part.part (rw c.deref.ensures.value at c.in_ok-expect_new.ensures.given) c.in_ok-part.ensures.given c.in_ok-add.ensures (rw c.in_ok-part.ensures.same at c.in_err-exp_fields.ensures.refused))
+pub expressions::exp_field-returns-clause-refused : goal.expressions::exp_field-returns-clause-refused
+expressions::exp_field-returns-clause-refused t c =
+    let new = rw c.deref.ensures.value at c.in_ok-expect_new.ensures.given in
+    err-map _ (rw c.in_ok-part.ensures.same at c.exp_fields.ensures.refused) (λ e r. exps-later {x = spelled c.args.first.now.0} c.args.done.now.items c.add.new.done.items c.in_ok-part.part new c.in_ok-part.ensures.given c.in_ok-add.ensures r)
 
 pub expressions::exp_field-returns-clause-given : goal.expressions::exp_field-returns-clause-given
-expressions::exp_field-returns-clause-given t c = exps-next {x = spelled c.args.first.now.0} c.args.done.now.items c.add.new.done.items c.exp_fields.new.done.items c.in_ok-part.part (rw c.deref.ensures.value at c.in_ok-expect_new.ensures.given) c.in_ok-part.ensures.given c.in_ok-add.ensures (rw c.in_ok-part.ensures.same at c.in_ok-exp_fields.ensures.given)
+expressions::exp_field-returns-clause-given t c =
+    let new = rw c.deref.ensures.value at c.in_ok-expect_new.ensures.given in
+    ok-map _ (rw c.in_ok-part.ensures.same at c.exp_fields.ensures.given) (λ _ p. exps-next {x = spelled c.args.first.now.0} c.args.done.now.items c.add.new.done.items c.exp_fields.new.done.items c.in_ok-part.part new c.in_ok-part.ensures.given c.in_ok-add.ensures p)
 
 -- literals
 
@@ -416,25 +434,25 @@ pub declarations::decl-returns-in-TyOf-clause-given : goal.declarations::decl-re
 declarations::decl-returns-in-TyOf-clause-given t c = abstract-means c.args.env.now c.args.phrase.now c.phrase.inside.what c.phrase.inside.span c.in-TyOf.name c.in-TyOf.kind c.abstract_rule.result c.phrase.view_is c.in-TyOf.is c.abstract_rule.ensures.given
 
 pub declarations::decl_module-returns-in_err-found-clause-refused : goal.declarations::decl_module-returns-in_err-found-clause-refused
-declarations::decl_module-returns-in_err-found-clause-refused t c = exit _ c.from_residual.result c.in_err-found.field-0.0 c.from_residual.ensures.1 (decl_module-sig c.in_err-found.ensures.refused)
+declarations::decl_module-returns-in_err-found-clause-refused t c = exit _ c.from_residual.result c.in_err-found.field-0.0 c.from_residual.ensures.1 (λ at. decl_module-sig c.in_err-found.ensures.refused)
 
 pub declarations::decl_module-returns-clause-given : goal.declarations::decl_module-returns-clause-given
-declarations::decl_module-returns-clause-given t c = DeclMeans.decl_module c.in_ok-found.ensures.given c.in_ok-whole.ensures.given
+declarations::decl_module-returns-clause-given t c = ok-at _ c.module_rule.ensures.given (λ x p at. DeclMeans.decl_module c.in_ok-found.ensures.given p)
 
 pub declarations::decl_signature-returns-in_err-found-clause-refused : goal.declarations::decl_signature-returns-in_err-found-clause-refused
-declarations::decl_signature-returns-in_err-found-clause-refused t c = exit _ c.from_residual.result c.in_err-found.field-0.0 c.from_residual.ensures.1 (decl_signature-sig c.in_err-found.ensures.refused)
+declarations::decl_signature-returns-in_err-found-clause-refused t c = exit _ c.from_residual.result c.in_err-found.field-0.0 c.from_residual.ensures.1 (λ at. decl_signature-sig c.in_err-found.ensures.refused)
 
 pub declarations::decl_signature-returns-clause-given : goal.declarations::decl_signature-returns-clause-given
-declarations::decl_signature-returns-clause-given t c = DeclMeans.decl_signature c.in_ok-found.ensures.given c.in_ok-whole.ensures.given
+declarations::decl_signature-returns-clause-given t c = ok-at _ c.signature_rule.ensures.given (λ x p at. DeclMeans.decl_signature c.in_ok-found.ensures.given p)
 
 pub declarations::decl_include-returns-in_err-found-clause-refused : goal.declarations::decl_include-returns-in_err-found-clause-refused
-declarations::decl_include-returns-in_err-found-clause-refused t c = exit _ c.from_residual.result c.in_err-found.field-0.0 c.from_residual.ensures.1 (decl_include-sig c.in_err-found.ensures.refused)
+declarations::decl_include-returns-in_err-found-clause-refused t c = exit _ c.from_residual.result c.in_err-found.field-0.0 c.from_residual.ensures.1 (λ at. decl_include-sig c.in_err-found.ensures.refused)
 
-pub declarations::decl_include-returns-in_err-whole-clause-refused : goal.declarations::decl_include-returns-in_err-whole-clause-refused
-declarations::decl_include-returns-in_err-whole-clause-refused t c = exit _ c.from_residual-in_err-whole.result c.in_err-whole.field-0.0 c.from_residual-in_err-whole.ensures.1 (decl_include-rule c.in_ok-found.ensures.given (rule-at c.in_ok-found.ensures.same (ap sig_span c.of.view_is) c.in_err-whole.ensures.refused))
+pub declarations::decl_include-returns-clause-refused : goal.declarations::decl_include-returns-clause-refused
+declarations::decl_include-returns-clause-refused t c = err-at _ c.include_rule.ensures.refused (λ e r at. decl_include-rule c.in_ok-found.ensures.given (rule-at c.in_ok-found.ensures.same (ap sig_span c.of.view_is) r))
 
 pub declarations::decl_include-returns-clause-given : goal.declarations::decl_include-returns-clause-given
-declarations::decl_include-returns-clause-given t c = DeclMeans.decl_include c.in_ok-found.ensures.given c.in_ok-whole.ensures.given
+declarations::decl_include-returns-clause-given t c = ok-at _ c.include_rule.ensures.given (λ x p at. DeclMeans.decl_include c.in_ok-found.ensures.given p)
 
 -- declarations in a row
 
@@ -459,10 +477,12 @@ declarations::decls-returns-in_err-tail-in-len1-up-clause-refused t c =
 pub declarations::decls-returns-in_ok-no_fields-in-empty-clause-given : goal.declarations::decls-returns-in_ok-no_fields-in-empty-clause-given
 declarations::decls-returns-in_ok-no_fields-in-empty-clause-given t c = no-row c.args.list.now c.in-empty.len_below c.in_ok-no_fields-in-empty.ensures
 
-pub declarations::decls-returns-in_ok-whole-in-len1-up-clause-given : goal.declarations::decls-returns-in_ok-whole-in-len1-up-clause-given
-declarations::decls-returns-in_ok-whole-in-len1-up-clause-given t c =
+pub declarations::decls-returns-in_ok-tail-in-len1-up-clause-given : goal.declarations::decls-returns-in_ok-tail-in-len1-up-clause-given
+declarations::decls-returns-in_ok-tail-in-len1-up-clause-given t c =
     let head = c.in_ok-head-in-len1-up in
-    row-means c.args.list.now c.first-item.result c.in-len1-up.len_at_least c.first-item.is (decls-mean head.head c.in_ok-tail-in-len1-up.tail c.in_ok-whole-in-len1-up.whole head.ensures.given c.in_ok-distinct_rule-in-len1-up.ensures.given (rw head.ensures.same at c.in_ok-tail-in-len1-up.ensures.given) c.in_ok-whole-in-len1-up.ensures.given)
+    let tail = c.in_ok-tail-in-len1-up in
+    let later = rw head.ensures.same at tail.ensures.given in
+    ok-map _ c.declarations_rule.ensures.given (λ x p. row-means c.args.list.now c.first-item.result c.in-len1-up.len_at_least c.first-item.is (decls-mean head.head tail.tail x head.ensures.given c.in_ok-distinct_rule-in-len1-up.ensures.given later p))
 
 pub declarations::decls_under-decls-requires : goal.declarations::decls_under-decls-requires
 declarations::decls_under-decls-requires t c = (omega arith, env-in (fields-env c.args.env.now c.push_type_vars.new.env c.push_fields.new.env c.args.head.now c.fields_of-fields.result.now c.kinds.result.now c.kinds.ensures c.fields_of-fields.ensures c.in_ok-push_type_vars.ensures c.in_ok-push_fields.ensures) c.requires.env)
@@ -476,11 +496,11 @@ declarations::decls_under-returns-clause-same t c =
 
 -- signatures of declarations
 
-pub sigs::sig_decls-returns-in_err-whole-clause-refused : goal.sigs::sig_decls-returns-in_err-whole-clause-refused
-sigs::sig_decls-returns-in_err-whole-clause-refused t c = exit _ c.from_residual.result c.in_err-whole.field-0.0 c.from_residual.ensures.1 (sig_decls-list (rw c.new.ensures at c.in_err-whole.ensures.refused))
+pub sigs::sig_decls-returns-clause-refused : goal.sigs::sig_decls-returns-clause-refused
+sigs::sig_decls-returns-clause-refused t c = err-at _ (rw c.new.ensures at c.decls.ensures.refused) (λ e r at. sig_decls-list r)
 
 pub sigs::sig_decls-returns-clause-given : goal.sigs::sig_decls-returns-clause-given
-sigs::sig_decls-returns-clause-given t c = SigMeans.sig_decls (rw c.new.ensures at c.in_ok-whole.ensures.given)
+sigs::sig_decls-returns-clause-given t c = ok-at _ (rw c.new.ensures at c.decls.ensures.given) (λ x p at. SigMeans.sig_decls p)
 
 -- signatures of functors
 
@@ -491,31 +511,31 @@ pub sigs::sig_under-returns-clause-same : goal.sigs::sig_under-returns-clause-sa
 sigs::sig_under-returns-clause-same t c = left-under c.args.env.now c.args.param.now c.args.name.now c.items.result.now c.kinds.result.now (length c.items.result.now + 1) c.sig.new.env c.leave.new.env c.items.ensures c.kinds.ensures refl (c.in_ok-found.ensures.same ∙ c.in_ok-push_module.ensures) c.leave.ensures
 
 pub sigs::sig_fun-returns-in_err-from-clause-refused : goal.sigs::sig_fun-returns-in_err-from-clause-refused
-sigs::sig_fun-returns-in_err-from-clause-refused t c = exit _ c.from_residual.result c.in_err-from.field-0.0 c.from_residual.ensures.1 (sig_fun-param c.in_err-from.ensures.refused)
+sigs::sig_fun-returns-in_err-from-clause-refused t c = exit _ c.from_residual.result c.in_err-from.field-0.0 c.from_residual.ensures.1 (λ at. sig_fun-param c.in_err-from.ensures.refused)
 
 pub sigs::sig_fun-sig_under-requires : goal.sigs::sig_fun-sig_under-requires
 sigs::sig_fun-sig_under-requires t c = (omega arith, param-in c.in_ok-from.from c.args.name.now.name c.in_ok-from.ensures.same c.requires c.in_ok-from.ensures.given)
 
 pub sigs::sig_fun-returns-in_err-to-clause-refused : goal.sigs::sig_fun-returns-in_err-to-clause-refused
-sigs::sig_fun-returns-in_err-to-clause-refused t c = exit _ c.from_residual-in_err-to.result c.in_err-to.field-0.0 c.from_residual-in_err-to.ensures.1 (sig_fun-in c.args.pure c.in_ok-from.from c.in_ok-from.ensures.given (rw c.in_ok-from.ensures.same at c.in_err-to.ensures.refused))
+sigs::sig_fun-returns-in_err-to-clause-refused t c = exit _ c.from_residual-in_err-to.result c.in_err-to.field-0.0 c.from_residual-in_err-to.ensures.1 (λ at. sig_fun-in c.args.pure c.in_ok-from.from c.in_ok-from.ensures.given (rw c.in_ok-from.ensures.same at c.in_err-to.ensures.refused))
 
 pub sigs::sig_fun-returns-then-pure-clause-given : goal.sigs::sig_fun-returns-then-pure-clause-given
 sigs::sig_fun-returns-then-pure-clause-given t c =
     let from = c.in_ok-from in
-    rw c.if-pure.true (lifted-means from.from c.in_ok-to.to c.in_ok-whole.whole c.requires from.ensures.given (rw from.ensures.same at c.in_ok-to.ensures.given) c.in_ok-whole.ensures)
+    λ at. rw c.if-pure.true (lifted-means from.from c.in_ok-to.to c.in_ok-lift_rule.field-0 c.requires from.ensures.given (rw from.ensures.same at c.in_ok-to.ensures.given) c.in_ok-lift_rule.ensures)
 
 pub sigs::sig_fun-returns-clause-given : goal.sigs::sig_fun-returns-clause-given
 sigs::sig_fun-returns-clause-given t c =
     let same = c.in_ok-from.ensures.same in
-    rw c.if-pure.false (generative-means c.in_ok-from.from c.in_ok-from.ensures.given (rw same at c.in_ok-to.ensures.given) c.in_ok-whole-2.ensures.given)
+    rw c.if-pure.false (ok-at _ c.functor_rule.ensures.given (λ x p at. generative-means c.in_ok-from.from c.in_ok-from.ensures.given (rw same at c.in_ok-to.ensures.given) p))
 
 -- signatures in which a type is fixed
 
 pub sigs::sig_refine-returns-in_err-found-clause-refused : goal.sigs::sig_refine-returns-in_err-found-clause-refused
-sigs::sig_refine-returns-in_err-found-clause-refused t c = exit _ c.from_residual.result c.in_err-found.field-0.0 c.from_residual.ensures.1 (sig_refine-sig c.in_err-found.ensures.refused)
+sigs::sig_refine-returns-in_err-found-clause-refused t c = exit _ c.from_residual.result c.in_err-found.field-0.0 c.from_residual.ensures.1 (λ at. sig_refine-sig c.in_err-found.ensures.refused)
 
 pub sigs::sig_refine-returns-in_err-fixed-clause-refused : goal.sigs::sig_refine-returns-in_err-fixed-clause-refused
-sigs::sig_refine-returns-in_err-fixed-clause-refused t c = exit _ c.from_residual-in_err-fixed.result c.in_err-fixed.field-0.0 c.from_residual-in_err-fixed.ensures.1 (sig_refine-type c.in_ok-found.ensures.given (rw c.in_ok-found.ensures.same at c.in_err-fixed.ensures.refused))
+sigs::sig_refine-returns-in_err-fixed-clause-refused t c = exit _ c.from_residual-in_err-fixed.result c.in_err-fixed.field-0.0 c.from_residual-in_err-fixed.ensures.1 (λ at. sig_refine-type c.in_ok-found.ensures.given (rw c.in_ok-found.ensures.same at c.in_err-fixed.ensures.refused))
 
 pub sigs::sig_refine-where_rule-requires-clause-sig : goal.sigs::sig_refine-where_rule-requires-clause-sig
 sigs::sig_refine-where_rule-requires-clause-sig t c = sig-in (c.in_ok-fixed.ensures.same ∙ c.in_ok-found.ensures.same) c.requires c.in_ok-found.ensures.given
@@ -523,34 +543,34 @@ sigs::sig_refine-where_rule-requires-clause-sig t c = sig-in (c.in_ok-fixed.ensu
 pub sigs::sig_refine-where_rule-requires-clause-ty : goal.sigs::sig_refine-where_rule-requires-clause-ty
 sigs::sig_refine-where_rule-requires-clause-ty t c = type-normal c.in_ok-fixed.ensures.same (env-in c.in_ok-found.ensures.same c.requires) c.in_ok-fixed.ensures.given
 
-pub sigs::sig_refine-returns-in_err-refined-clause-refused : goal.sigs::sig_refine-returns-in_err-refined-clause-refused
-sigs::sig_refine-returns-in_err-refined-clause-refused t c =
+pub sigs::sig_refine-returns-clause-refused : goal.sigs::sig_refine-returns-clause-refused
+sigs::sig_refine-returns-clause-refused t c =
     let same = c.in_ok-found.ensures.same in
-    exit _ c.from_residual-in_err-refined.result c.in_err-refined.field-0.0 c.from_residual-in_err-refined.ensures.1 (refine-in c.in_ok-found.found c.in_ok-found.ensures.given (rw same at c.in_ok-fixed.ensures.given) (rw (c.in_ok-fixed.ensures.same ∙ same) at c.in_err-refined.ensures.refused))
+    err-at _ (rw (c.in_ok-fixed.ensures.same ∙ same) at c.where_rule.ensures.refused) (λ e r at. refine-in c.in_ok-found.found c.in_ok-found.ensures.given (rw same at c.in_ok-fixed.ensures.given) r)
 
 pub sigs::sig_refine-returns-clause-given : goal.sigs::sig_refine-returns-clause-given
 sigs::sig_refine-returns-clause-given t c =
     let same = c.in_ok-found.ensures.same in
-    SigMeans.sig_refine c.in_ok-found.ensures.given (rw same at c.in_ok-fixed.ensures.given) (rw (c.in_ok-fixed.ensures.same ∙ same) at c.in_ok-refined.ensures.given)
+    ok-at _ (rw (c.in_ok-fixed.ensures.same ∙ same) at c.where_rule.ensures.given) (λ x p at. SigMeans.sig_refine c.in_ok-found.ensures.given (rw same at c.in_ok-fixed.ensures.given) p)
 
 -- structures
 
-pub modules::mod_struct-returns-in_err-whole-clause-refused : goal.modules::mod_struct-returns-in_err-whole-clause-refused
-modules::mod_struct-returns-in_err-whole-clause-refused t c = exit _ c.from_residual.result c.in_err-whole.field-0.0 c.from_residual.ensures.1 (mod_struct-list (rw c.new.ensures at c.in_err-whole.ensures.refused))
+pub modules::mod_struct-returns-clause-refused : goal.modules::mod_struct-returns-clause-refused
+modules::mod_struct-returns-clause-refused t c = err-at _ (rw c.new.ensures at c.binds.ensures.refused) (λ e r at. mod_struct-list r)
 
 pub modules::mod_struct-returns-clause-given : goal.modules::mod_struct-returns-clause-given
-modules::mod_struct-returns-clause-given t c = mod_struct (rw c.new.ensures at c.in_ok-whole.ensures.given)
+modules::mod_struct-returns-clause-given t c = ok-at _ (rw c.new.ensures at c.binds.ensures.given) (λ m p at. mod_struct p)
 
 -- projections
 
 pub modules::mod_project-returns-in_err-found-clause-refused : goal.modules::mod_project-returns-in_err-found-clause-refused
-modules::mod_project-returns-in_err-found-clause-refused t c = exit _ c.from_residual.result c.in_err-found.field-0.0 c.from_residual.ensures.1 (mod_project-whole c.in_err-found.ensures.refused)
+modules::mod_project-returns-in_err-found-clause-refused t c = exit _ c.from_residual.result c.in_err-found.field-0.0 c.from_residual.ensures.1 (λ at. mod_project-whole c.in_err-found.ensures.refused)
 
-pub modules::mod_project-returns-in_err-part-clause-refused : goal.modules::mod_project-returns-in_err-part-clause-refused
-modules::mod_project-returns-in_err-part-clause-refused t c = exit _ c.from_residual-in_err-part.result c.in_err-part.field-0.0 c.from_residual-in_err-part.ensures.1 (mod_project-rule c.in_ok-found.ensures.given (rw c.in_ok-found.ensures.same at c.in_err-part.ensures.refused))
+pub modules::mod_project-returns-clause-refused : goal.modules::mod_project-returns-clause-refused
+modules::mod_project-returns-clause-refused t c = err-at _ (rw c.in_ok-found.ensures.same at c.project_rule.ensures.refused) (λ e r at. mod_project-rule c.in_ok-found.ensures.given r)
 
 pub modules::mod_project-returns-clause-given : goal.modules::mod_project-returns-clause-given
-modules::mod_project-returns-clause-given t c = mod_project c.in_ok-found.ensures.given (c.in_ok-part.ensures.given _ (mod_ok _ _ _ c.requires c.in_ok-found.ensures.given))
+modules::mod_project-returns-clause-given t c = ok-at _ c.project_rule.ensures.given (λ m p at. mod_project c.in_ok-found.ensures.given (p _ (mod_ok _ _ _ c.requires c.in_ok-found.ensures.given)))
 
 -- functors
 
@@ -561,19 +581,19 @@ pub modules::mod_under-returns-clause-same : goal.modules::mod_under-returns-cla
 modules::mod_under-returns-clause-same t c = mods-left-under c.args.env.now c.items.result.now _ c.args.name.now _ _ _ (c.items.ensures ∙ c.kinds.ensures) (c.in_ok-found.ensures.same ∙ c.in_ok-push_module.ensures) c.leave.ensures
 
 pub modules::mod_functor-returns-in_err-from-clause-refused : goal.modules::mod_functor-returns-in_err-from-clause-refused
-modules::mod_functor-returns-in_err-from-clause-refused t c = exit _ c.from_residual.result c.in_err-from.field-0.0 c.from_residual.ensures.1 (mod_functor-param c.in_err-from.ensures.refused)
+modules::mod_functor-returns-in_err-from-clause-refused t c = exit _ c.from_residual.result c.in_err-from.field-0.0 c.from_residual.ensures.1 (λ at. mod_functor-param c.in_err-from.ensures.refused)
 
 pub modules::mod_functor-mod_under-requires : goal.modules::mod_functor-mod_under-requires
 modules::mod_functor-mod_under-requires t c = (omega arith, rw c.in_ok-from.ensures.same (param-env _ _ c.in_ok-from.from c.args.name.now.name c.requires c.in_ok-from.ensures.given))
 
 pub modules::mod_functor-returns-in_err-inner-clause-refused : goal.modules::mod_functor-returns-in_err-inner-clause-refused
-modules::mod_functor-returns-in_err-inner-clause-refused t c = exit _ c.from_residual-in_err-inner.result c.in_err-inner.field-0.0 c.from_residual-in_err-inner.ensures.1 (mod_functor-in c.in_ok-from.from c.in_ok-from.ensures.given (rw c.in_ok-from.ensures.same at c.in_err-inner.ensures.refused))
+modules::mod_functor-returns-in_err-inner-clause-refused t c = exit _ c.from_residual-in_err-inner.result c.in_err-inner.field-0.0 c.from_residual-in_err-inner.ensures.1 (λ at. mod_functor-in c.in_ok-from.from c.in_ok-from.ensures.given (rw c.in_ok-from.ensures.same at c.in_err-inner.ensures.refused))
 
 pub modules::mod_functor-returns-clause-given : goal.modules::mod_functor-returns-clause-given
 modules::mod_functor-returns-clause-given t c =
     let means = c.in_ok-from.ensures.given in
     let body = rw c.in_ok-from.ensures.same at c.in_ok-inner.ensures.given in
-    functor-means c.args.generative c.in_ok-from.from _ means body (c.in_ok-whole.ensures _ (sig_ok _ _ _ c.requires means) (body-module _ _ _ _ _ _ c.requires means body))
+    λ at. functor-means c.args.generative c.in_ok-from.from _ means body (c.in_ok-functor_rule.ensures _ (sig_ok _ _ _ c.requires means) (body-module _ _ _ _ _ _ c.requires means body))
 
 -- single bindings
 
@@ -606,17 +626,17 @@ bindings::bind-returns-in-Include-clause-refused t c = refused-bind c.phrase.vie
 
 -- bindings in a row
 
-pub bindings::binds-returns-in_ok-whole-in-empty-clause-given : goal.bindings::binds-returns-in_ok-whole-in-empty-clause-given
-bindings::binds-returns-in_ok-whole-in-empty-clause-given t c = ended c.args.list.now (module_of c.in_ok-whole-in-empty.whole) c.in-empty.len_below c.in_ok-whole-in-empty.ensures
+pub bindings::binds-returns-in_ok-end_rule-in-empty-clause-given : goal.bindings::binds-returns-in_ok-end_rule-in-empty-clause-given
+bindings::binds-returns-in_ok-end_rule-in-empty-clause-given t c = ended c.args.list.now (module_of c.in_ok-end_rule-in-empty.field-0) c.in-empty.len_below c.in_ok-end_rule-in-empty.ensures
 
 pub bindings::binds_under-returns-clause-same : goal.bindings::binds_under-returns-clause-same
 bindings::binds_under-returns-clause-same t c = mods-left-under c.args.env.now c.items.result.now _ c.args.name.now _ _ _ (c.items.ensures ∙ c.kinds.ensures) (c.in_ok-found.ensures.same ∙ c.in_ok-push_module.ensures) c.leave.ensures
 
 pub bindings::included-returns-in_err-head-clause-refused : goal.bindings::included-returns-in_err-head-clause-refused
-bindings::included-returns-in_err-head-clause-refused t c = exit _ c.from_residual.result c.in_err-head.field-0.0 c.from_residual.ensures.1 (include-module c.in_err-head.ensures.refused)
+bindings::included-returns-in_err-head-clause-refused t c = exit _ c.from_residual.result c.in_err-head.field-0.0 c.from_residual.ensures.1 (λ at. include-module c.in_err-head.ensures.refused)
 
 pub bindings::included-returns-in_default-clause-refused : goal.bindings::included-returns-in_default-clause-refused
-bindings::included-returns-in_default-clause-refused t c = include-none c.in_ok-head.head.sig c.in_ok-head.ensures.given (λ fs e. c.in_default.ensures fs (c.body.ensures ∙ e)) (placed-at c.in_ok-head.ensures.same (ap mod_span c.whole.view_is) c.refuse.ensures)
+bindings::included-returns-in_default-clause-refused t c = λ at. include-none c.in_ok-head.head.sig c.in_ok-head.ensures.given (λ fs e. c.in_default.ensures fs (c.body.ensures ∙ e)) (placed-at c.in_ok-head.ensures.same (ap mod_span c.whole.view_is) c.refuse.ensures)
 
 pub bindings::included-included_under-requires : goal.bindings::included-included_under-requires
 bindings::included-included_under-requires t c =
@@ -627,14 +647,14 @@ bindings::included-included_under-requires t c =
 pub bindings::included-returns-in_err-tail-clause-refused : goal.bindings::included-returns-in_err-tail-clause-refused
 bindings::included-returns-in_err-tail-clause-refused t c =
     let is = sym c.body.ensures ∙ c.in-Some.ensures in
-    exit _ c.from_residual-in_err-tail.result c.in_err-tail.field-0.0 c.from_residual-in_err-tail.ensures.1 (include-in c.in_ok-head.head.sig c.in_ok-head.ensures.given is (rw c.in_ok-head.ensures.same at c.in_err-tail.ensures.refused))
+    exit _ c.from_residual-in_err-tail.result c.in_err-tail.field-0.0 c.from_residual-in_err-tail.ensures.1 (λ at. include-in c.in_ok-head.head.sig c.in_ok-head.ensures.given is (rw c.in_ok-head.ensures.same at c.in_err-tail.ensures.refused))
 
 pub bindings::included-returns-clause-given : goal.bindings::included-returns-clause-given
 bindings::included-returns-clause-given t c =
     let means = c.in_ok-head.ensures.given in
     let is = sym c.body.ensures ∙ c.in-Some.ensures in
     let rest = rw c.in_ok-head.ensures.same at c.in_ok-tail.ensures.given in
-    include-means c.in_ok-head.head.sig means is rest (c.in_ok-made.ensures _ (mod_ok _ _ _ c.requires.env means) (include-rest _ _ _ _ c.in_ok-head.head.sig _ _ _ _ _ c.requires.env c.requires.names means is rest))
+    λ at. include-means c.in_ok-head.head.sig means is rest (c.in_ok-include_rule.ensures _ (mod_ok _ _ _ c.requires.env means) (include-rest _ _ _ _ c.in_ok-head.head.sig _ _ _ _ _ c.requires.env c.requires.names means is rest))
 
 pub bindings::included_under-returns-clause-same : goal.bindings::included_under-returns-clause-same
 bindings::included_under-returns-clause-same t c = left-included c.args.env.now c.items-2.result.now c.args.head.now c.args.fields.now c.items.result.now _ _ _ c.items.ensures.value (c.items-2.ensures ∙ c.kinds.ensures) (c.in_ok-found.ensures.same ∙ c.in_ok-push_included.ensures) c.leave.ensures c.leave-2.ensures
@@ -643,10 +663,10 @@ pub bindings::binds_from-included-requires : goal.bindings::binds_from-included-
 bindings::binds_from-included-requires t c = (omega (arith, c.decreases, include-size c.args.first.now c.in-Some.whole.now c.in-Some.ensures), (c.requires.env, c.requires.names))
 
 pub bindings::binds_from-returns-clause-given : goal.bindings::binds_from-returns-clause-given
-bindings::binds_from-returns-clause-given t c = subst (λ b. IfOk c.included.result (λ m. BindsMean c.args.env.now c.args.before (MoreBinds b (binds c.args.rest.now)) (module_of m))) (include-at c.first.inside.span c.first.inside.what c.args.first.now c.in-Some.whole.now c.first.view_is c.in-Some.ensures) c.included.ensures.given
+bindings::binds_from-returns-clause-given t c = ok-map {P = λ m. (at : Span) → BindsMean c.args.env.now c.args.before (MoreBinds (BindAt at (BindInclude c.in-Some.whole.now)) (binds c.args.rest.now)) (module_of m)} {Q = λ m. BindsMean c.args.env.now c.args.before (MoreBinds c.args.first.now (binds c.args.rest.now)) (module_of m)} c.included.result c.included.ensures.given (λ m p. rw c.in-Some.ensures.1 (p c.in-Some.ensures.0))
 
 pub bindings::binds_from-returns-clause-refused : goal.bindings::binds_from-returns-clause-refused
-bindings::binds_from-returns-clause-refused t c = subst (λ b. IfErr c.included.result (λ e. RefusedAs c.args.env.now (binds_task c.args.before (MoreBinds b (binds c.args.rest.now))) e)) (include-at c.first.inside.span c.first.inside.what c.args.first.now c.in-Some.whole.now c.first.view_is c.in-Some.ensures) c.included.ensures.refused
+bindings::binds_from-returns-clause-refused t c = err-map {P = λ e. (at : Span) → RefusedAs c.args.env.now (binds_task c.args.before (MoreBinds (BindAt at (BindInclude c.in-Some.whole.now)) (binds c.args.rest.now))) e} {Q = λ e. RefusedAs c.args.env.now (binds_task c.args.before (MoreBinds c.args.first.now (binds c.args.rest.now))) e} c.included.result c.included.ensures.refused (λ e r. rw c.in-Some.ensures.1 (r c.in-Some.ensures.0))
 
 pub bindings::bound-returns-in_err-own-clause-refused : goal.bindings::bound-returns-in_err-own-clause-refused
 bindings::bound-returns-in_err-own-clause-refused t c = exit _ c.from_residual.result c.in_err-own.field-0.0 c.from_residual.ensures.1 (binds-first c.args.first.now c.requires.single c.in_err-own.ensures.refused)
@@ -663,22 +683,22 @@ pub bindings::bound-returns-clause-given : goal.bindings::bound-returns-clause-g
 bindings::bound-returns-clause-given t c =
     let means = c.in_ok-own.ensures.given in
     let rest = rw c.in_ok-own.ensures.same at c.in_ok-tail.ensures.given in
-    binds-mean c.in_ok-own.own.1.sig means rest (c.in_ok-whole.ensures _ (bind_ok _ _ _ _ c.requires.env means) (rest-module _ _ _ _ _ c.in_ok-own.own.1.sig _ _ _ _ c.requires.env c.requires.names means rest))
+    binds-mean c.in_ok-own.own.1.sig means rest (c.in_ok-seq_bind.ensures _ (bind_ok _ _ _ _ c.requires.env means) (rest-module _ _ _ _ _ c.in_ok-own.own.1.sig _ _ _ _ c.requires.env c.requires.names means rest))
 
 pub declarations::decl_val-returns-in_err-found-clause-refused : goal.declarations::decl_val-returns-in_err-found-clause-refused
-declarations::decl_val-returns-in_err-found-clause-refused t c = exit _ c.from_residual.result c.in_err-found.field-0.0 c.from_residual.ensures.1 (decl_val-type c.in_err-found.ensures.refused)
+declarations::decl_val-returns-in_err-found-clause-refused t c = exit _ c.from_residual.result c.in_err-found.field-0.0 c.from_residual.ensures.1 (λ at. decl_val-type c.in_err-found.ensures.refused)
 
-pub declarations::decl_val-returns-in_err-whole-clause-refused : goal.declarations::decl_val-returns-in_err-whole-clause-refused
-declarations::decl_val-returns-in_err-whole-clause-refused t c = exit _ c.from_residual-in_err-whole.result c.in_err-whole.field-0.0 c.from_residual-in_err-whole.ensures.1 (decl_val-rule c.in_ok-found.ensures.given (rule-at c.in_ok-found.ensures.same (ap ty_span c.of.view_is) c.in_err-whole.ensures.refused))
+pub declarations::decl_val-returns-clause-refused : goal.declarations::decl_val-returns-clause-refused
+declarations::decl_val-returns-clause-refused t c = err-at _ c.value_rule.ensures.refused (λ e r at. decl_val-rule c.in_ok-found.ensures.given (rule-at c.in_ok-found.ensures.same (ap ty_span c.of.view_is) r))
 
 pub declarations::decl_val-returns-clause-given : goal.declarations::decl_val-returns-clause-given
-declarations::decl_val-returns-clause-given t c = DeclMeans.decl_val c.in_ok-found.ensures.given c.in_ok-whole.ensures.given
+declarations::decl_val-returns-clause-given t c = ok-at _ c.value_rule.ensures.given (λ x p at. DeclMeans.decl_val c.in_ok-found.ensures.given p)
 
 pub declarations::decl_is-returns-in_err-found-clause-refused : goal.declarations::decl_is-returns-in_err-found-clause-refused
-declarations::decl_is-returns-in_err-found-clause-refused t c = exit _ c.from_residual.result c.in_err-found.field-0.0 c.from_residual.ensures.1 (decl_is-type c.in_err-found.ensures.refused)
+declarations::decl_is-returns-in_err-found-clause-refused t c = exit _ c.from_residual.result c.in_err-found.field-0.0 c.from_residual.ensures.1 (λ at. decl_is-type c.in_err-found.ensures.refused)
 
 pub declarations::decl_is-returns-clause-given : goal.declarations::decl_is-returns-clause-given
-declarations::decl_is-returns-clause-given t c = DeclMeans.decl_is c.in_ok-found.ensures.given c.in_ok-whole.ensures.given
+declarations::decl_is-returns-clause-given t c = ok-at _ c.type_rule.ensures.given (λ x p at. DeclMeans.decl_is c.in_ok-found.ensures.given p)
 
 pub sigs::path_sig-returns-in_err-found-clause-refused : goal.sigs::path_sig-returns-in_err-found-clause-refused
 sigs::path_sig-returns-in_err-found-clause-refused t c = exit _ c.from_residual.result c.in_err-found.field-0.0 c.from_residual.ensures.1 (sig_path-module c.in_err-found.ensures.refused)
@@ -686,17 +706,17 @@ sigs::path_sig-returns-in_err-found-clause-refused t c = exit _ c.from_residual.
 pub sigs::path_sig-sig_path_rule-requires : goal.sigs::path_sig-sig_path_rule-requires
 sigs::path_sig-sig_path_rule-requires t c = module-in c.in_ok-found.ensures.same c.requires c.in_ok-found.ensures.given
 
-pub sigs::path_sig-returns-in_err-whole-clause-refused : goal.sigs::path_sig-returns-in_err-whole-clause-refused
-sigs::path_sig-returns-in_err-whole-clause-refused t c = exit _ c.from_residual-in_err-whole.result c.in_err-whole.field-0.0 c.from_residual-in_err-whole.ensures.1 (sig_path-use c.in_ok-found.ensures.given (rw c.in_ok-found.ensures.same at c.in_err-whole.ensures.refused))
+pub sigs::path_sig-returns-clause-refused : goal.sigs::path_sig-returns-clause-refused
+sigs::path_sig-returns-clause-refused t c = err-map _ (rw c.in_ok-found.ensures.same at c.sig_path_rule.ensures.refused) (λ e r. sig_path-use c.in_ok-found.ensures.given r)
 
 pub sigs::path_sig-returns-clause-given : goal.sigs::path_sig-returns-clause-given
-sigs::path_sig-returns-clause-given t c = SigMeans.sig_path c.in_ok-found.ensures.given (rw c.in_ok-found.ensures.same at c.in_ok-whole.ensures.given)
+sigs::path_sig-returns-clause-given t c = ok-map _ (rw c.in_ok-found.ensures.same at c.sig_path_rule.ensures.given) (λ x p. SigMeans.sig_path c.in_ok-found.ensures.given p)
 
 pub modules::mod_seal-returns-in_err-found-clause-refused : goal.modules::mod_seal-returns-in_err-found-clause-refused
-modules::mod_seal-returns-in_err-found-clause-refused t c = exit _ c.from_residual.result c.in_err-found.field-0.0 c.from_residual.ensures.1 (mod_seal-name c.in_err-found.ensures.refused)
+modules::mod_seal-returns-in_err-found-clause-refused t c = exit _ c.from_residual.result c.in_err-found.field-0.0 c.from_residual.ensures.1 (λ at. mod_seal-name c.in_err-found.ensures.refused)
 
 pub modules::mod_seal-returns-in_err-target-clause-refused : goal.modules::mod_seal-returns-in_err-target-clause-refused
-modules::mod_seal-returns-in_err-target-clause-refused t c = exit _ c.from_residual-in_err-target.result c.in_err-target.field-0.0 c.from_residual-in_err-target.ensures.1 (mod_seal-sig c.in_ok-found.ensures.found c.in_err-target.ensures.refused)
+modules::mod_seal-returns-in_err-target-clause-refused t c = exit _ c.from_residual-in_err-target.result c.in_err-target.field-0.0 c.from_residual-in_err-target.ensures.1 (λ at. mod_seal-sig c.in_ok-found.ensures.found c.in_err-target.ensures.refused)
 
 pub modules::mod_seal-match_rule-requires-clause-left : goal.modules::mod_seal-match_rule-requires-clause-left
 modules::mod_seal-match_rule-requires-clause-left t c = rw (c.in_ok-target.ensures.same, c.body.ensures) (find-good c.args.env.now _ c.requires _ c.in_ok-found.ensures.found)
@@ -707,28 +727,27 @@ modules::mod_seal-match_rule-requires-clause-right t c = rw c.in_ok-target.ensur
 pub modules::mod_seal-returns-in_err-matched-clause-refused : goal.modules::mod_seal-returns-in_err-matched-clause-refused
 modules::mod_seal-returns-in_err-matched-clause-refused t c =
     exit _ c.from_residual-in_err-matched.result c.in_err-matched.field-0.0 c.from_residual-in_err-matched.ensures.1
-    (mod_seal-match c.in_ok-found.ensures.found c.in_ok-target.ensures.given (rw (c.in_ok-target.ensures.same, c.body.ensures, ap sig_span c.by.view_is) at c.in_err-matched.ensures.refused))
+    (λ at. mod_seal-match c.in_ok-found.ensures.found c.in_ok-target.ensures.given (rw (c.in_ok-target.ensures.same, c.body.ensures, ap sig_span c.by.view_is) at c.in_err-matched.ensures.refused))
 
 pub modules::mod_seal-returns-clause-given : goal.modules::mod_seal-returns-clause-given
-modules::mod_seal-returns-clause-given t c = mod_seal c.in_ok-found.ensures.found c.in_ok-target.ensures.given (rw (c.in_ok-target.ensures.same, c.body.ensures) at c.in_ok-matched.ensures.given) c.in_ok-whole.ensures
+modules::mod_seal-returns-clause-given t c = λ at. mod_seal c.in_ok-found.ensures.found c.in_ok-target.ensures.given (rw (c.in_ok-target.ensures.same, c.body.ensures) at c.in_ok-matched.ensures.given) c.in_ok-seal.ensures
 
 pub modules::mod_unpack-returns-in_err-packed-clause-refused : goal.modules::mod_unpack-returns-in_err-packed-clause-refused
-modules::mod_unpack-returns-in_err-packed-clause-refused t c = exit _ c.from_residual.result c.in_err-packed.field-0.0 c.from_residual.ensures.1 (mod_unpack-value c.in_err-packed.ensures.refused)
+modules::mod_unpack-returns-in_err-packed-clause-refused t c = exit _ c.from_residual.result c.in_err-packed.field-0.0 c.from_residual.ensures.1 (λ at. mod_unpack-value c.in_err-packed.ensures.refused)
 
 pub modules::mod_unpack-returns-in_err-target-clause-refused : goal.modules::mod_unpack-returns-in_err-target-clause-refused
-modules::mod_unpack-returns-in_err-target-clause-refused t c = exit _ c.from_residual-in_err-target.result c.in_err-target.field-0.0 c.from_residual-in_err-target.ensures.1 (mod_unpack-sig c.in_ok-packed.ensures.given (rw c.in_ok-packed.ensures.same at c.in_err-target.ensures.refused))
+modules::mod_unpack-returns-in_err-target-clause-refused t c = exit _ c.from_residual-in_err-target.result c.in_err-target.field-0.0 c.from_residual-in_err-target.ensures.1 (λ at. mod_unpack-sig c.in_ok-packed.ensures.given (rw c.in_ok-packed.ensures.same at c.in_err-target.ensures.refused))
 
-pub modules::mod_unpack-returns-in_err-whole-clause-refused : goal.modules::mod_unpack-returns-in_err-whole-clause-refused
-modules::mod_unpack-returns-in_err-whole-clause-refused t c =
+pub modules::mod_unpack-returns-clause-refused : goal.modules::mod_unpack-returns-clause-refused
+modules::mod_unpack-returns-clause-refused t c =
     let same = c.in_ok-packed.ensures.same in
     let means = rw same at c.in_ok-target.ensures.given in
-    exit _ c.from_residual-in_err-whole.result c.in_err-whole.field-0.0 c.from_residual-in_err-whole.ensures.1
-    (mod_unpack-rule c.in_ok-packed.ensures.given means (c.in_ok-order.ensures.value _ (sig_ok _ _ _ c.requires means)) (rw (c.in_ok-target.ensures.same, same, ap exp_span c.value.view_is) at c.in_err-whole.ensures.refused))
+    err-at _ (rw (c.in_ok-target.ensures.same, same, ap exp_span c.value.view_is) at c.unpack_rule.ensures.refused) (λ e r at. mod_unpack-rule c.in_ok-packed.ensures.given means (c.in_ok-order.ensures.value _ (sig_ok _ _ _ c.requires means)) r)
 
 pub modules::mod_unpack-returns-clause-given : goal.modules::mod_unpack-returns-clause-given
 modules::mod_unpack-returns-clause-given t c =
     let means = rw c.in_ok-packed.ensures.same at c.in_ok-target.ensures.given in
-    mod_unpack c.in_ok-packed.ensures.given means (c.in_ok-order.ensures.value _ (sig_ok _ _ _ c.requires means)) c.in_ok-whole.ensures.given
+    ok-at _ c.unpack_rule.ensures.given (λ m p at. mod_unpack c.in_ok-packed.ensures.given means (c.in_ok-order.ensures.value _ (sig_ok _ _ _ c.requires means)) p)
 
 pub uses::path_type-returns-in_err-found-clause-refused : goal.uses::path_type-returns-in_err-found-clause-refused
 uses::path_type-returns-in_err-found-clause-refused t c = exit _ c.from_residual.result c.in_err-found.field-0.0 c.from_residual.ensures.1 (ty_path-module c.in_err-found.ensures.refused)
@@ -736,17 +755,17 @@ uses::path_type-returns-in_err-found-clause-refused t c = exit _ c.from_residual
 pub uses::path_type-type_path_rule-requires : goal.uses::path_type-type_path_rule-requires
 uses::path_type-type_path_rule-requires t c = module-in c.in_ok-found.ensures.same c.requires c.in_ok-found.ensures.given
 
-pub uses::path_type-returns-in_err-whole-clause-refused : goal.uses::path_type-returns-in_err-whole-clause-refused
-uses::path_type-returns-in_err-whole-clause-refused t c = exit _ c.from_residual-in_err-whole.result c.in_err-whole.field-0.0 c.from_residual-in_err-whole.ensures.1 (ty_path-use c.in_ok-found.ensures.given (rw c.in_ok-found.ensures.same at c.in_err-whole.ensures.refused))
+pub uses::path_type-returns-clause-refused : goal.uses::path_type-returns-clause-refused
+uses::path_type-returns-clause-refused t c = err-map _ (rw c.in_ok-found.ensures.same at c.type_path_rule.ensures.refused) (λ e r. ty_path-use c.in_ok-found.ensures.given r)
 
 pub uses::path_type-returns-clause-given : goal.uses::path_type-returns-clause-given
-uses::path_type-returns-clause-given t c = ty_path c.in_ok-found.ensures.given (rw c.in_ok-found.ensures.same at c.in_ok-whole.ensures.given)
+uses::path_type-returns-clause-given t c = ok-map _ (rw c.in_ok-found.ensures.same at c.type_path_rule.ensures.given) (λ o p. ty_path c.in_ok-found.ensures.given p)
 
 pub uses::pack_type-returns-in_err-target-clause-refused : goal.uses::pack_type-returns-in_err-target-clause-refused
-uses::pack_type-returns-in_err-target-clause-refused t c = exit _ c.from_residual.result c.in_err-target.field-0.0 c.from_residual.ensures.1 (ty_pack-sig c.in_err-target.ensures.refused)
+uses::pack_type-returns-in_err-target-clause-refused t c = exit _ c.from_residual.result c.in_err-target.field-0.0 c.from_residual.ensures.1 (λ at. ty_pack-sig c.in_err-target.ensures.refused)
 
 pub uses::pack_type-returns-clause-given : goal.uses::pack_type-returns-clause-given
-uses::pack_type-returns-clause-given t c = rw c.in_ok-whole.ensures.kind (ty_pack c.in_ok-target.ensures.given (c.in_ok-whole.ensures.given (kinds c.args.env.now) (sig_ok _ _ _ c.requires c.in_ok-target.ensures.given)))
+uses::pack_type-returns-clause-given t c = λ at. rw c.in_ok-pack_type.ensures.kind (ty_pack c.in_ok-target.ensures.given (c.in_ok-pack_type.ensures.given (kinds c.args.env.now) (sig_ok _ _ _ c.requires c.in_ok-target.ensures.given)))
 
 pub uses::path_value-returns-in_err-found-clause-refused : goal.uses::path_value-returns-in_err-found-clause-refused
 uses::path_value-returns-in_err-found-clause-refused t c = exit _ c.from_residual.result c.in_err-found.field-0.0 c.from_residual.ensures.1 (exp_path-module c.in_err-found.ensures.refused)
@@ -754,17 +773,17 @@ uses::path_value-returns-in_err-found-clause-refused t c = exit _ c.from_residua
 pub uses::path_value-value_path_rule-requires : goal.uses::path_value-value_path_rule-requires
 uses::path_value-value_path_rule-requires t c = module-in c.in_ok-found.ensures.same c.requires c.in_ok-found.ensures.given
 
-pub uses::path_value-returns-in_err-whole-clause-refused : goal.uses::path_value-returns-in_err-whole-clause-refused
-uses::path_value-returns-in_err-whole-clause-refused t c = exit _ c.from_residual-in_err-whole.result c.in_err-whole.field-0.0 c.from_residual-in_err-whole.ensures.1 (exp_path-use c.in_ok-found.ensures.given (rw c.in_ok-found.ensures.same at c.in_err-whole.ensures.refused))
+pub uses::path_value-returns-clause-refused : goal.uses::path_value-returns-clause-refused
+uses::path_value-returns-clause-refused t c = err-map _ (rw c.in_ok-found.ensures.same at c.value_path_rule.ensures.refused) (λ e r. exp_path-use c.in_ok-found.ensures.given r)
 
 pub uses::path_value-returns-clause-given : goal.uses::path_value-returns-clause-given
-uses::path_value-returns-clause-given t c = exp_path c.in_ok-found.ensures.given (rw c.in_ok-found.ensures.same at c.in_ok-whole.ensures.given)
+uses::path_value-returns-clause-given t c = ok-map _ (rw c.in_ok-found.ensures.same at c.value_path_rule.ensures.given) (λ o p. exp_path c.in_ok-found.ensures.given p)
 
 pub uses::pack_value-returns-in_err-found-clause-refused : goal.uses::pack_value-returns-in_err-found-clause-refused
-uses::pack_value-returns-in_err-found-clause-refused t c = exit _ c.from_residual.result c.in_err-found.field-0.0 c.from_residual.ensures.1 (exp_pack-name {x = spelled c.args.name.now} c.in_err-found.ensures.refused)
+uses::pack_value-returns-in_err-found-clause-refused t c = exit _ c.from_residual.result c.in_err-found.field-0.0 c.from_residual.ensures.1 (λ at. exp_pack-name {x = spelled c.args.name.now} c.in_err-found.ensures.refused)
 
 pub uses::pack_value-returns-in_err-target-clause-refused : goal.uses::pack_value-returns-in_err-target-clause-refused
-uses::pack_value-returns-in_err-target-clause-refused t c = exit _ c.from_residual-in_err-target.result c.in_err-target.field-0.0 c.from_residual-in_err-target.ensures.1 (exp_pack-sig {x = spelled c.args.name.now} c.in_ok-found.ensures.found c.in_err-target.ensures.refused)
+uses::pack_value-returns-in_err-target-clause-refused t c = exit _ c.from_residual-in_err-target.result c.in_err-target.field-0.0 c.from_residual-in_err-target.ensures.1 (λ at. exp_pack-sig {x = spelled c.args.name.now} c.in_ok-found.ensures.found c.in_err-target.ensures.refused)
 
 pub uses::pack_value-match_rule-requires-clause-left : goal.uses::pack_value-match_rule-requires-clause-left
 uses::pack_value-match_rule-requires-clause-left t c = found-in c.args.name.now.name c.in_ok-target.ensures.same c.requires c.in_ok-found.ensures.found c.body.ensures
@@ -773,7 +792,7 @@ pub uses::pack_value-match_rule-requires-clause-right : goal.uses::pack_value-ma
 uses::pack_value-match_rule-requires-clause-right t c = c.in_ok-ordered.ensures.good _ (sig-in c.in_ok-target.ensures.same c.requires c.in_ok-target.ensures.given)
 
 pub uses::pack_value-returns-in_err-matched-clause-refused : goal.uses::pack_value-returns-in_err-matched-clause-refused
-uses::pack_value-returns-in_err-matched-clause-refused t c = exit _ c.from_residual-in_err-matched.result c.in_err-matched.field-0.0 c.from_residual-in_err-matched.ensures.1 (pack-unmatched {x = spelled c.args.name.now} c.requires c.in_ok-target.ensures.same c.in_ok-found.ensures.found c.in_ok-target.ensures.given c.in_ok-ordered.ensures.value c.body.ensures (ap sig_span c.by.view_is) c.in_err-matched.ensures.refused)
+uses::pack_value-returns-in_err-matched-clause-refused t c = exit _ c.from_residual-in_err-matched.result c.in_err-matched.field-0.0 c.from_residual-in_err-matched.ensures.1 (λ at. pack-unmatched {x = spelled c.args.name.now} c.requires c.in_ok-target.ensures.same c.in_ok-found.ensures.found c.in_ok-target.ensures.given c.in_ok-ordered.ensures.value c.body.ensures (ap sig_span c.by.view_is) c.in_err-matched.ensures.refused)
 
 pub uses::pack_value-returns-clause-given : goal.uses::pack_value-returns-clause-given
-uses::pack_value-returns-clause-given t c = pack-means {x = spelled c.args.name.now} c.requires c.in_ok-target.ensures.same c.in_ok-found.ensures.found c.in_ok-target.ensures.given c.in_ok-ordered.ensures.value c.in_ok-ordered.ensures.good c.body.ensures c.in_ok-matched.ensures.given c.items-types.ensures c.in_ok-whole.ensures
+uses::pack_value-returns-clause-given t c = λ at. pack-means {x = spelled c.args.name.now} c.requires c.in_ok-target.ensures.same c.in_ok-found.ensures.found c.in_ok-target.ensures.given c.in_ok-ordered.ensures.value c.in_ok-ordered.ensures.good c.body.ensures c.in_ok-matched.ensures.given c.items-types.ensures c.in_ok-pack_value.ensures

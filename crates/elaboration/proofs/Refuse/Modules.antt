@@ -1,5 +1,5 @@
 -- Where a module or a binding is refused, what stands before that place being derived.
-use Rattle.std.proofs.Common.{◌≡◌, inl, inr, Bool, List, [], ◌∷◌, Some, refl}
+use Rattle.std.proofs.Common.{◌≡◌, inl, inr, Bool, List, [], Some, refl}
 use Rattle.omega_kinds.specs.Kind.{Kind}
 use Rattle.omega_kinds.specs.Name.{Name}
 use Rattle.omega_kinds.specs.declared.effect.Effect.{Effect}

@@ -1,5 +1,5 @@
 -- Where a signature or a declaration is refused, what stands before that place being derived.
-use Rattle.std.proofs.Common.{◌≡◌, inl, inr, Bool, true, false, List, [], ◌∷◌, refl}
+use Rattle.std.proofs.Common.{inl, inr, Bool, true, false, List, [], refl}
 use Rattle.omega_kinds.specs.Kind.{Kind}
 use Rattle.omega_kinds.specs.Name.{Name}
 use Rattle.omega_types.specs.Ty.{Ty}

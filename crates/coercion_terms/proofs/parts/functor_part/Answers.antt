@@ -7,5 +7,5 @@ use Rattle.coercion_terms.proofs.parts.functor_part.Goals as goal
 
 pub returns-clause-typed : goal.returns-clause-typed
 returns-clause-typed c =
-    let value : IfOk c.make-3.result (λ e. e ≡ functor_part c.args.from.now c.args.left c.args.right c.args.kinds.now c.args.param.now c.args.types.now c.args.inner.now c.args.outer.now) = first_of (search rules, grind (arith, common_steps)) in
-    IfOk-weaker _ _ _ (λ e q. functor-typed c.args.from.now c.args.left c.args.right c.args.kinds.now c.args.param.now c.args.types.now c.args.inner.now c.args.outer.now e q) value
+    let value : IfOk c.make-3.result (λ e. e ≡ functor_part c.args.sides.now.from.now c.args.sides.now.left c.args.sides.now.right c.args.sides.now.kinds.now c.args.sides.now.param.now c.args.types.now c.args.inner.now c.args.outer.now) = first_of (search rules, grind (arith, common_steps)) in
+    IfOk-weaker _ _ _ (λ e q. functor-typed c.args.sides.now.from.now c.args.sides.now.left c.args.sides.now.right c.args.sides.now.kinds.now c.args.sides.now.param.now c.args.types.now c.args.inner.now c.args.outer.now e q) value

@@ -1,7 +1,6 @@
 use Rattle.std.proofs.Common.{sym, ap, ◌∙◌}
 use Rattle.std.proofs.lemmas.Bool.{false≢true}
 use Rattle.omega_kinds.specs.View.{kind_tree}
-use Rattle.omega_types.specs.Scope.{scope_of}
 use Rattle.core_rules.specs.TypeRules.{AppliedRefuses}
 use Rattle.core_calls.proofs.Conclusions.{applied-given, applied-kind}
 use Rattle.core_calls.proofs.types.apply_ty.Goals as goal
@@ -19,4 +18,4 @@ pub returns-in_ok-share-in-Arrow-3-clause-given : goal.returns-in_ok-share-in-Ar
 returns-in_ok-share-in-Arrow-3-clause-given c =
     let operator = c.args.operator.now in
     let arg = c.args.arg.now in
-    applied-given (scope_of c.args._ctx.now) operator.ty arg.ty c.in_ok-applied-in-Arrow.field-0 (kind_tree operator.kind) (kind_tree c.in-Arrow.to.value) (kind_tree arg.kind) (kind_tree c.in-Arrow.from.value) (ap kind_tree c.in-Arrow.is) (c.same_kind.ensures.same.0 c.if-not-same_kind.false ∙ ap kind_tree c.deref.ensures) (kind_tree c.in_ok-share-in-Arrow-3.field-0) (c.in_ok-share-in-Arrow-3.ensures ∙ ap kind_tree c.deref-in-Arrow.ensures) c.in_ok-applied-in-Arrow.ensures
+    λ ctx n m. applied-given ctx operator.ty arg.ty c.in_ok-applied-in-Arrow.field-0 (kind_tree operator.kind) (kind_tree c.in-Arrow.to.value) (kind_tree arg.kind) (kind_tree c.in-Arrow.from.value) (ap kind_tree c.in-Arrow.is) (c.same_kind.ensures.same.0 c.if-not-same_kind.false ∙ ap kind_tree c.deref.ensures) (kind_tree c.in_ok-share-in-Arrow-3.field-0) (c.in_ok-share-in-Arrow-3.ensures ∙ ap kind_tree c.deref-in-Arrow.ensures) c.in_ok-applied-in-Arrow.ensures n m

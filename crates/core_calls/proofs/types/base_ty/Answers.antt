@@ -1,11 +1,15 @@
+use Rattle.omega_kinds.specs.View.{kind_tree}
+use Rattle.semantic_sigs.specs.declared.made.Kinded.{Kinded}
 use Rattle.core_rules.specs.TypeRules.{BaseGives}
+use Rattle.core_calls.specs.Plain.{plain_base}
+use Rattle.core_calls.proofs.Conclusions.{both-given}
 use Rattle.core_calls.proofs.types.base_ty.Goals as goal
 
-pub returns-in_ok-of_values-in-Int-clause-given : goal.returns-in_ok-of_values-in-Int-clause-given
-returns-in_ok-of_values-in-Int-clause-given c = rw (c.in-Int.is, c.in_ok-of_values-in-Int.ensures.ty, c.in_ok-of_values-in-Int.ensures.kind) BaseGives.int
+pub returns-in-Int : goal.returns-in-Int
+returns-in-Int c = both-given (λ (o : Kinded). o.ty) (λ (o : Kinded). kind_tree o.kind) (BaseGives (plain_base c.args.what)) _ _ _ c.of_values.ensures.ty c.of_values.ensures.kind (rw c.in-Int.is BaseGives.int)
 
-pub returns-in_ok-of_values-in-Bool-clause-given : goal.returns-in_ok-of_values-in-Bool-clause-given
-returns-in_ok-of_values-in-Bool-clause-given c = rw (c.in-Bool.is, c.in_ok-of_values-in-Bool.ensures.ty, c.in_ok-of_values-in-Bool.ensures.kind) BaseGives.bool
+pub returns-in-Bool : goal.returns-in-Bool
+returns-in-Bool c = both-given (λ (o : Kinded). o.ty) (λ (o : Kinded). kind_tree o.kind) (BaseGives (plain_base c.args.what)) _ _ _ c.of_values-in-Bool.ensures.ty c.of_values-in-Bool.ensures.kind (rw c.in-Bool.is BaseGives.bool)
 
-pub returns-in_ok-of_values-in-Text-clause-given : goal.returns-in_ok-of_values-in-Text-clause-given
-returns-in_ok-of_values-in-Text-clause-given c = rw (c.in-Text.is, c.in_ok-of_values-in-Text.ensures.ty, c.in_ok-of_values-in-Text.ensures.kind) BaseGives.text
+pub returns-in-Text : goal.returns-in-Text
+returns-in-Text c = both-given (λ (o : Kinded). o.ty) (λ (o : Kinded). kind_tree o.kind) (BaseGives (plain_base c.args.what)) _ _ _ c.of_values-in-Text.ensures.ty c.of_values-in-Text.ensures.kind (rw c.in-Text.is BaseGives.text)

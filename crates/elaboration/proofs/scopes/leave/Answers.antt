@@ -1,4 +1,3 @@
-use Rattle.std.proofs.Common.{◌≡◌}
 use Rattle.elaboration.proofs.Entering.{left-one}
 use Rattle.elaboration.proofs.scopes.leave.Goals as goal
 

@@ -1,4 +1,4 @@
-use Rattle.std.proofs.Common.{◌≡◌, ap, ◌∙◌}
+use Rattle.std.proofs.Common.{ap, ◌∙◌}
 use Rattle.signatures.specs.Env.{named_fields}
 use Rattle.semantic_sigs.specs.Fields.{sig_row}
 use Rattle.elaboration.proofs.Entering.{fields-step, fields-end}

@@ -1,4 +1,4 @@
-use Rattle.std.proofs.Common.{◌≡◌, ap, ◌∙◌}
+use Rattle.std.proofs.Common.{ap, ◌∙◌}
 use Rattle.signatures.specs.Env.{type_vars}
 use Rattle.elaboration.proofs.Entering.{kinds-step, kinds-end}
 use Rattle.elaboration.proofs.scopes.push_type_vars.Goals as goal

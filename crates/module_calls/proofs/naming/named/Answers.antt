@@ -9,4 +9,4 @@ returns-in_default-clause-refused c =
 
 pub returns-clause-given : goal.returns-clause-given
 returns-clause-given c =
-    named-gives c.args.env.now c.args.name.now c.in_ok-found.field-0 c.in-Some.found.0 c.in-Some.found.1 (module_of c.in_ok-module.module) c.in_ok-found.ensures c.in-Some.is c.in_ok-module.ensures
+    named-gives c.args.env.now c.args.name.now c.in_ok-found.field-0 c.in-Some.found.0 c.in-Some.found.1 (module_of c.in_ok-open_module.field-0) c.in_ok-found.ensures c.in-Some.is c.in_ok-open_module.ensures

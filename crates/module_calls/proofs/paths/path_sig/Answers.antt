@@ -40,4 +40,4 @@ returns-clause-given c =
     let is = some-case c.shown_sig.result ((x : Abs) → b ≡ Sig.Meta x → ⊥) (λ x. b ≡ Sig.Meta x.now) c.in-Some._hiding c.in-Some.is c.shown_sig.ensures in
     let out = some-case c.in_ok-sig.field-0 (SigMentionsHidden count c.body-2.result.now) (λ n. SigIsOutside count c.body-2.result.now n) c.in-Some-2.sig c.in-Some-2.is c.in_ok-sig.ensures in
     let found = some-case c.shown_sig-2.result ((x : Abs) → c.in-Some-2.sig ≡ Sig.Meta x → ⊥) (λ x. c.in-Some-2.sig ≡ Sig.Meta x.now) c.in-Some-shown_sig.shown c.in-Some-shown_sig.is c.shown_sig-2.ensures in
-    sig-path-at w.effect w.sig w.types w.term b c.body-2.result.now c.in-Some._hiding.now c.in_ok-abs.abs c.in-Some-shown_sig.shown.now c.in-Some-2.sig count c.body.ensures c.body-2.ensures is (sym (c.count_of-count.ensures ∙ ap length c.kinds.ensures)) out.0 found c.in_ok-abs.ensures out.1
+    sig-path-at w.effect w.sig w.types w.term b c.body-2.result.now c.in-Some._hiding.now c.in_ok-share.field-0 c.in-Some-shown_sig.shown.now c.in-Some-2.sig count c.body.ensures c.body-2.ensures is (sym (c.count_of-count.ensures ∙ ap length c.kinds.ensures)) out.0 found c.in_ok-share.ensures out.1

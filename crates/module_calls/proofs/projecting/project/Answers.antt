@@ -24,4 +24,4 @@ returns-clause-given c =
     let fs = sig_row c.in-Some.fields.now in
     let is = some-case c.fields_of.result ((fs : SigRow) → c.body.result.now ≡ Sig.Str fs → ⊥) (λ f. c.body.result.now ≡ Sig.Str (sig_row f.now)) c.in-Some.fields c.in-Some.is c.fields_of.ensures in
     let has = some-case c.find_field.result (NoField c.args.name.now fs) (λ s. HasField fs c.args.name.now s.now) c.in-Some-find_field.part c.in-Some-find_field.is c.find_field.ensures in
-    c.in_ok-projected.ensures fs (sym c.body.ensures ∙ is) has
+    c.in_ok-part_of.ensures fs (sym c.body.ensures ∙ is) has

@@ -69,8 +69,8 @@ write_ty_fields-returns-in_err-write_field g t c =
 
 pub write_term_fields-returns : goal.write_term_fields-returns
 write_term_fields-returns g t c =
-    let n = c.args.types in
-    let m = c.args.terms in
+    let n = c.args.here.types in
+    let m = c.args.here.terms in
     let xs = c.items-field-items.result.now in
     let a = g.K.Sink.told c.args.sink.now in
     let b = g.K.Sink.told c.loop-field.sink in
@@ -87,8 +87,8 @@ write_term_fields-write_field-requires g t c κs within =
 
 pub write_term_fields-returns-in_err-write_field : goal.write_term_fields-returns-in_err-write_field
 write_term_fields-returns-in_err-write_field g t c =
-    let n = c.args.types in
-    let m = c.args.terms in
+    let n = c.args.here.types in
+    let m = c.args.here.terms in
     let xs = c.items-field-items.result.now in
     let i = c.loop-field.field-index in
     let d = c.field-item.result in

@@ -24,6 +24,15 @@ decreases-write_expression g l = 6 * term_size l.term.now
 abbrev pub decreases-write_term_fields : goal.decreases-write_term_fields
 decreases-write_term_fields g l = 6 * term_row_size (term_row l.fields.now)
 
+abbrev pub decreases-write_variable : goal.decreases-write_variable
+decreases-write_variable g l = 2
+
+abbrev pub decreases-write_quoted : goal.decreases-write_quoted
+decreases-write_quoted g l = 2
+
+abbrev pub decreases-write_record : goal.decreases-write_record
+decreases-write_record g l = weight l.fields + 2
+
 abbrev pub decreases-write_field : goal.decreases-write_field
 decreases-write_field g l = weight l.part + 3
 
@@ -45,7 +54,7 @@ invariant-write_ty_fields-loop-field g l =
 
 abbrev pub invariant-write_term_fields-loop-field : goal.invariant-write_term_fields-loop-field
 invariant-write_term_fields-loop-field g l =
-    Grew (g.K.Sink.told l.initial.sink) (g.K.Sink.told l.sink) (flat_map (term_field_text l.types l.terms) (take l.field-index l.field-items))
+    Grew (g.K.Sink.told l.initial.sink) (g.K.Sink.told l.sink) (flat_map (term_field_text l.here.types l.here.terms) (take l.field-index l.field-items))
 
 abbrev pub invariant-write_pieces-loop-piece : goal.invariant-write_pieces-loop-piece
 invariant-write_pieces-loop-piece g l =

@@ -1,5 +1,8 @@
+use Rattle.signatures.specs.Signatures.Sig.{Abs}
 use Rattle.sig_rules.specs.SigRules.{SignatureGives}
+use Rattle.sig_calls.proofs.Declared.{given-by}
 use Rattle.sig_calls.proofs.declarations.decl_meta.Goals as goal
 
-pub returns-clause-given : goal.returns-clause-given
-returns-clause-given c = rw (c.in_ok-one_part.ensures, c.new.ensures, c.in_ok-part.ensures, c.in_ok-share.ensures) SignatureGives.signature
+pub returns : goal.returns
+returns c =
+    given-by _ _ (λ (x : Abs). SignatureGives c.args.name.now c.args.sig.now x) c.one_part.ensures (rw (c.new.ensures, c.in_ok-part.ensures, c.in_ok-share.ensures) SignatureGives.signature)

@@ -1,7 +1,10 @@
 use Rattle.std.proofs.Common.{◌≡◌, ◌-◌, ◌∷◌, length, take, drop, map, ap, ◌∙◌, arith}
+use Rattle.std.proofs.lemmas.Result.{IfOk-weaker}
 use Rattle.omega_kinds.specs.View.{kind_tree}
 use Rattle.omega_types.specs.Binders.{vars}
 use Rattle.omega_types.specs.Index.{shift}
+use Rattle.signatures.specs.Signatures.Sig.{Sig}
+use Rattle.sig_calls.specs.Hidden.{PutFirst}
 use Rattle.sig_calls.proofs.Putting.{put-first-by}
 use Rattle.sig_calls.proofs.Lists.{tail-slice}
 use Rattle.sig_calls.proofs.refinement.put_first.Goals as goal
@@ -10,4 +13,6 @@ pub returns : goal.returns
 returns c =
     let kinds = c.args.kinds.now in
     let later : take (length kinds - 1) (drop 1 kinds) ≡ drop 1 kinds = tail-slice kinds 1 (length kinds - 1) (omega arith) in
-    put-first-by kinds c.args.body.now c.in_ok-put.put (shift c.args.others 0 c.args.ty.now) c.in_ok-raised.raised c.in_ok-whole.whole c.in_ok-types.types c.items.result.now c.requires c.in_ok-whole.ensures c.in_ok-raised.ensures.value (c.in_ok-types.ensures ∙ ap (λ ks. c.in_ok-raised.raised ∷ vars (map kind_tree ks)) later) c.items.ensures c.in_ok-put.ensures.normal
+    let raised = shift c.args.others 0 c.args.ty.now in
+    IfOk-weaker _ _ (λ (s : Sig). PutFirst (map kind_tree kinds) c.args.body.now raised s)
+    (λ s e. put-first-by kinds c.args.body.now s raised c.in_ok-raised.raised c.in_ok-whole.whole c.in_ok-types.types c.items.result.now c.requires c.in_ok-whole.ensures c.in_ok-raised.ensures.value (c.in_ok-types.ensures ∙ ap (λ ks. c.in_ok-raised.raised ∷ vars (map kind_tree ks)) later) c.items.ensures e) c.instantiate.ensures.normal

@@ -1,7 +1,6 @@
 use Rattle.std.proofs.Common.{◌<◌, length, map, sym, ◌∙◌}
 use Rattle.std.proofs.lemmas.Bool.{false≢true}
 use Rattle.omega_kinds.specs.View.{kind_tree}
-use Rattle.omega_types.specs.Scope.{scope_of}
 use Rattle.sig_calls.specs.Hidden.{IsOwn, NotOwn}
 use Rattle.sig_calls.proofs.Fixing.{kind-refuses, kind_at-shared, leaves-refuses, mapped, not_own-refuses, refined-by, when-none, when-some}
 use Rattle.sig_calls.proofs.refinement.where_type.Goals as goal
@@ -35,4 +34,4 @@ returns-clause-given c =
     let p = c.in-Some.place in
     let own = c.index-kinds-place.result in
     let w = when-some c.in_ok-place.field-0 p (NotOwn ks shown) (λ q. (q < length items) × IsOwn ks q shown) c.in-Some.is c.in_ok-place.ensures in
-    refined-by (scope_of c.args._ctx.now) c.args.sig.now c.body.result.now ks p shown c.args.path.now c.args.ty.now.ty (kind_tree c.args.ty.now.kind) (kind_tree own) c.in_ok-fixed.field-0 c.body.ensures (c.items-kinds.ensures ∙ c.kinds.ensures) (mapped items p w.0) c.in-Ok.ensures w.1 (kind_at-shared items p own w.0 c.index-kinds-place.is) (c.same_kind.ensures.same.0 c.if-not-same_kind.false) c.in_ok-fixed.ensures
+    λ ctx n m. refined-by ctx c.args.sig.now c.body.result.now ks p shown c.args.path.now c.args.ty.now.ty (kind_tree c.args.ty.now.kind) (kind_tree own) c.in_ok-fixed.field-0 c.body.ensures (c.items-kinds.ensures ∙ c.kinds.ensures) (mapped items p w.0) c.in-Ok.ensures w.1 (kind_at-shared items p own w.0 c.index-kinds-place.is) (c.same_kind.ensures.same.0 c.if-not-same_kind.false) c.in_ok-fixed.ensures n m

@@ -80,37 +80,37 @@ pub look_root-returns-in-None-clause-found : goal.look_root-returns-in-None-clau
 look_root-returns-in-None-clause-found t c = λ ctx l v. absurd (rooted ctx c.args.left.now c.args.right.now c.args.found.now (subst (NextSides ctx c.args.left.now c.args.right.now c.args.found.now) c.in-None.is v))
 
 pub look-returns-in-empty-clause-found : goal.look-returns-in-empty-clause-found
-look-returns-in-empty-clause-found t c = IfOk-weaker c.look_end.result _ (λ o. EachLook c.args.depth c.args.left.now (map item_of c.args.path.now) c.args.kinds.now c.args.right.now c.args.found.now o) (λ o h. subst (λ q. EachLook c.args.depth c.args.left.now q c.args.kinds.now c.args.right.now c.args.found.now o) (sym (ap (map item_of) (none-below c.args.path.now c.in-empty.len_below))) (look-end c.args.depth c.args.left.now c.args.right.now c.args.kinds.now c.args.found.now o h)) c.look_end.ensures
+look-returns-in-empty-clause-found t c = IfOk-weaker c.look_end.result _ (λ o. EachLook c.args.depth c.args.left.now (map item_of c.args.path.now) c.args.right.now.kinds.now c.args.right.now.body.now c.args.right.now.found.now o) (λ o h. subst (λ q. EachLook c.args.depth c.args.left.now q c.args.right.now.kinds.now c.args.right.now.body.now c.args.right.now.found.now o) (sym (ap (map item_of) (none-below c.args.path.now c.in-empty.len_below))) (look-end c.args.depth c.args.left.now c.args.right.now.body.now c.args.right.now.kinds.now c.args.right.now.found.now o h)) c.look_end.ensures
 
 pub look_step-at_found-requires : goal.look_step-at_found-requires
-look_step-at_found-requires t c = look-may_put c.args.depth c.args.left.now c.args.right.now c.args.kinds.now c.args.found.now c.requires.sides
+look_step-at_found-requires t c = look-may_put c.args.depth c.args.left.now c.args.right.now.body.now c.args.right.now.kinds.now c.args.right.now.found.now c.requires.sides
 
 pub look_step-look_result-requires : goal.look_step-look_result-requires
-look_step-look_result-requires t c = (omega (arith, c.in_ok-right-in-Res.ensures.size, c.decreases), (look-may_into c.args.depth c.args.left.now c.args.right.now c.in_ok-right-in-Res.right c.args.kinds.now c.args.found.now c.requires.sides c.in_ok-right-in-Res.ensures.at, c.requires.made))
+look_step-look_result-requires t c = (omega (arith, c.in_ok-right-in-Res.ensures.size, c.decreases), (look-may_into c.args.depth c.args.left.now c.args.right.now.body.now c.in_ok-right-in-Res.right c.args.right.now.kinds.now c.args.right.now.found.now c.requires.sides c.in_ok-right-in-Res.ensures.at, c.requires.made))
 
 pub look_step-returns-in-Part-clause-found : goal.look_step-returns-in-Part-clause-found
-look_step-returns-in-Part-clause-found t c = subst (λ a. IfOk c.look_part.result (λ o. EachLook c.args.depth c.args.left.now (a ∷ map item_of c.args.rest.now) c.args.kinds.now c.args.right.now c.args.found.now o)) (sym (ap item_of c.in-Part.is)) c.look_part.ensures.found
+look_step-returns-in-Part-clause-found t c = subst (λ a. IfOk c.look_part.result (λ o. EachLook c.args.depth c.args.left.now (a ∷ map item_of c.args.rest.now) c.args.right.now.kinds.now c.args.right.now.body.now c.args.right.now.found.now o)) (sym (ap item_of c.in-Part.is)) c.look_part.ensures.found
 
 pub look_step-returns-in_ok-right-in-Res-clause-found : goal.look_step-returns-in_ok-right-in-Res-clause-found
-look_step-returns-in_ok-right-in-Res-clause-found t c = subst (λ a. IfOk c.look_result.result (λ o. EachLook c.args.depth c.args.left.now (a ∷ map item_of c.args.rest.now) c.args.kinds.now c.args.right.now c.args.found.now o)) (sym (ap item_of c.in-Res.is)) (IfOk-weaker c.look_result.result (λ o. EachLookInto c.args.depth c.args.left.now (map item_of c.args.rest.now) c.in_ok-right-in-Res.right o) (λ o. EachLook c.args.depth c.args.left.now (Item.Res ∷ map item_of c.args.rest.now) c.args.kinds.now c.args.right.now c.args.found.now o) (λ o h. look-into c.args.depth c.args.left.now c.args.right.now c.in_ok-right-in-Res.right (map item_of c.args.rest.now) c.args.kinds.now c.args.found.now o c.in_ok-right-in-Res.ensures.at h) c.look_result.ensures.found)
+look_step-returns-in_ok-right-in-Res-clause-found t c = subst (λ a. IfOk c.look_result.result (λ o. EachLook c.args.depth c.args.left.now (a ∷ map item_of c.args.rest.now) c.args.right.now.kinds.now c.args.right.now.body.now c.args.right.now.found.now o)) (sym (ap item_of c.in-Res.is)) (IfOk-weaker c.look_result.result (λ o. EachLookInto c.args.depth c.args.left.now (map item_of c.args.rest.now) c.in_ok-right-in-Res.right o) (λ o. EachLook c.args.depth c.args.left.now (Item.Res ∷ map item_of c.args.rest.now) c.args.right.now.kinds.now c.args.right.now.body.now c.args.right.now.found.now o) (λ o h. look-into c.args.depth c.args.left.now c.args.right.now.body.now c.in_ok-right-in-Res.right (map item_of c.args.rest.now) c.args.right.now.kinds.now c.args.right.now.found.now o c.in_ok-right-in-Res.ensures.at h) c.look_result.ensures.found)
 
 pub look_step-returns-in-Arg-clause-found : goal.look_step-returns-in-Arg-clause-found
-look_step-returns-in-Arg-clause-found t c = subst (λ a. EachLook c.args.depth c.args.left.now (a ∷ map item_of c.args.rest.now) c.args.kinds.now c.args.right.now c.args.found.now None) (sym (ap item_of c.in-Arg.is)) (look-arg c.args.depth c.args.left.now c.args.right.now (map item_of c.args.rest.now) c.args.kinds.now c.args.found.now)
+look_step-returns-in-Arg-clause-found t c = subst (λ a. EachLook c.args.depth c.args.left.now (a ∷ map item_of c.args.rest.now) c.args.right.now.kinds.now c.args.right.now.body.now c.args.right.now.found.now None) (sym (ap item_of c.in-Arg.is)) (look-arg c.args.depth c.args.left.now c.args.right.now.body.now (map item_of c.args.rest.now) c.args.right.now.kinds.now c.args.right.now.found.now)
 
 pub look_step-returns-in-Meta-clause-found : goal.look_step-returns-in-Meta-clause-found
-look_step-returns-in-Meta-clause-found t c = subst (λ a. EachLook c.args.depth c.args.left.now (a ∷ map item_of c.args.rest.now) c.args.kinds.now c.args.right.now c.args.found.now None) (sym (ap item_of c.in-Meta.is)) (look-meta c.args.depth c.args.left.now c.args.right.now (map item_of c.args.rest.now) c.args.kinds.now c.args.found.now)
+look_step-returns-in-Meta-clause-found t c = subst (λ a. EachLook c.args.depth c.args.left.now (a ∷ map item_of c.args.rest.now) c.args.right.now.kinds.now c.args.right.now.body.now c.args.right.now.found.now None) (sym (ap item_of c.in-Meta.is)) (look-meta c.args.depth c.args.left.now c.args.right.now.body.now (map item_of c.args.rest.now) c.args.right.now.kinds.now c.args.right.now.found.now)
 
 pub look_part-returns-in_default-clause-found : goal.look_part-returns-in_default-clause-found
-look_part-returns-in_default-clause-found t c = look-no_left c.args.depth c.args.left.now c.args.right.now c.args.name.now (map item_of c.args.rest.now) c.args.kinds.now c.args.found.now c.in_default.ensures
+look_part-returns-in_default-clause-found t c = look-no_left c.args.depth c.args.left.now c.args.right.now.body.now c.args.name.now (map item_of c.args.rest.now) c.args.right.now.kinds.now c.args.right.now.found.now c.in_default.ensures
 
 pub look_part-returns-in_default-field-clause-found : goal.look_part-returns-in_default-field-clause-found
-look_part-returns-in_default-field-clause-found t c = look-no_right c.args.depth c.args.left.now c.args.right.now c.args.name.now (map item_of c.args.rest.now) c.args.kinds.now c.args.found.now c.in_default-field.ensures
+look_part-returns-in_default-field-clause-found t c = look-no_right c.args.depth c.args.left.now c.args.right.now.body.now c.args.name.now (map item_of c.args.rest.now) c.args.right.now.kinds.now c.args.right.now.found.now c.in_default-field.ensures
 
 pub look_part-look-requires : goal.look_part-look-requires
-look_part-look-requires t c = (omega (arith, part-size c.args.left.now c.in-Some.left.now c.args.name.now c.in-Some.ensures, part-size c.args.right.now c.in-Some-field.right.now c.args.name.now c.in-Some-field.ensures, c.decreases), (look-may_part c.args.depth c.args.left.now c.args.right.now c.in-Some.left.now c.in-Some-field.right.now c.args.name.now c.args.kinds.now c.args.found.now c.requires.sides c.in-Some.ensures c.in-Some-field.ensures, c.requires.made))
+look_part-look-requires t c = (omega (arith, part-size c.args.left.now c.in-Some.left.now c.args.name.now c.in-Some.ensures, part-size c.args.right.now.body.now c.in-Some-field.body.now c.args.name.now c.in-Some-field.ensures, c.decreases), (look-may_part c.args.depth c.args.left.now c.args.right.now.body.now c.in-Some.left.now c.in-Some-field.body.now c.args.name.now c.args.right.now.kinds.now c.args.right.now.found.now c.requires.sides c.in-Some.ensures c.in-Some-field.ensures, c.requires.made))
 
 pub look_part-returns-clause-found : goal.look_part-returns-clause-found
-look_part-returns-clause-found t c = IfOk-weaker c.look.result (λ o. EachLook c.args.depth c.in-Some.left.now (map item_of c.args.rest.now) c.args.kinds.now c.in-Some-field.right.now c.args.found.now o) (λ o. EachLook c.args.depth c.args.left.now (Item.Part c.args.name.now ∷ map item_of c.args.rest.now) c.args.kinds.now c.args.right.now c.args.found.now o) (λ o h. look-part c.args.depth c.args.left.now c.args.right.now c.in-Some.left.now c.in-Some-field.right.now c.args.name.now (map item_of c.args.rest.now) c.args.kinds.now c.args.found.now o c.in-Some.ensures c.in-Some-field.ensures h) c.look.ensures.found
+look_part-returns-clause-found t c = IfOk-weaker c.look.result (λ o. EachLook c.args.depth c.in-Some.left.now (map item_of c.args.rest.now) c.args.right.now.kinds.now c.in-Some-field.body.now c.args.right.now.found.now o) (λ o. EachLook c.args.depth c.args.left.now (Item.Part c.args.name.now ∷ map item_of c.args.rest.now) c.args.right.now.kinds.now c.args.right.now.body.now c.args.right.now.found.now o) (λ o h. look-part c.args.depth c.args.left.now c.args.right.now.body.now c.in-Some.left.now c.in-Some-field.body.now c.args.name.now (map item_of c.args.rest.now) c.args.right.now.kinds.now c.args.right.now.found.now o c.in-Some.ensures c.in-Some-field.ensures h) c.look.ensures.found
 
 pub look_result-returns-in_default-clause-found : goal.look_result-returns-in_default-clause-found
 look_result-returns-in_default-clause-found t c = into-no_left c.args.depth c.args.left.now c.args.right.now (map item_of c.args.rest.now) c.in_default.ensures

@@ -16,13 +16,13 @@ abbrev pub decreases-look_root : goal.decreases-look_root
 decreases-look_root l = 16 * (size l.left.now + size_abs l.right.now) + 6
 
 abbrev pub decreases-look : goal.decreases-look
-decreases-look l = 16 * (size l.left.now + size l.right.now) + 7
+decreases-look l = 16 * (size l.left.now + size l.right.now.body.now) + 7
 
 abbrev pub decreases-look_step : goal.decreases-look_step
-decreases-look_step l = 16 * (size l.left.now + size l.right.now) + 6
+decreases-look_step l = 16 * (size l.left.now + size l.right.now.body.now) + 6
 
 abbrev pub decreases-look_part : goal.decreases-look_part
-decreases-look_part l = 16 * (size l.left.now + size l.right.now) + 5
+decreases-look_part l = 16 * (size l.left.now + size l.right.now.body.now) + 5
 
 abbrev pub decreases-look_result : goal.decreases-look_result
 decreases-look_result l = 16 * (size l.left.now + size l.right.now) + 5

@@ -19,6 +19,9 @@ decreases-write_fields g l = 4 * sig_row_nodes (sig_row l.fields.now)
 abbrev pub decreases-write_field : goal.decreases-write_field
 decreases-write_field g l = 4 * sig_nodes l.sig.now + 3
 
+abbrev pub decreases-write_one : goal.decreases-write_one
+decreases-write_one g l = weight l.part + 2
+
 abbrev pub decreases-write_pieces : goal.decreases-write_pieces
 decreases-write_pieces g l = weights l.pieces.now + 1
 

@@ -1,5 +1,5 @@
 use Rattle.std.proofs.Common.{◌≡◌, ◌++◌}
-use Rattle.elaboration.proofs.sets.NameSet.list.Given as goal
+use Rattle.sig_calls.proofs.name_set.NameSet.list.Given as goal
 
 abbrev pub invariant-loop-name : goal.invariant-loop-name
 invariant-loop-name l = l.list ++ l.name-iterator ≡ l.initial.name-iterator

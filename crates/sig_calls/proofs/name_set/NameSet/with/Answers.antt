@@ -1,9 +1,9 @@
-use Rattle.std.proofs.Common.{◌≡◌, ap, ◌∙◌}
+use Rattle.std.proofs.Common.{ap, ◌∙◌}
 use Rattle.std.specs.BTreeSet.{insert_key}
 use Rattle.omega_kinds.specs.LabelOrder.{name_cmp}
 use Rattle.signatures.specs.Signatures.FieldOrder.{with_name}
-use Rattle.elaboration.proofs.NameKeys.{key-put}
-use Rattle.elaboration.proofs.sets.NameSet.with.Goals as goal
+use Rattle.sig_calls.proofs.NameKeys.{key-put}
+use Rattle.sig_calls.proofs.name_set.NameSet.with.Goals as goal
 
 pub returns : goal.returns
 returns c =
