@@ -7,8 +7,8 @@ use Rattle.omega_kinds.specs.declared.label.Label.{Label}
 use Rattle.omega_types.specs.Ty.{Ty, Row}
 use Rattle.omega_types.specs.Conversion.{Conv}
 use Rattle.omega_types.specs.Conversion.Conv.{c_trans, c_beta}
-use Rattle.omega_types.specs.Normality.{Normal, Neutral}
-use Rattle.omega_types.specs.Normality.Normal.{n_lam, n_all, n_neutral}
+use Rattle.omega_types.specs.Normality.{Normal}
+use Rattle.omega_types.specs.Normality.Normal.{n_lam}
 use Rattle.omega_types.specs.Normalises.{NormalForm}
 use Rattle.omega_types.specs.Normaliser.{beta, hsubst}
 use Rattle.omega_types.specs.Substitution.{instantiate}
@@ -19,6 +19,7 @@ use Rattle.omega_types.proofs.Single.{substitute_at-zero}
 use Rattle.omega_terms.specs.declared.op.Op.{Op}
 use Rattle.omega_terms.specs.Term.{Term}
 use Rattle.omega_terms.specs.Typing.{HasPart, result_type}
+use Rattle.omega_terms.proofs.NormalTyping.{normal-all}
 use Rattle.core_rules.specs.CoreWhy.{CoreWhy, Differ, KindDiffer, NoField}
 use Rattle.core_rules.specs.ExpRules.{CallGives, CallRefuses, InstanceGives, InstanceRefuses, GetGives, GetRefuses, IfGives, IfRefuses, OperationGives, OperationRefuses}
 use Rattle.core_rules.specs.TypeRules.{AppliedGives, AppliedRefuses}
@@ -47,17 +48,10 @@ beta-gives {ctx} {a = a} {k = k} {j = j} (n_lam {b = b} n) m =
     let h = hsubst-gives ctx (k ∷ ctx) zero a b k j i_here m n in
     (h.0, c_trans (c_beta (normal-kind n) (normal-kind m)) (subst (λ s. Conv ctx s (hsubst k zero a b) j) (substitute_at-zero a b) h.1))
 
-no-neutral : {ctx : List Kind} {k : Kind} {u : Ty} → Neutral ctx (Ty.All k u) Kind.Star → ⊥
-no-neutral n = elim n [ ]
-
-all-body : {ctx : List Kind} {k : Kind} {u : Ty} → Normal ctx (Ty.All k u) Kind.Star → Normal (k ∷ ctx) u Kind.Star
-all-body (n_all n) = n
-all-body (n_neutral n) = absurd (no-neutral n)
-
 -- the body of a normal quantified type at a normal argument
 pub instance-gives : {ctx : List Kind} {k : Kind} {u t : Ty} → Normal ctx (Ty.All k u) Kind.Star → Normal ctx t k → NormalForm ctx (instantiate u t) Kind.Star (hsubst k zero t u)
 instance-gives {ctx} {k} {u} {t} n m =
-    subst (λ s. NormalForm ctx s Kind.Star (hsubst k zero t u)) (substitute_at-zero t u) (hsubst-gives ctx (k ∷ ctx) zero t u k Kind.Star i_here m (all-body n))
+    subst (λ s. NormalForm ctx s Kind.Star (hsubst k zero t u)) (substitute_at-zero t u) (hsubst-gives ctx (k ∷ ctx) zero t u k Kind.Star i_here m (normal-all n))
 
 -- an argument of another kind
 pub applied-kind : (t u : Ty) (k j l m a b : Kind) → k ≡ Kind.Arrow m j → l ≢ m → a ≡ l → b ≡ m → AppliedRefuses t k u l (KindDiffer a b)

@@ -19,6 +19,7 @@ use Rattle.signatures.specs.Verdict.{Verdict, holds, refuses, Perhaps, one, none
 use Rattle.signatures.specs.Signatures.RecordOrder.{insert_part, insert_term, IsNew}
 use Rattle.sig_laws.specs.Decide.{dec_ty}
 use Rattle.sig_laws.proofs.Formed.Forms.{new_dec, part-at, pair-same}
+use Rattle.core_rules.proofs.Equal.{equal}
 use Rattle.core_rules.specs.CoreWhy.{CoreWhy, NotArrow, NotAll, NotRecord, NoField, Differ, KindDiffer, DuplicateField, IsNoArrow, IsNoAll, IsNoRecord}
 use Rattle.core_rules.specs.ExpRules.{Literal, LiteralGives, FunctionGives, FunctionRefuses, TypeFunctionGives, CallGives, CallRefuses, InstanceGives, InstanceRefuses, GetGives, GetRefuses, IfGives, IfRefuses, OperationGives, OperationRefuses, FixGives, FixRefuses, FieldExp, field, RecordGives, RecordRefuses}
 use Rattle.core_rules.specs.OneOutcome.{OneLiteral, OneFunction, OneTypeFunction, OneCall, OneInstance, OneGet, OneIf, OneOperation, OneFix, OneRecord}
@@ -38,40 +39,16 @@ one_literal (Literal.Bool b) = holds (Ty.Bool, Term.Bool b) LiteralGives.bool li
 one_literal (Literal.Text w) = holds (Ty.Text, Term.Text w) LiteralGives.text literal-text (λ r q. q)
 
 arrow-or-not : (f : Ty) → ((p : Ty × Ty) × (f ≡ Ty.Arrow p.0 p.1)) ⊎ IsNoArrow f
-arrow-or-not (Ty.Var n) = inr tt
-arrow-or-not Ty.Int = inr tt
-arrow-or-not Ty.Bool = inr tt
-arrow-or-not Ty.Text = inr tt
 arrow-or-not (Ty.Arrow a b) = inl ((a, b), refl)
-arrow-or-not (Ty.Fields r) = inr tt
-arrow-or-not (Ty.All k b) = inr tt
-arrow-or-not (Ty.Ex k b) = inr tt
-arrow-or-not (Ty.Lam k b) = inr tt
-arrow-or-not (Ty.Apply a b) = inr tt
+arrow-or-not _ = inr tt
 
 all-or-not : (f : Ty) → ((p : Kind × Ty) × (f ≡ Ty.All p.0 p.1)) ⊎ IsNoAll f
-all-or-not (Ty.Var n) = inr tt
-all-or-not Ty.Int = inr tt
-all-or-not Ty.Bool = inr tt
-all-or-not Ty.Text = inr tt
-all-or-not (Ty.Arrow a b) = inr tt
-all-or-not (Ty.Fields r) = inr tt
 all-or-not (Ty.All k b) = inl ((k, b), refl)
-all-or-not (Ty.Ex k b) = inr tt
-all-or-not (Ty.Lam k b) = inr tt
-all-or-not (Ty.Apply a b) = inr tt
+all-or-not _ = inr tt
 
 record-or-not : (f : Ty) → ((row : Row) × (f ≡ Ty.Fields row)) ⊎ IsNoRecord f
-record-or-not (Ty.Var n) = inr tt
-record-or-not Ty.Int = inr tt
-record-or-not Ty.Bool = inr tt
-record-or-not Ty.Text = inr tt
-record-or-not (Ty.Arrow a b) = inr tt
 record-or-not (Ty.Fields r) = inl (r, refl)
-record-or-not (Ty.All k b) = inr tt
-record-or-not (Ty.Ex k b) = inr tt
-record-or-not (Ty.Lam k b) = inr tt
-record-or-not (Ty.Apply a b) = inr tt
+record-or-not _ = inr tt
 
 -- functions
 
@@ -85,11 +62,9 @@ function-same : {t : Ty} {k : Kind} {why : CoreWhy} → FunctionRefuses t k why 
 function-same (FunctionRefuses.param_kind n) = (n, refl)
 
 pub one_function : OneFunction
-one_function t k u e = go (Kind-discrete k Kind.Star)
-  where
-    go : Dec (k ≡ Kind.Star) → Verdict (λ (o : Ty × Term). FunctionGives t k u e o.0 o.1) (FunctionRefuses t k)
-    go (yes i) = subst (λ k. Verdict (λ (o : Ty × Term). FunctionGives t k u e o.0 o.1) (FunctionRefuses t k)) (sym i) (holds (Ty.Arrow t u, Term.Lam t e) FunctionGives.function function-only (λ r q. (function-same q).0 refl))
-    go (no n) = refuses (KindDiffer k Kind.Star) (FunctionRefuses.param_kind n) (λ q h. (function-same h).1) (λ o g. n (function-kind g))
+one_function t k u e =
+    equal (λ k (o : Ty × Term). FunctionGives t k u e o.0 o.1) (FunctionRefuses t) (KindDiffer k Kind.Star) (Kind-discrete k Kind.Star) (λ i. holds (Ty.Arrow t u, Term.Lam t e) FunctionGives.function function-only (λ r q. (function-same q).0 refl))
+    FunctionRefuses.param_kind (λ n r q. (function-same q).1) (λ o g. function-kind g)
 
 type_function-only : {k : Kind} {t : Ty} {e : Term} (o : Ty × Term) → TypeFunctionGives k t e o.0 o.1 → o ≡ (Ty.All k t, Term.TyLam k e)
 type_function-only _ TypeFunctionGives.type_function = refl
@@ -119,12 +94,11 @@ call-no_function n (CallRefuses.arg_type m) = absurd n
 pub one_call : OneCall
 one_call f d v e = go (arrow-or-not f)
   where
-    at : (t u : Ty) → Dec (v ≡ t) → Verdict (λ (o : Ty × Term). CallGives (Ty.Arrow t u) d v e o.0 o.1) (CallRefuses (Ty.Arrow t u) v)
-    at t u (yes i) = subst (λ v. Verdict (λ (o : Ty × Term). CallGives (Ty.Arrow t u) d v e o.0 o.1) (CallRefuses (Ty.Arrow t u) v)) (sym i) (holds (u, Term.Call d e) CallGives.call call-only (λ r q. (call-refused q).0 refl))
-    at t u (no n) = refuses (Differ v t) (CallRefuses.arg_type n) (λ q r. (call-refused r).1) (λ o g. n (call-arg g))
+    at : (t u : Ty) → Verdict (λ (o : Ty × Term). CallGives (Ty.Arrow t u) d v e o.0 o.1) (CallRefuses (Ty.Arrow t u) v)
+    at t u = equal (λ v (o : Ty × Term). CallGives (Ty.Arrow t u) d v e o.0 o.1) (CallRefuses (Ty.Arrow t u)) (Differ v t) (dec_ty v t) (λ i. holds (u, Term.Call d e) CallGives.call call-only (λ r q. (call-refused q).0 refl)) CallRefuses.arg_type (λ n q r. (call-refused r).1) (λ o g. call-arg g)
 
     go : ((p : Ty × Ty) × (f ≡ Ty.Arrow p.0 p.1)) ⊎ IsNoArrow f → Verdict (λ (o : Ty × Term). CallGives f d v e o.0 o.1) (CallRefuses f v)
-    go (inl p) = subst (λ f. Verdict (λ (o : Ty × Term). CallGives f d v e o.0 o.1) (CallRefuses f v)) (sym p.1) (at p.0.0 p.0.1 (dec_ty v p.0.0))
+    go (inl p) = subst (λ f. Verdict (λ (o : Ty × Term). CallGives f d v e o.0 o.1) (CallRefuses f v)) (sym p.1) (at p.0.0 p.0.1)
     go (inr n) = refuses (NotArrow f) (CallRefuses.no_function n) (λ q r. call-no_function n r) (λ o g. call-arrow g n)
 
 -- instances
@@ -149,15 +123,16 @@ instance-not_all n (InstanceRefuses.arg_kind m) = absurd n
 pub one_instance : OneInstance
 one_instance ctx f e t j h g = go (all-or-not f)
   where
-    at : (k : Kind) (u : Ty) → HasKind ctx (Ty.All k u) Kind.Star → Dec (j ≡ k) → Verdict (λ (o : Ty × Term). InstanceGives ctx (Ty.All k u) e t j o.0 o.1) (InstanceRefuses (Ty.All k u) t j)
-    at k u w (yes i) =
+    at : (k : Kind) (u : Ty) → HasKind ctx (Ty.All k u) Kind.Star → Verdict (λ (o : Ty × Term). InstanceGives ctx (Ty.All k u) e t j o.0 o.1) (InstanceRefuses (Ty.All k u) t j)
+    at k u w =
+        equal (λ j (o : Ty × Term). InstanceGives ctx (Ty.All k u) e t j o.0 o.1) (InstanceRefuses (Ty.All k u) t) (KindDiffer j k) (Kind-discrete j k)
+        (λ i.
         let v = each_has_one ctx (instantiate u t) Kind.Star (kind-substitute (single t) (single-substitutes (subst (λ l. HasKind ctx t l) i g)) (all-kinds w)) in
-        subst (λ j. Verdict (λ (o : Ty × Term). InstanceGives ctx (Ty.All k u) e t j o.0 o.1) (InstanceRefuses (Ty.All k u) t j)) (sym i)
-        (holds (v.0, Term.Inst e t) (InstanceGives.instance v.1) (λ o r. let x = instance-view o r in pair-same o (v.2 o.0 x.0) x.1) (λ r q. (instance-refused q).0 refl))
-    at k u w (no n) = refuses (KindDiffer j k) (InstanceRefuses.arg_kind n) (λ q r. (instance-refused r).1) (λ o r. n (instance-arg r))
+        holds (v.0, Term.Inst e t) (InstanceGives.instance v.1) (λ o r. let x = instance-view o r in pair-same o (v.2 o.0 x.0) x.1) (λ r q. (instance-refused q).0 refl))
+        InstanceRefuses.arg_kind (λ n q r. (instance-refused r).1) (λ o r. instance-arg r)
 
     go : ((p : Kind × Ty) × (f ≡ Ty.All p.0 p.1)) ⊎ IsNoAll f → Verdict (λ (o : Ty × Term). InstanceGives ctx f e t j o.0 o.1) (InstanceRefuses f t j)
-    go (inl p) = subst (λ f. Verdict (λ (o : Ty × Term). InstanceGives ctx f e t j o.0 o.1) (InstanceRefuses f t j)) (sym p.1) (at p.0.0 p.0.1 (subst (λ f. HasKind ctx f Kind.Star) p.1 h) (Kind-discrete j p.0.0))
+    go (inl p) = subst (λ f. Verdict (λ (o : Ty × Term). InstanceGives ctx f e t j o.0 o.1) (InstanceRefuses f t j)) (sym p.1) (at p.0.0 p.0.1 (subst (λ f. HasKind ctx f Kind.Star) p.1 h))
     go (inr n) = refuses (NotAll f) (InstanceRefuses.not_polymorphic n) (λ q r. instance-not_all n r) (λ o r. instance-all r n)
 
 -- fields
@@ -211,15 +186,10 @@ if-branches (IfRefuses.test_type n) = absurd (n refl)
 if-branches (IfRefuses.branches n) = refl
 
 pub one_if : OneIf
-one_if s d t e u f = go (dec_ty s Ty.Bool) (dec_ty t u)
-  where
-    bool : Dec (t ≡ u) → Verdict (λ (o : Ty × Term). IfGives Ty.Bool d t e u f o.0 o.1) (IfRefuses Ty.Bool t u)
-    bool (yes j) = subst (λ u. Verdict (λ (o : Ty × Term). IfGives Ty.Bool d t e u f o.0 o.1) (IfRefuses Ty.Bool t u)) j (holds (t, Term.If d e f) IfGives.if_ if-only (λ r q. if-never q))
-    bool (no n) = refuses (Differ t u) (IfRefuses.branches n) (λ q r. if-branches r) (λ o g. n (if-types g).1)
-
-    go : Dec (s ≡ Ty.Bool) → Dec (t ≡ u) → Verdict (λ (o : Ty × Term). IfGives s d t e u f o.0 o.1) (IfRefuses s t u)
-    go (yes i) b = subst (λ s. Verdict (λ (o : Ty × Term). IfGives s d t e u f o.0 o.1) (IfRefuses s t u)) (sym i) (bool b)
-    go (no n) b = refuses (Differ s Ty.Bool) (IfRefuses.test_type n) (λ q r. if-test n r) (λ o g. n (if-types g).0)
+one_if s d t e u f =
+    equal (λ s (o : Ty × Term). IfGives s d t e u f o.0 o.1) (λ s. IfRefuses s t u) (Differ s Ty.Bool) (dec_ty s Ty.Bool)
+    (λ i. equal (λ t (o : Ty × Term). IfGives Ty.Bool d t e u f o.0 o.1) (λ t. IfRefuses Ty.Bool t u) (Differ t u) (dec_ty t u) (λ j. holds (u, Term.If d e f) IfGives.if_ if-only (λ r q. if-never q)) IfRefuses.branches (λ n q r. if-branches r) (λ o g. (if-types g).1))
+    IfRefuses.test_type (λ n q r. if-test n r) (λ o g. (if-types g).0)
 
 -- operators
 
@@ -242,15 +212,10 @@ operation-right (OperationRefuses.left_type n) = absurd (n refl)
 operation-right (OperationRefuses.right_type n) = refl
 
 pub one_operation : OneOperation
-one_operation op t d u e = go (dec_ty t Ty.Int) (dec_ty u Ty.Int)
-  where
-    number : Dec (u ≡ Ty.Int) → Verdict (λ (o : Ty × Term). OperationGives op Ty.Int d u e o.0 o.1) (OperationRefuses Ty.Int u)
-    number (yes j) = subst (λ u. Verdict (λ (o : Ty × Term). OperationGives op Ty.Int d u e o.0 o.1) (OperationRefuses Ty.Int u)) (sym j) (holds (result_type op, Term.Arith op d e) OperationGives.operation operation-only (λ r q. operation-never q))
-    number (no n) = refuses (Differ u Ty.Int) (OperationRefuses.right_type n) (λ q r. operation-right r) (λ o g. n (operation-types g).1)
-
-    go : Dec (t ≡ Ty.Int) → Dec (u ≡ Ty.Int) → Verdict (λ (o : Ty × Term). OperationGives op t d u e o.0 o.1) (OperationRefuses t u)
-    go (yes i) b = subst (λ t. Verdict (λ (o : Ty × Term). OperationGives op t d u e o.0 o.1) (OperationRefuses t u)) (sym i) (number b)
-    go (no n) b = refuses (Differ t Ty.Int) (OperationRefuses.left_type n) (λ q r. operation-left n r) (λ o g. n (operation-types g).0)
+one_operation op t d u e =
+    equal (λ t (o : Ty × Term). OperationGives op t d u e o.0 o.1) (λ t. OperationRefuses t u) (Differ t Ty.Int) (dec_ty t Ty.Int)
+    (λ i. equal (λ u (o : Ty × Term). OperationGives op Ty.Int d u e o.0 o.1) (OperationRefuses Ty.Int) (Differ u Ty.Int) (dec_ty u Ty.Int) (λ j. holds (result_type op, Term.Arith op d e) OperationGives.operation operation-only (λ r q. operation-never q)) OperationRefuses.right_type (λ n q r. operation-right r) (λ o g. (operation-types g).1))
+    OperationRefuses.left_type (λ n q r. operation-left n r) (λ o g. (operation-types g).0)
 
 -- recursive functions
 
@@ -281,19 +246,12 @@ fix-body (FixRefuses.result_kind m) = absurd (m refl)
 fix-body (FixRefuses.body_type m) = refl
 
 pub one_fix : OneFix
-one_fix t k u j v e = go (Kind-discrete k Kind.Star) (Kind-discrete j Kind.Star)
-  where
-    third : Dec (v ≡ u) → Verdict (λ (o : Ty × Term). FixGives t Kind.Star u Kind.Star v e o.0 o.1) (FixRefuses t Kind.Star u Kind.Star v)
-    third (yes i) = subst (λ v. Verdict (λ (o : Ty × Term). FixGives t Kind.Star u Kind.Star v e o.0 o.1) (FixRefuses t Kind.Star u Kind.Star v)) (sym i) (holds (Ty.Arrow t u, Term.Fix t u e) FixGives.fix fix-only (λ r q. fix-never refl refl refl q))
-    third (no n) = refuses (Differ v u) (FixRefuses.body_type n) (λ q r. fix-body r) (λ o g. n (fix-premises g).2)
-
-    second : Dec (j ≡ Kind.Star) → Verdict (λ (o : Ty × Term). FixGives t Kind.Star u j v e o.0 o.1) (FixRefuses t Kind.Star u j v)
-    second (yes i) = subst (λ j. Verdict (λ (o : Ty × Term). FixGives t Kind.Star u j v e o.0 o.1) (FixRefuses t Kind.Star u j v)) (sym i) (third (dec_ty v u))
-    second (no n) = refuses (KindDiffer j Kind.Star) (FixRefuses.result_kind n) (λ q r. fix-result n r) (λ o g. n (fix-premises g).1)
-
-    go : Dec (k ≡ Kind.Star) → Dec (j ≡ Kind.Star) → Verdict (λ (o : Ty × Term). FixGives t k u j v e o.0 o.1) (FixRefuses t k u j v)
-    go (yes i) b = subst (λ k. Verdict (λ (o : Ty × Term). FixGives t k u j v e o.0 o.1) (FixRefuses t k u j v)) (sym i) (second b)
-    go (no n) b = refuses (KindDiffer k Kind.Star) (FixRefuses.param_kind n) (λ q r. fix-param n r) (λ o g. n (fix-premises g).0)
+one_fix t k u j v e =
+    equal (λ k (o : Ty × Term). FixGives t k u j v e o.0 o.1) (λ k. FixRefuses t k u j v) (KindDiffer k Kind.Star) (Kind-discrete k Kind.Star)
+    (λ a. equal (λ j (o : Ty × Term). FixGives t Kind.Star u j v e o.0 o.1) (λ j. FixRefuses t Kind.Star u j v) (KindDiffer j Kind.Star) (Kind-discrete j Kind.Star)
+    (λ b. equal (λ v (o : Ty × Term). FixGives t Kind.Star u Kind.Star v e o.0 o.1) (FixRefuses t Kind.Star u Kind.Star) (Differ v u) (dec_ty v u) (λ c. holds (Ty.Arrow t u, Term.Fix t u e) FixGives.fix fix-only (λ r q. fix-never refl refl refl q)) FixRefuses.body_type (λ n q r. fix-body r) (λ o g. (fix-premises g).2))
+    FixRefuses.result_kind (λ n q r. fix-result n r) (λ o g. (fix-premises g).1))
+    FixRefuses.param_kind (λ n q r. fix-param n r) (λ o g. (fix-premises g).0)
 
 -- records
 

@@ -1,6 +1,6 @@
 -- Each rule of types has exactly one conclusion or exactly one refusal.
 use Rattle.std.specs.Prelude.{List, [], ◌∷◌, ◌≡◌, ◌≢◌}
-use Rattle.std.proofs.Math.Path.{refl, sym, subst, ap, ◌∙◌}
+use Rattle.std.proofs.Math.Path.{refl, subst, ap, ◌∙◌}
 use Rattle.omega_kinds.specs.Kind.{Kind, Kind-discrete}
 use Rattle.omega_kinds.specs.declared.label.Label.{Label}
 use Rattle.omega_kinds.specs.Name.{Name}
@@ -12,6 +12,7 @@ use Rattle.omega_types.proofs.Hereditary.{each_has_one}
 use Rattle.signatures.specs.Verdict.{Verdict, holds, refuses}
 use Rattle.signatures.specs.Signatures.RecordOrder.{insert_part, IsNew}
 use Rattle.sig_laws.proofs.Formed.Forms.{new_dec, pair-same}
+use Rattle.core_rules.proofs.Equal.{equal}
 use Rattle.core_rules.specs.CoreWhy.{CoreWhy, KindDiffer, NotOperator, DuplicateField}
 use Rattle.core_rules.specs.TypeRules.{Base, BaseGives, ArrowGives, ArrowRefuses, AllGives, AllRefuses, OperatorGives, AppliedGives, AppliedRefuses, FieldTy, field, RecordTypeGives, RecordTypeRefuses}
 use Rattle.core_rules.specs.OneOutcome.{OneBase, OneArrow, OneAll, OneOperator, OneApplied, OneRecordType}
@@ -49,18 +50,10 @@ arrow-kinds : {t u v : Ty} {k j l : Kind} → ArrowGives t k u j v l → (k ≡ 
 arrow-kinds ArrowGives.arrow = (refl, refl)
 
 pub one_arrow : OneArrow
-one_arrow t k u j = go (Kind-discrete k Kind.Star) (Kind-discrete j Kind.Star)
-  where
-    both : k ≡ Kind.Star → j ≡ Kind.Star → Verdict (λ (o : Ty × Kind). ArrowGives t k u j o.0 o.1) (ArrowRefuses t k u j)
-    both e f = subst (λ k. Verdict (λ (o : Ty × Kind). ArrowGives t k u j o.0 o.1) (ArrowRefuses t k u j)) (sym e) (subst (λ j. Verdict (λ (o : Ty × Kind). ArrowGives t Kind.Star u j o.0 o.1) (ArrowRefuses t Kind.Star u j)) (sym f) (holds (Ty.Arrow t u, Kind.Star) ArrowGives.arrow arrow-only (λ r q. arrow-never q)))
-
-    second : k ≡ Kind.Star → j ≢ Kind.Star → Verdict (λ (o : Ty × Kind). ArrowGives t k u j o.0 o.1) (ArrowRefuses t k u j)
-    second e n = subst (λ k. Verdict (λ (o : Ty × Kind). ArrowGives t k u j o.0 o.1) (ArrowRefuses t k u j)) (sym e) (refuses (KindDiffer j Kind.Star) (ArrowRefuses.to_kind n) (λ q h. arrow-to h) (λ o g. n (arrow-kinds g).1))
-
-    go : Dec (k ≡ Kind.Star) → Dec (j ≡ Kind.Star) → Verdict (λ (o : Ty × Kind). ArrowGives t k u j o.0 o.1) (ArrowRefuses t k u j)
-    go (yes e) (yes f) = both e f
-    go (yes e) (no n) = second e n
-    go (no n) d = refuses (KindDiffer k Kind.Star) (ArrowRefuses.from_kind n) (λ q h. arrow-from n h) (λ o g. n (arrow-kinds g).0)
+one_arrow t k u j =
+    equal (λ k (o : Ty × Kind). ArrowGives t k u j o.0 o.1) (λ k. ArrowRefuses t k u j) (KindDiffer k Kind.Star) (Kind-discrete k Kind.Star)
+    (λ e. equal (λ j (o : Ty × Kind). ArrowGives t Kind.Star u j o.0 o.1) (ArrowRefuses t Kind.Star u) (KindDiffer j Kind.Star) (Kind-discrete j Kind.Star) (λ f. holds (Ty.Arrow t u, Kind.Star) ArrowGives.arrow arrow-only (λ r q. arrow-never q)) ArrowRefuses.to_kind (λ n q h. arrow-to h) (λ o g. (arrow-kinds g).1))
+    ArrowRefuses.from_kind (λ n q h. arrow-from n h) (λ o g. (arrow-kinds g).0)
 
 all-only : {k : Kind} {t : Ty} (o : Ty × Kind) → AllGives k t Kind.Star o.0 o.1 → o ≡ (Ty.All k t, Kind.Star)
 all-only _ AllGives.all = refl
@@ -75,11 +68,7 @@ all-kinds : {k j l : Kind} {t v : Ty} → AllGives k t j v l → j ≡ Kind.Star
 all-kinds AllGives.all = refl
 
 pub one_all : OneAll
-one_all k t j = go (Kind-discrete j Kind.Star)
-  where
-    go : Dec (j ≡ Kind.Star) → Verdict (λ (o : Ty × Kind). AllGives k t j o.0 o.1) (AllRefuses k t j)
-    go (yes e) = subst (λ j. Verdict (λ (o : Ty × Kind). AllGives k t j o.0 o.1) (AllRefuses k t j)) (sym e) (holds (Ty.All k t, Kind.Star) AllGives.all all-only (λ r q. all-never q))
-    go (no n) = refuses (KindDiffer j Kind.Star) (AllRefuses.body_kind n) (λ q h. all-same h) (λ o g. n (all-kinds g))
+one_all k t j = equal (λ j (o : Ty × Kind). AllGives k t j o.0 o.1) (AllRefuses k t) (KindDiffer j Kind.Star) (Kind-discrete j Kind.Star) (λ e. holds (Ty.All k t, Kind.Star) AllGives.all all-only (λ r q. all-never q)) AllRefuses.body_kind (λ n q h. all-same h) (λ o g. all-kinds g)
 
 operator-only : {k j : Kind} {t : Ty} (o : Ty × Kind) → OperatorGives k t j o.0 o.1 → o ≡ (Ty.Lam k t, Kind.Arrow k j)
 operator-only _ OperatorGives.operator = refl
@@ -107,14 +96,12 @@ no_operator-never g = elim g [ ]
 
 pub one_applied : OneApplied
 one_applied ctx t Kind.Star u l h g = refuses NotOperator AppliedRefuses.no_operator (λ q r. no_operator-same r) (λ o r. no_operator-never r)
-one_applied ctx t (Kind.Arrow k j) u l h g = go (Kind-discrete l k)
-  where
-    go : Dec (l ≡ k) → Verdict (λ (o : Ty × Kind). AppliedGives ctx t (Kind.Arrow k j) u l o.0 o.1) (AppliedRefuses t (Kind.Arrow k j) u l)
-    go (yes e) =
-        let v = each_has_one ctx (Ty.Apply t u) j (k_apply h (subst (λ i. HasKind ctx u i) e g)) in
-        subst (λ l. Verdict (λ (o : Ty × Kind). AppliedGives ctx t (Kind.Arrow k j) u l o.0 o.1) (AppliedRefuses t (Kind.Arrow k j) u l)) (sym e)
-        (holds (v.0, j) (AppliedGives.applied v.1) (λ o r. let w = applied-view o r in pair-same o (v.2 o.0 w.0) w.1) (λ r q. applied-never q))
-    go (no n) = refuses (KindDiffer l k) (AppliedRefuses.arg_kind n) (λ q r. applied-same r) (λ o r. n (applied-kind r))
+one_applied ctx t (Kind.Arrow k j) u l h g =
+    equal (λ l (o : Ty × Kind). AppliedGives ctx t (Kind.Arrow k j) u l o.0 o.1) (AppliedRefuses t (Kind.Arrow k j) u) (KindDiffer l k) (Kind-discrete l k)
+    (λ e.
+    let v = each_has_one ctx (Ty.Apply t u) j (k_apply h (subst (λ i. HasKind ctx u i) e g)) in
+    holds (v.0, j) (AppliedGives.applied v.1) (λ o r. let w = applied-view o r in pair-same o (v.2 o.0 w.0) w.1) (λ r q. applied-never q))
+    AppliedRefuses.arg_kind (λ n q r. applied-same r) (λ o r. applied-kind r)
 
 -- record types
 
@@ -155,5 +142,6 @@ one_record_type before (field l t k ∷ rest) = go (new_dec l before) (Kind-disc
 
     go : Dec (IsNew l before) → Dec (k ≡ Kind.Star) → Verdict (RecordTypeGives (l ∷ before) rest) (RecordTypeRefuses (l ∷ before) rest) → Verdict (RecordTypeGives before (field l t k ∷ rest)) (RecordTypeRefuses before (field l t k ∷ rest))
     go (no n) d later = refuses (DuplicateField l) (RecordTypeRefuses.name_again n) (λ q r. record-again n r) (λ row r. n (record-view r).0)
-    go (yes h) (no n) later = refuses (KindDiffer k Kind.Star) (RecordTypeRefuses.field_kind h n) (λ q r. record-kind h n r) (λ row r. n (record-view r).1)
-    go (yes h) (yes e) later = subst (λ k. Verdict (RecordTypeGives before (field l t k ∷ rest)) (RecordTypeRefuses before (field l t k ∷ rest))) (sym e) (inner h later)
+    go (yes h) d later =
+        equal (λ k. RecordTypeGives before (field l t k ∷ rest)) (λ k. RecordTypeRefuses before (field l t k ∷ rest)) (KindDiffer k Kind.Star) d (λ e. inner h later)
+        (RecordTypeRefuses.field_kind h) (λ n q r. record-kind h n r) (λ row r. (record-view r).1)

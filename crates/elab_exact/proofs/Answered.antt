@@ -2,12 +2,11 @@
 use Rattle.std.specs.Prelude.{List, [], ◌∷◌, ◌≡◌, Bool, true, false, Some}
 use Rattle.std.proofs.Math.Path.{refl, sym, subst, ap, ◌∙◌}
 use Rattle.omega_kinds.specs.Kind.{Kind, Kind-discrete}
-use Rattle.omega_kinds.specs.declared.effect.Effect.{Effect}
 use Rattle.omega_kinds.specs.declared.effect.Effect.TheVariants.{Pure, Impure}
 use Rattle.omega_kinds.specs.Name.{Name}
 use Rattle.omega_types.specs.Ty.{Ty}
 use Rattle.omega_types.specs.Kinding.{HasKind}
-use Rattle.omega_types.specs.Kinding.HasKind.{k_arrow}
+use Rattle.omega_types.proofs.Inverse.{arrow-kinds}
 use Rattle.omega_types.specs.Normality.{Normal}
 use Rattle.omega_types.specs.Normality.Normal.{n_arrow}
 use Rattle.omega_types.specs.Binders.{extend}
@@ -18,7 +17,8 @@ use Rattle.signatures.specs.Matching.Subtyping.{Match}
 use Rattle.signatures.specs.Env.{Env, Value, kinds, find, type_vars, with_module, named_fields}
 use Rattle.signatures.specs.Signatures.FieldOrder.{with_name, with_names}
 use Rattle.signatures.specs.Matching.MatchRefusal.{MatchRefusal, RefusesMatch}
-use Rattle.sig_laws.proofs.Formed.Conditions.{explicit-right, explicit-abs, abs-body, match-kinds, structure-row}
+use Rattle.match_laws.proofs.LookUp.Good.{explicit-left}
+use Rattle.sig_laws.proofs.Formed.Conditions.{abs-body, structure-row}
 use Rattle.fing_syntax.specs.Phrase.{Span, SpanName, Mod, ModAt, ModName, ModStruct, ModProject, ModFunctor, ModApply, ModSeal, ModUnpack, Bind, BindAt, BindVal, BindTy, BindModule, BindSignature, BindInclude, Binds, NoBinds, MoreBinds, SigEx, SigAt, PathSig, SigDecls, SigFun, SigRefine, Decl, DeclAt, DeclVal, DeclTyIs, DeclTyOf, DeclModule, DeclSignature, DeclInclude, Decls, NoDecls, MoreDecls, TyEx, TyAt, PathTy, TyInt, TyBool, TyText, TyArrow, TyApply, TyFields, TyAll, TyLam, TyPack, TyExs, NoTys, MoreTys, FieldTyExs, NoFieldTys, MoreFieldTys, Exp, ExpAt, PathExp, ExpInt, ExpBool, ExpText, ExpLam, ExpTyLam, ExpFix, ExpIf, ExpOps, ExpApply, ExpFields, ExpGet, ExpPack, OpExps, NoOps, MoreOps, ArgExp, ArgTy, Args, NoArgs, MoreArgs, FieldExps, NoFieldExps, MoreFieldExps}
 use Rattle.fing_syntax.specs.Place.{name_of, name_span, ty_span, exp_span, sig_span, up_to}
 use Rattle.core_rules.specs.CoreWhy.{CoreWhy}
@@ -29,9 +29,9 @@ use Rattle.core_rules.proofs.TypeVerdicts.{one_base, one_record_type, one_arrow,
 use Rattle.core_rules.proofs.ExpVerdicts.{one_literal, one_record, one_function, one_type_function, one_call, one_instance, one_get, one_if, one_operation, one_fix}
 use Rattle.sig_rules.specs.SigRules.{ValueGives, TypeGives, AbstractGives, ModuleGives, SignatureGives, IncludeGives, DeclarationsGive}
 use Rattle.sig_rules.proofs.Verdicts.{one_value, one_type, one_abstract, one_module, one_signature, one_include, one_generative, one_distinct, one_declarations}
-use Rattle.module_rules.proofs.Verdicts.{one_named, one_projected, one_type_path, one_value_path, one_sig_path, one_parts, one_generative as one_generative_module, found-one as bound-one, apply-one, include-one, included-structure, one_seal, one_value_module, one_type_module, one_signature_module, param-ok}
+use Rattle.module_rules.proofs.Verdicts.{str-same, one_named, one_projected, one_type_path, one_value_path, one_sig_path, one_parts, one_generative as one_generative_module, found-one as bound-one, applies-one, include-one, included-structure, one_seal, one_value_module, one_type_module, one_signature_module, param-ok}
 use Rattle.module_rules.specs.ModWhy.{ModWhy}
-use Rattle.module_rules.specs.ModRules.{NamedRefuses, PartsGive, ApplyGives}
+use Rattle.module_rules.specs.ModRules.{NamedRefuses}
 use Rattle.applicative_functors.proofs.Verdicts.{one_pure_functor}
 use Rattle.packages.proofs.Verdicts.{one_pack_type, one_pack, one_unpack}
 use Rattle.elab_rules.specs.Operators.{names_of, with_type, include_name, omega_op}
@@ -42,7 +42,7 @@ use Rattle.signatures.specs.Verdict.{Verdict, holds, refuses, One}
 use Rattle.elab_rules.specs.Refusals.Task.{Task, a_type, type_args, type_fields, an_exp, operands, args, fields, a_sig, a_decl, decls, a_mod, a_bind, binds}
 use Rattle.elab_rules.specs.Refusals.Steps.{steps, functor_sig, refined, decls_from, generative, functor_of, functor_body, after_bind, after_include}
 use Rattle.elab_exact.specs.Claims.{Exactly}
-use Rattle.sig_laws.specs.Good.{OkSig, OkRow, OkAbs, OkRight, OkEnv, OkModule, Names}
+use Rattle.sig_laws.specs.Good.{OkSig, OkRow, OkRight, OkEnv, OkModule, Names}
 use Rattle.elab_laws.proofs.FieldLaws.{rise-with_name, rise-with_names}
 use Rattle.elab_laws.proofs.Kept.{type_ok, exp_ok, sig_ok, decl_ok, mod_ok, bind_ok, binds_ok, norm_ok}
 use Rattle.sig_rules.proofs.WhereVerdict.{one_where}
@@ -52,7 +52,7 @@ use Rattle.elab_exact.proofs.Rules.Complete.{means-runs}
 use Rattle.elab_exact.proofs.Rules.Correct.{steps-sound}
 use Rattle.sig_laws.specs.Decide.{dec_ty}
 use Rattle.sig_laws.proofs.Formed.Forms.{kind-arrow, type-arrow, type-all, type-record, new_dec}
-use Rattle.premise_laws.proofs.Environments.{good-module, good-fields, good-type_fields, find-good, bound-module, bound-bind, bound-fields}
+use Rattle.premise_laws.proofs.Environments.{body-ok, good-module, good-fields, good-type_fields, find-good, bound-module, bound-bind, bound-fields}
 use Rattle.premise_laws.proofs.Determined.{lift-one, match-verdict, norm-one}
 use Rattle.module_rules.proofs.Determined.{collected-one, seq-one}
 use Rattle.sig_laws.proofs.Encoded.EnvTyping.{kinds-named_fields}
@@ -69,15 +69,12 @@ mapped f (refuses r q only never) = refuses (f r) (r, q, refl) (λ s u. u.2 ∙ 
 star-one : {r : Refusal} (k : Kind) → Verdict {A = Unit {0}} (λ u. k ≡ Kind.Star) (λ q. (k ≡ Kind.Star → ⊥) × (q ≡ r))
 star-one {r} k = dec-test r (Kind-discrete k Kind.Star)
 
-arrow-result : {ctx : List Kind} {t u : Ty} {k : Kind} → HasKind ctx (Ty.Arrow t u) k → HasKind ctx u Kind.Star
-arrow-result (k_arrow a b) = b
-
 -- the kinds of what rules give
 applied-kind : {ctx : List Kind} {t u v : Ty} {k j l : Kind} → AppliedGives ctx t k u j v l → HasKind ctx v l
 applied-kind (AppliedGives.applied n) = normal-kind n.0
 
 call-kind : {ctx : List Kind} {t u v : Ty} {d e c : Term} → CallGives t d u e v c → HasKind ctx t Kind.Star → HasKind ctx v Kind.Star
-call-kind CallGives.call h = arrow-result h
+call-kind CallGives.call h = (arrow-kinds h).1
 
 instance-kind : {ctx : List Kind} {t u v : Ty} {k : Kind} {e c : Term} → InstanceGives ctx t e u k v c → HasKind ctx v Kind.Star
 instance-kind (InstanceGives.instance n) = normal-kind n.0
@@ -86,12 +83,6 @@ instance-kind (InstanceGives.instance n) = normal-kind n.0
 never-refused : {A : Type 0} {P : A → Type 0} → Verdict {R = CoreWhy} P Never → Verdict {R = Refusal} P (λ q. ⊥)
 never-refused (holds x p only never) = holds x p only (λ q h. h)
 never-refused (refuses r q only never) = absurd q
-
-body-ok : {ctx ks : List Kind} {s : Sig} → OkRight ctx (Abs.Ex ks s) → OkSig (extend ctx ks) s
-body-ok h = ((explicit-right h.0).0, h.1)
-
-right-abs : {ctx : List Kind} {x : Abs} → OkRight ctx x → OkAbs ctx x
-right-abs h = (explicit-abs h.0, h.1)
 
 found-one : (g : Env) (x : SpanName) → Verdict (λ o. find g (name_of x) ≡ Some o) (λ q. (why : ModWhy) × NamedRefuses g (name_of x) why × (q ≡ refuse g (name_span x) (of_mod why)))
 found-one g x = mapped _ (bound-one g (name_of x))
@@ -115,9 +106,6 @@ decl-structure (DeclMeans.decl_include p IncludeGives.include) = (_, refl)
 decls-structure : {g : Env} {before : List Name} {ds : Decls} {x : Abs} → DeclsMean g before ds x → (fs : SigRow) × (body x ≡ Sig.Str fs)
 decls-structure DeclsMean.no_decls = (_, refl)
 decls-structure (DeclsMean.next_decl p n q DeclarationsGive.declarations) = (_, refl)
-
-str-same : {fs gs : SigRow} → Sig.Str fs ≡ Sig.Str gs → fs ≡ gs
-str-same e = cc
 
 structure-one : {s : Sig} → (fs : SigRow) × (s ≡ Sig.Str fs) → One (λ fs. s ≡ Sig.Str fs)
 structure-one p = (p.0, p.1, λ gs e. str-same (sym e ∙ p.1))
@@ -144,7 +132,7 @@ functor_sig-ready : (g : Env) → OkEnv g → (pure : Bool) (x : SpanName) (b : 
 functor_sig-ready g h false x b (Abs.Ex ks s) w go = (go (with_module g ks (name_of x) s) (good-module g ks (name_of x) s h (body-ok w)), λ y p. (one-the (one_generative (Abs.Ex ks s) y), λ z r. tt))
 functor_sig-ready g h true x b (Abs.Ex ks s) w go =
     let good = good-module g ks (name_of x) s h (body-ok w) in
-    (go (with_module g ks (name_of x) s) good, λ y p. (one-the (lift-one (kinds g) ks s y w (right-abs (right-under g ks (sig_ok (with_module g ks (name_of x) s) b y good p)))), λ z l. tt))
+    (go (with_module g ks (name_of x) s) good, λ y p. (one-the (lift-one (kinds g) ks s y w (explicit-left (right-under g ks (sig_ok (with_module g ks (name_of x) s) b y good p)))), λ z l. tt))
 
 generative-ready : (g : Env) (ks : List Kind) (s : Sig) (M : Module) → OkModule (extend (kinds g) ks) M → Ready (generative g ks s M)
 generative-ready g ks s M w = (one-the (one_generative_module (kinds g) ks s M w), λ N r. tt)
@@ -181,9 +169,6 @@ after_include-ready g h before bd m bs (made f (Abs.Ex ks s) ts e) w go = (
             (one-the (include-one (kinds g) ks f fs ts e N v (module-under g ks N n)), λ K j. tt),
       ),
 )
-
-applies-one : {ctx : List Kind} {s t : Sig} {f : Effect} {param result : Abs} {ts : List Ty} {c d e : Term} → PartsGive s f param result → Match ctx t param ts c → OkSig ctx s → One (ApplyGives ctx s d ts c e)
-applies-one {ctx} {ts = ts} {c = c} {d = d} {e = e} (PartsGive.parts {f = f} {ks = ks} {s = s} {y = y}) m w = apply-one ctx ks f s y d ts c e w.0 (match-kinds m)
 
 matched-one : (g : Env) → OkEnv g → (at : Span) (s : Sig) (y : Abs) → OkSig (kinds g) s → OkRight (kinds g) y → Verdict (λ (o : List Ty × Term). Match (kinds g) s y o.0 o.1) (λ q. (r : MatchRefusal) × RefusesMatch (kinds g) s y r × (q ≡ refuse_match g at r))
 matched-one g h at s y w v = mapped (refuse_match g at) (match-verdict (kinds g) s y w v)
@@ -341,22 +326,13 @@ mutual
   binds-one g h before bd (MoreBinds (BindAt at (BindInclude m)) bs) =
       done g (binds before (MoreBinds (BindAt at (BindInclude m)) bs))
       (mod-one g h m, λ M p. after_include-ready g h before bd m bs M (mod_ok g m M h p) (λ k w names b. binds-one k w names b bs))
-  binds-one g h before bd (MoreBinds (BindAt at (BindVal x a)) bs) =
-      done g (binds before (MoreBinds (BindAt at (BindVal x a)) bs))
-      (done g (a_bind (BindAt at (BindVal x a))) (exp-one g h a, λ t p. (one-the (one_value_module t.0 t.1), λ M r. tt)), λ o p. after_bind-ready g h before bd bs o.0 o.1 (bind_ok g (BindAt at (BindVal x a)) o.0 o.1 h p) (λ k w names b. binds-one k w names b bs))
-  binds-one g h before bd (MoreBinds (BindAt at (BindTy x a)) bs) =
-      done g (binds before (MoreBinds (BindAt at (BindTy x a)) bs))
-      (done g (a_bind (BindAt at (BindTy x a))) (type-one g h a, λ t p. (one-the (one_type_module t.0 t.1), λ M r. tt)), λ o p. after_bind-ready g h before bd bs o.0 o.1 (bind_ok g (BindAt at (BindTy x a)) o.0 o.1 h p) (λ k w names b. binds-one k w names b bs))
-  binds-one g h before bd (MoreBinds (BindAt at (BindSignature x a)) bs) =
-      done g (binds before (MoreBinds (BindAt at (BindSignature x a)) bs))
-      (done g (a_bind (BindAt at (BindSignature x a))) (sig-one g h a, λ t p. (one-the (one_signature_module t), λ M r. tt)), λ o p. after_bind-ready g h before bd bs o.0 o.1 (bind_ok g (BindAt at (BindSignature x a)) o.0 o.1 h p) (λ k w names b. binds-one k w names b bs))
-  binds-one g h before bd (MoreBinds (BindAt at (BindModule x m)) bs) =
-      done g (binds before (MoreBinds (BindAt at (BindModule x m)) bs))
-      (done g (a_bind (BindAt at (BindModule x m))) (mod-one g h m, λ t p. tt), λ o p. after_bind-ready g h before bd bs o.0 o.1 (bind_ok g (BindAt at (BindModule x m)) o.0 o.1 h p) (λ k w names b. binds-one k w names b bs))
+  binds-one g h before bd (MoreBinds (BindAt at b) bs) =
+      done g (binds before (MoreBinds (BindAt at b) bs))
+      (bind-one g h (BindAt at b), λ o p. after_bind-ready g h before bd bs o.0 o.1 (bind_ok g (BindAt at b) o.0 o.1 h p) (λ k w names c. binds-one k w names c bs))
 
-pub bind-one : (g : Env) → OkEnv g → (b : Bind) → Exactly g (a_bind b)
-bind-one g h (BindAt at (BindVal x a)) = done g (a_bind (BindAt at (BindVal x a))) (exp-one g h a, λ t p. (one-the (one_value_module t.0 t.1), λ M r. tt))
-bind-one g h (BindAt at (BindTy x a)) = done g (a_bind (BindAt at (BindTy x a))) (type-one g h a, λ t p. (one-the (one_type_module t.0 t.1), λ M r. tt))
-bind-one g h (BindAt at (BindSignature x a)) = done g (a_bind (BindAt at (BindSignature x a))) (sig-one g h a, λ t p. (one-the (one_signature_module t), λ M r. tt))
-bind-one g h (BindAt at (BindModule x m)) = done g (a_bind (BindAt at (BindModule x m))) (mod-one g h m, λ t p. tt)
-bind-one g h (BindAt at (BindInclude m)) = done g (a_bind (BindAt at (BindInclude m))) (stopped _, λ b u. absurd b)
+  pub bind-one : (g : Env) → OkEnv g → (b : Bind) → Exactly g (a_bind b)
+  bind-one g h (BindAt at (BindVal x a)) = done g (a_bind (BindAt at (BindVal x a))) (exp-one g h a, λ t p. (one-the (one_value_module t.0 t.1), λ M r. tt))
+  bind-one g h (BindAt at (BindTy x a)) = done g (a_bind (BindAt at (BindTy x a))) (type-one g h a, λ t p. (one-the (one_type_module t.0 t.1), λ M r. tt))
+  bind-one g h (BindAt at (BindSignature x a)) = done g (a_bind (BindAt at (BindSignature x a))) (sig-one g h a, λ t p. (one-the (one_signature_module t), λ M r. tt))
+  bind-one g h (BindAt at (BindModule x m)) = done g (a_bind (BindAt at (BindModule x m))) (mod-one g h m, λ t p. tt)
+  bind-one g h (BindAt at (BindInclude m)) = done g (a_bind (BindAt at (BindInclude m))) (stopped _, λ b u. absurd b)

@@ -3,7 +3,7 @@ use Rattle.std.specs.Prelude.{List, ◌∷◌, ◌≡◌, Bool, true, false}
 use Rattle.std.proofs.Common.{inl, inr}
 use Rattle.std.proofs.Math.Path.{refl, sym, subst}
 use Rattle.omega_kinds.specs.Kind.{Kind}
-use Rattle.omega_kinds.specs.declared.effect.Effect.TheVariants.{Pure, Impure}
+use Rattle.omega_kinds.specs.declared.effect.Effect.TheVariants.{Pure}
 use Rattle.omega_kinds.specs.Name.{Name}
 use Rattle.omega_types.specs.Ty.{Ty}
 use Rattle.omega_types.specs.Normality.{Normal}
@@ -17,7 +17,7 @@ use Rattle.signatures.specs.Matching.MatchRefusal.{MatchRefusal, RefusesMatch}
 use Rattle.sig_laws.specs.Good.{OkSig, OkRow, OkRight, OkEnv, OkModule}
 use Rattle.sig_laws.proofs.Algebra.FormLaws.{kinds-type_vars}
 use Rattle.sig_laws.proofs.Encoded.EncodingLaws.{enc_well_formed-normal}
-use Rattle.sig_laws.proofs.Formed.Conditions.{explicit-right, explicit-abs, abs-body, structure-row}
+use Rattle.sig_laws.proofs.Formed.Conditions.{explicit-abs, abs-body, structure-row}
 use Rattle.fing_syntax.specs.Phrase.{Span, SpanName, Mod, ModAt, ModName, ModStruct, ModProject, ModFunctor, ModApply, ModSeal, ModUnpack, Bind, BindAt, BindVal, BindTy, BindModule, BindSignature, BindInclude, Binds, NoBinds, MoreBinds, SigEx, SigAt, PathSig, SigDecls, SigFun, SigRefine, Decl, DeclAt, DeclVal, DeclTyIs, DeclTyOf, DeclModule, DeclSignature, DeclInclude, Decls, NoDecls, MoreDecls, TyEx, TyAt, PathTy, TyInt, TyBool, TyText, TyArrow, TyApply, TyFields, TyAll, TyLam, TyPack, TyExs, NoTys, MoreTys, FieldTyExs, NoFieldTys, MoreFieldTys, Exp, ExpAt, PathExp, ExpInt, ExpBool, ExpText, ExpLam, ExpTyLam, ExpFix, ExpIf, ExpOps, ExpApply, ExpFields, ExpGet, ExpPack, OpExps, NoOps, MoreOps, ArgExp, ArgTy, Args, NoArgs, MoreArgs, FieldExps, NoFieldExps, MoreFieldExps}
 use Rattle.fing_syntax.specs.Place.{name_of}
 use Rattle.fing_refusals.specs.Refusal.{Refusal, ElabWhy, NotArrow, NotAll, NotRecord, Differ, KindDiffer, DuplicateField, NotOperator, NotStructure}
@@ -29,7 +29,7 @@ use Rattle.sig_rules.specs.SigWhy.{SigWhy}
 use Rattle.module_rules.specs.ModWhy.{ModWhy}
 use Rattle.module_rules.proofs.Verdicts.{param-ok}
 use Rattle.packages.specs.Package.{UnpackWhy, UnpackRefuses}
-use Rattle.premise_laws.proofs.Environments.{good-module, good-fields, good-type_fields, find-good}
+use Rattle.premise_laws.proofs.Environments.{body-ok, good-module, good-fields, good-type_fields, find-good}
 use Rattle.elab_rules.specs.Operators.{include_name}
 use Rattle.elab_rules.specs.Refusals.Refusal.{refuse, refuse_match, of_core, of_sig, of_mod, of_unpack}
 use Rattle.elab_rules.specs.Refusals.Task.{Task, Result, Means, a_type, type_args, type_fields, an_exp, operands, args, fields, a_sig, a_decl, decls, a_mod, a_bind, binds}
@@ -84,21 +84,14 @@ by_core g at f r q = told g at (of_core q.0) (f q.0 q.1) r q.2
 
 of_mod-good : (ctx : List Kind) (why : ModWhy) → GoodWhy ctx (of_mod why)
 of_mod-good ctx (ModWhy.Unbound l) = tt
-of_mod-good ctx (ModWhy.NoPart l) = tt
-of_mod-good ctx ModWhy.NotStructure = tt
-of_mod-good ctx ModWhy.NotFunctor = tt
-of_mod-good ctx ModWhy.WrongPath = tt
-of_mod-good ctx ModWhy.Escapes = tt
+of_mod-good ctx _ = tt
 
 by_mod : {T : ModWhy → Type 0} (g : Env) (at : Span) (r : Refusal) → (why : ModWhy) × T why × (r ≡ refuse g at (of_mod why)) → GoodRefusal r
 by_mod g at r q = told g at (of_mod q.0) (of_mod-good (kinds g) q.0) r q.2
 
 of_sig-good : (ctx : List Kind) (why : SigWhy) → GoodWhy ctx (of_sig why)
 of_sig-good ctx (SigWhy.NotAbstract p) = tt
-of_sig-good ctx (SigWhy.NoPart l) = tt
-of_sig-good ctx (SigWhy.Duplicate l) = tt
-of_sig-good ctx (SigWhy.KindDiffer k j) = tt
-of_sig-good ctx SigWhy.NotStructure = tt
+of_sig-good ctx _ = tt
 
 by_sig : {T : SigWhy → Type 0} (g : Env) (at : Span) (r : Refusal) → (why : SigWhy) × T why × (r ≡ refuse g at (of_sig why)) → GoodRefusal r
 by_sig g at r q = told g at (of_sig q.0) (of_sig-good (kinds g) q.0) r q.2
@@ -172,16 +165,9 @@ applied-normal : {ctx : List Kind} {t u v : Ty} {k j l : Kind} → AppliedGives 
 applied-normal (AppliedGives.applied f) = f.0
 
 operation-normal : {ctx : List Kind} {o : Op} {t u v : Ty} {d e c : Term} → OperationGives o t d u e v c → Normal ctx v Kind.Star
-operation-normal (OperationGives.operation {o = Op.Add}) = n_int
-operation-normal (OperationGives.operation {o = Op.Sub}) = n_int
-operation-normal (OperationGives.operation {o = Op.Mul}) = n_int
-operation-normal (OperationGives.operation {o = Op.Div}) = n_int
-operation-normal (OperationGives.operation {o = Op.Rem}) = n_int
 operation-normal (OperationGives.operation {o = Op.Less}) = n_bool
 operation-normal (OperationGives.operation {o = Op.Equal}) = n_bool
-
-body-ok : {ctx ks : List Kind} {s : Sig} → OkRight ctx (Abs.Ex ks s) → OkSig (extend ctx ks) s
-body-ok h = ((explicit-right h.0).0, h.1)
+operation-normal OperationGives.operation = n_int
 
 -- the rules
 
@@ -288,8 +274,7 @@ decls-safe g h before (MoreDecls d ds) = ((h, tt), λ x p. decls_from-safe g h b
 
 functor_of-safe : (g : Env) (ks : List Kind) (s : Sig) (gen : Bool) (M : Module) → Safe (functor_of g ks s gen M)
 functor_of-safe g ks s false (made Pure y ts e) = (none, λ N r. tt)
-functor_of-safe g ks s false (made Impure y ts e) = (none, λ N r. tt)
-functor_of-safe g ks s true M = (none, λ N r. tt)
+functor_of-safe g ks s _ _ = (none, λ N r. tt)
 
 functor_body-safe : (g : Env) → OkEnv g → (gen : Bool) (x : SpanName) (b : Mod) (y : Abs) → OkRight (kinds g) y → Safe (functor_body g gen x b y)
 functor_body-safe g h gen x b (Abs.Ex ks s) w = ((good-module g ks (name_of x) s h (body-ok w), tt), λ M p. functor_of-safe g ks s gen M)
@@ -339,10 +324,7 @@ after_include-safe g h before m bs (made f (Abs.Ex ks s) ts e) w = (
 binds-safe : (g : Env) → OkEnv g → (before : List Name) (bs : Binds) → Safe (binds_steps g before bs)
 binds-safe g h before NoBinds = (none, λ o c. tt)
 binds-safe g h before (MoreBinds (BindAt at (BindInclude m)) bs) = ((h, tt), λ M p. after_include-safe g h before m bs M (mod_ok g m M h p))
-binds-safe g h before (MoreBinds (BindAt at (BindVal x a)) bs) = ((h, tt), λ o p. after_bind-safe g h before bs o.0 o.1 (bind_ok g (BindAt at (BindVal x a)) o.0 o.1 h p))
-binds-safe g h before (MoreBinds (BindAt at (BindTy x a)) bs) = ((h, tt), λ o p. after_bind-safe g h before bs o.0 o.1 (bind_ok g (BindAt at (BindTy x a)) o.0 o.1 h p))
-binds-safe g h before (MoreBinds (BindAt at (BindSignature x a)) bs) = ((h, tt), λ o p. after_bind-safe g h before bs o.0 o.1 (bind_ok g (BindAt at (BindSignature x a)) o.0 o.1 h p))
-binds-safe g h before (MoreBinds (BindAt at (BindModule x m)) bs) = ((h, tt), λ o p. after_bind-safe g h before bs o.0 o.1 (bind_ok g (BindAt at (BindModule x m)) o.0 o.1 h p))
+binds-safe g h before (MoreBinds (BindAt at b) bs) = ((h, tt), λ o p. after_bind-safe g h before bs o.0 o.1 (bind_ok g (BindAt at b) o.0 o.1 h p))
 
 steps-safe : (g : Env) (a : Task) → OkEnv g → Holds g a → Safe (steps g a)
 steps-safe g (a_type a) h k = type-safe g h a

@@ -1,22 +1,21 @@
 -- The derivation of a subtyping of functors.
-use Rattle.std.specs.Prelude.{List, [], ◌∷◌, ◌≢◌}
-use Rattle.std.proofs.Math.Path.{sym}
+use Rattle.std.specs.Prelude.{[], ◌∷◌}
+use Rattle.std.proofs.Math.Path.{refl}
 use Rattle.omega_kinds.specs.Kind.{Kind}
 use Rattle.omega_kinds.specs.declared.label.Label.{Label}
 use Rattle.omega_kinds.specs.declared.effect.Effect.TheVariants.{Impure}
 use Rattle.omega_types.specs.Ty.{Ty}
 use Rattle.omega_types.specs.Kinding.{here, there}
 use Rattle.omega_types.specs.Normality.{Normal}
-use Rattle.omega_types.specs.Normality.Normal.{n_fields, n_neutral}
+use Rattle.omega_types.specs.Normality.Normal.{n_neutral}
 use Rattle.omega_types.specs.Normality.Neutral.{n_var}
-use Rattle.omega_types.specs.Normality.Normals.{n_end, n_more}
 use Rattle.omega_types.specs.Binders.{NormalForms, OfKinds, raise}
 use Rattle.omega_types.proofs.Preservation.{normal-kind}
 use Rattle.omega_terms.specs.Term.{Term, TermRow}
 use Rattle.omega_terms.specs.Shorthands.{Packs, opens}
 use Rattle.omega_terms.specs.Coercions.{same_part, fields_part, functor_part, AbsPart}
 use Rattle.signatures.specs.Signatures.Sig.{Sig, Abs, SigRow, HasField}
-use Rattle.signatures.specs.Signatures.Alike.{AlikeSig, AlikeAbs, AlikeRow, NormalSigForm}
+use Rattle.signatures.specs.Signatures.Alike.{AlikeSig, AlikeAbs, AlikeRow}
 use Rattle.signatures.specs.Signatures.Encoding.{enc, enc_abs}
 use Rattle.signatures.specs.Matching.Subtyping.{Sub, SubFields, SubResult, SubAbs, Match}
 use Rattle.omega_terms.proofs.NormalTyping.{typed-sound}
@@ -25,16 +24,8 @@ use Rattle.sig_laws.proofs.Encoded.CoercionTyping.{sub-typed}
 use Rattle.elab_examples.specs.Rows.{t, x}
 use Rattle.elab_examples.specs.PackageRow.{u, two, hiding}
 use Rattle.elab_examples.specs.CoercionRow.{result, smaller, larger, FunctorCoercion}
-use Rattle.elab_examples.proofs.Sealing.{x-not-t}
-use Rattle.elab_examples.proofs.Packages.{var0, var1, shown-normal, label-t-u, label-t-x, label-u-x, value-normal, x-not-u}
-use Rattle.elab_examples.proofs.PackageOrder.{u-not-t}
+use Rattle.elab_examples.proofs.Parts.{differ, var0, var1, three-form, three}
 use Rattle.omega_types.proofs.BinderPuts.{its-form}
-
-t-not-u : t ≢ u
-t-not-u e = u-not-t (sym e)
-
-u-not-x : u ≢ x
-u-not-x e = x-not-u (sym e)
 
 -- the parameter's u, out of t, u and x
 abbrev inner : Term
@@ -50,19 +41,13 @@ target = Abs.Ex (Kind.Star ∷ []) (result (Ty.Var 0) (Ty.Var 1) (Ty.Var 3))
 abbrev outer : Term
 outer = Term.Lam (enc_abs target) (opens (Kind.Star ∷ []) (Term.Var 0) (enc_abs target) (Term.Pack (Ty.Var 0) (Term.Call parts (Term.Var 0)) (raise (Kind.Star ∷ []) (enc_abs target))))
 
-row-normal : {ctx : List Kind} {a b c : Ty} → Normal ctx a Kind.Star → Normal ctx b Kind.Star → Normal ctx c Kind.Star → Normal ctx (enc (result a b c)) Kind.Star
-row-normal ha hb hc = n_fields (n_more (label-t-u, (label-t-x, tt)) (shown-normal ha) (n_more (label-u-x, tt) (shown-normal hb) (n_more tt (value-normal hc) n_end)))
-
 param-matches : Match (Kind.Star ∷ Kind.Star ∷ Kind.Star ∷ []) hiding (Abs.Ex (Kind.Star ∷ []) (Sig.Str (SigRow.More u (Sig.Typ (Ty.Var 0) Kind.Star) SigRow.End))) (Ty.Var 0 ∷ []) inner
 param-matches =
     Match.at
     (OfKinds.next (normal-kind var0) OfKinds.none)
     (NormalForms.next (its-form var0) NormalForms.none)
     (AlikeSig.str (AlikeRow.more (AlikeSig.typ (its-form var0)) AlikeRow.end))
-    (Sub.str (SubFields.more (HasField.there u-not-t HasField.here) Sub.typ SubFields.end))
-
-result-form : {ctx : List Kind} {a b c : Ty} → Normal ctx a Kind.Star → Normal ctx b Kind.Star → Normal ctx c Kind.Star → NormalSigForm ctx (result a b c) (result a b c)
-result-form ha hb hc = AlikeSig.str (AlikeRow.more (AlikeSig.typ (its-form ha)) (AlikeRow.more (AlikeSig.typ (its-form hb)) (AlikeRow.more (AlikeSig.val (its-form hc)) AlikeRow.end)))
+    (Sub.str (SubFields.more (HasField.there (differ refl) HasField.here) Sub.typ SubFields.end))
 
 var3 : Normal (Kind.Star ∷ Kind.Star ∷ Kind.Star ∷ Kind.Star ∷ []) (Ty.Var 3) Kind.Star
 var3 = n_neutral (n_var (there (there (there here))))
@@ -72,26 +57,26 @@ result-matches =
     Match.at
     (OfKinds.next (normal-kind var0) OfKinds.none)
     (NormalForms.next (its-form var0) NormalForms.none)
-    (result-form var0 var1 var3)
+    (three-form var0 var1 var3)
     (Sub.str
     (SubFields.more HasField.here Sub.typ
-    (SubFields.more (HasField.there u-not-t HasField.here) Sub.typ
-    (SubFields.more (HasField.there x-not-t (HasField.there x-not-u HasField.here)) Sub.val SubFields.end))))
+    (SubFields.more (HasField.there (differ refl) HasField.here) Sub.typ
+    (SubFields.more (HasField.there (differ refl) (HasField.there (differ refl) HasField.here)) Sub.val SubFields.end))))
 
 derived : Sub (Kind.Star ∷ []) smaller larger (functor_part (enc smaller) Impure Impure two (enc hiding) (Ty.Var 0 ∷ []) inner outer)
 derived =
     Sub.fun param-matches
-    (AlikeAbs.ex (result-form var0 var1 var3))
-    (SubResult.to_impure (SubAbs.hidden result-matches (AbsPart.made (Packs.next (its-form (row-normal var0 var1 var3)) Packs.none))))
+    (AlikeAbs.ex (three-form var0 var1 var3))
+    (SubResult.to_impure (SubAbs.hidden result-matches (AbsPart.made (Packs.next (its-form (three var0 var1 var3)) Packs.none))))
 
 result-shape : (a b c : Ty) → Shape (result a b c)
-result-shape a b c = ((t-not-u, ((λ e. x-not-t (sym e)), tt)), tt, ((u-not-x, tt), tt, (tt, tt, tt)))
+result-shape a b c = ((differ refl, (differ refl, tt)), tt, ((differ refl, tt), tt, (tt, tt, tt)))
 
 smaller-good : Good (Kind.Star ∷ []) smaller
 smaller-good = record { normal = ((var0, tt), (var0, (var1, (n_neutral (n_var (there (there here))), tt)))); shape = ((tt, tt, tt), result-shape (Ty.Var 0) (Ty.Var 1) (Ty.Var 2), tt) }
 
 larger-good : Good (Kind.Star ∷ []) larger
-larger-good = record { normal = ((var1, (var0, (var1, tt))), (var0, (var1, (var3, tt)))); shape = (((t-not-u, ((λ e. x-not-t (sym e)), tt)), tt, ((u-not-x, tt), tt, (tt, tt, tt))), result-shape (Ty.Var 0) (Ty.Var 1) (Ty.Var 3), tt) }
+larger-good = record { normal = ((var1, (var0, (var1, tt))), (var0, (var1, (var3, tt)))); shape = (((differ refl, (differ refl, tt)), tt, ((differ refl, tt), tt, (tt, tt, tt))), result-shape (Ty.Var 0) (Ty.Var 1) (Ty.Var 3), tt) }
 
 pub functor_coercion : FunctorCoercion
 functor_coercion = (_, derived, typed-sound (sub-typed smaller-good larger-good derived))

@@ -22,7 +22,7 @@ use Rattle.sig_laws.proofs.Encoded.EncodingTyping.{Good}
 use Rattle.elab_laws.proofs.ModuleTyping.{GoodModule, plain-module, packed-typed, seq-typed, project-typed}
 use Rattle.elab_examples.specs.Rows.{x}
 use Rattle.elab_examples.specs.OutsideRow.{hiding_value, hiding_field, OutsideProject, OutsideSeq}
-use Rattle.elab_examples.proofs.Packages.{var0, var1, value-normal}
+use Rattle.elab_examples.proofs.Parts.{var0, var1, value-normal}
 use Rattle.omega_types.proofs.BinderPuts.{its-form}
 
 -- a body with its first hidden type put back in, packed

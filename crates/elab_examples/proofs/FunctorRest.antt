@@ -1,14 +1,11 @@
 -- The identity is put in for the lifted type, and the whole program.
-use Rattle.std.specs.Prelude.{ℕ, zero, suc, List, [], ◌∷◌, ◌≡◌, ◌≢◌}
-use Rattle.std.proofs.Math.Path.{refl, ap, sym, subst, fun_ext}
-use Rattle.std.proofs.lemmas.Bool.{true≢false}
+use Rattle.std.specs.Prelude.{ℕ, List, [], ◌∷◌}
+use Rattle.std.proofs.Math.Path.{refl, sym, subst}
 use Rattle.omega_kinds.specs.Kind.{Kind}
 use Rattle.omega_kinds.specs.declared.label.Label.{Label}
 use Rattle.omega_kinds.specs.declared.effect.Effect.TheVariants.{Pure}
-use Rattle.omega_kinds.specs.Name.{same_name}
-use Rattle.omega_kinds.specs.LabelOrder.{spelling}
 use Rattle.omega_types.specs.Ty.{Ty}
-use Rattle.omega_types.specs.Substitution.{substitute, single, under}
+use Rattle.omega_types.specs.Substitution.{substitute, single}
 use Rattle.omega_types.specs.Kinding.{Lookup, HasKind, here, there}
 use Rattle.omega_types.specs.Kinding.HasKind.{k_var}
 use Rattle.omega_types.specs.Conversion.Conv.{c_beta}
@@ -35,11 +32,11 @@ use Rattle.elab_rules.specs.Judgments.Program.{ProgramMeans}
 use Rattle.elab_laws.proofs.TypedClaims.{whole_is_typed}
 use Rattle.elab_examples.specs.Rows.{t}
 use Rattle.elab_examples.specs.PackageRow.{u, A}
-use Rattle.elab_examples.specs.FunctorRow.{F, P, applicative, one_type, functor_sig, operator, applicative_sig, FunctorProgram, coercion, all_three, body_term, functor_term, apply_term, application_term, rest_term, shown_functor, identity, applicative_term, one_type_term}
-use Rattle.elab_examples.proofs.Packages.{var0, shown-normal}
-use Rattle.elab_examples.proofs.Functors.{star, operators, type-form, one-normal, at_int, functor-normal, one-instance, sealing-instance, triple-instance, apply-instance, int_struct_means, functor_means, application_means}
+use Rattle.elab_examples.specs.FunctorRow.{F, P, applicative, one_type, functor_sig, operator, applicative_sig, FunctorProgram, coercion, body_term, functor_term, apply_term, application_term, rest_term, shown_functor, identity, applicative_term, one_type_term}
+use Rattle.elab_examples.proofs.Parts.{labels-differ, var0, shown-normal, one-instance, triple-instance}
+use Rattle.elab_examples.proofs.Functors.{star, operators, type-form, one-normal, at_int, functor-normal, sealing-instance, apply-instance, int_struct_means, functor_means, application_means}
 use Rattle.omega_terms.proofs.InstanceLaws.{type-self}
-use Rattle.omega_types.proofs.BinderPuts.{its-form}
+use Rattle.omega_types.proofs.BinderPuts.{its-form, unders-var}
 
 identity-kind : {ctx : List Kind} → HasKind ctx identity operator
 identity-kind = normal-kind (n_lam var0)
@@ -54,9 +51,6 @@ put-in h = TyInstance.made h (normal-gives (kind-substitute (puts (identity ∷ 
 
 abbrev inside : Term
 inside = Term.Lam (enc (one_type u (Ty.Var 0))) (one_field Label.App body_term)
-
-all-instance : {from to : List Kind} {s : ℕ → Ty} → Instance from to s all_three all_three
-all-instance = Instance.fields (Instances.more Instance.var (Instances.more Instance.var (Instances.more Instance.var Instances.end)))
 
 put-coercion : Instance operators [] (puts (identity ∷ []) Ty.Var) (coercion u Ty.Int) (coercion u Ty.Int)
 put-coercion =
@@ -78,7 +72,7 @@ put-application =
     Instance.var)
 
 put-rest : Instance operators [] (puts (identity ∷ []) Ty.Var) (rest_term functor_sig (Ty.Apply (Ty.Var 0) Ty.Int)) (rest_term shown_functor Ty.Int)
-put-rest = Instance.call (Instance.lam (put-in (one-normal t at_int)) all-instance) put-application
+put-rest = Instance.call (Instance.lam (put-in (one-normal t at_int)) triple-instance) put-application
 
 shown-form : NormalSigForm [] (sig_at (identity ∷ []) functor_sig) shown_functor
 shown-form =
@@ -89,17 +83,10 @@ shown-form =
 shown-functor-normal : Normal [] (enc shown_functor) Kind.Star
 shown-functor-normal = n_all (n_arrow (one-normal u var0) (n_fields (n_more tt (one-normal t var0) n_end)))
 
-under-var : under Ty.Var ≡ Ty.Var
-under-var = fun_ext go
-  where
-    go : (i : ℕ) → under Ty.Var i ≡ Ty.Var i
-    go zero = refl
-    go (suc i) = refl
-
 type-instance : Instance star star Ty.Var (one_type_term t (Ty.Var 0)) (one_type_term t (Ty.Var 0))
 type-instance =
     Instance.call
-    (Instance.lam (type-self (shown-normal var0)) (one-instance t))
+    (Instance.lam (type-self (shown-normal var0)) one-instance)
     (Instance.fields (Instances.more (Instance.ty_lam (Instance.lam (TyInstance.made seen (its-form seen)) Instance.var)) Instances.end))
   where
     seen : Normal (operator ∷ star) (Ty.Apply (Ty.Var 0) (Ty.Var 1)) Kind.Star
@@ -109,7 +96,7 @@ body-instance : Instance star star Ty.Var body_term body_term
 body-instance = Instance.get (Instance.call (Instance.lam (type-self (one-normal t var0)) sealing-instance) type-instance)
 
 functor-instance : Instance [] [] Ty.Var functor_term functor_term
-functor-instance = Instance.ty_lam (subst (λ s. Instance star star s inside inside) (sym under-var) (Instance.lam (type-self (one-normal u var0)) (Instance.fields (Instances.more body-instance Instances.end))))
+functor-instance = Instance.ty_lam (subst (λ s. Instance star star s inside inside) (sym (unders-var star)) (Instance.lam (type-self (one-normal u var0)) (Instance.fields (Instances.more body-instance Instances.end))))
 
 application-instance : Instance [] [] Ty.Var (application_term shown_functor Ty.Int) (application_term shown_functor Ty.Int)
 application-instance =
@@ -125,7 +112,7 @@ application-instance =
 rest-instance : Instance [] [] Ty.Var (let_in (enc shown_functor) functor_term (rest_term shown_functor Ty.Int)) (let_in (enc shown_functor) functor_term (rest_term shown_functor Ty.Int))
 rest-instance =
     Instance.call
-    (Instance.lam (type-self shown-functor-normal) (Instance.call (Instance.lam (type-self (one-normal t n_int)) all-instance) application-instance))
+    (Instance.lam (type-self shown-functor-normal) (Instance.call (Instance.lam (type-self (one-normal t n_int)) triple-instance) application-instance))
     functor-instance
 
 program-means : BindsMean [] [] applicative (made Pure applicative_sig (identity ∷ []) applicative_term)
@@ -137,21 +124,12 @@ program-means =
     (BindsMean.next_bind
     (BindMeans.bind_module application_means)
     (BindsMean.no_binds (Collected.next refl (Collected.next refl (Collected.next refl Collected.none))))
-    (Seq.both_pure (type-form t at_int) NormalForms.none all-instance))
+    (Seq.both_pure (type-form t at_int) NormalForms.none triple-instance))
     (Seq.both_pure shown-form NormalForms.none put-rest))
     (Seq.both_pure (type-form u n_int) (NormalForms.next (its-form (n_lam var0)) NormalForms.none) rest-instance)
 
-label-A-F : Label.Name A ≢ Label.Name F
-label-A-F e = true≢false (ap (λ l. same_name A (spelling l)) e)
-
-label-A-P : Label.Name A ≢ Label.Name P
-label-A-P e = true≢false (ap (λ l. same_name A (spelling l)) e)
-
-label-F-P : Label.Name F ≢ Label.Name P
-label-F-P e = true≢false (ap (λ l. same_name F (spelling l)) e)
-
 whole-normal : Normal operators (enc (Sig.Str (SigRow.More A (one_type u Ty.Int) (SigRow.More F functor_sig (SigRow.More P (one_type t (Ty.Apply (Ty.Var 0) Ty.Int)) SigRow.End))))) Kind.Star
-whole-normal = n_fields (n_more (label-A-F, (label-A-P, tt)) (one-normal u n_int) (n_more (label-F-P, tt) functor-normal (n_more tt (one-normal t at_int) n_end)))
+whole-normal = n_fields (n_more (labels-differ refl, (labels-differ refl, tt)) (one-normal u n_int) (n_more (labels-differ refl, tt) functor-normal (n_more tt (one-normal t at_int) n_end)))
 
 program-means-whole : ProgramMeans applicative (made Pure applicative_sig (identity ∷ []) applicative_term) (Term.Pack identity applicative_term (enc_abs applicative_sig))
 program-means-whole = ProgramMeans.program program-means (Packed.pure (Packs.next (normal-gives (kind-substitute (single identity) (single-substitutes identity-kind) (normal-kind whole-normal))) Packs.none))

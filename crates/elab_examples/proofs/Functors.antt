@@ -1,5 +1,5 @@
 -- The derivation of a program with an applicative functor.
-use Rattle.std.specs.Prelude.{ℕ, List, [], ◌∷◌}
+use Rattle.std.specs.Prelude.{List, [], ◌∷◌}
 use Rattle.std.proofs.Math.Path.{refl}
 use Rattle.omega_kinds.specs.Kind.{Kind}
 use Rattle.omega_kinds.specs.declared.label.Label.{Label}
@@ -37,8 +37,8 @@ use Rattle.signatures.specs.Explicit.WellFormed.{WellFormed, WellFormedRow}
 use Rattle.elab_laws.proofs.TypedClaims.{module_is_typed}
 use Rattle.elab_examples.specs.Rows.{t, h1}
 use Rattle.elab_examples.specs.PackageRow.{u, A}
-use Rattle.elab_examples.specs.FunctorRow.{GenerativeMeans, generative_functor, generative_sig, X, F, param, target, inner, body, functor, application, int_struct, one_type, functor_sig, operator, one_term, one_type_term, coercion, pair, triple, sealing_rest, body_term, functor_term, apply_term, application_term, identity}
-use Rattle.elab_examples.proofs.Packages.{var0, shown-normal, var-path}
+use Rattle.elab_examples.specs.FunctorRow.{GenerativeMeans, generative_functor, generative_sig, X, F, param, target, inner, body, functor, application, int_struct, one_type, functor_sig, operator, one_type_term, coercion, triple, sealing_rest, body_term, functor_term, apply_term, application_term, identity}
+use Rattle.elab_examples.proofs.Parts.{own-path, var0, shown-normal, one-instance, pair-instance, triple-instance, part-instance}
 use Rattle.omega_terms.proofs.InstanceLaws.{type-self}
 use Rattle.omega_types.proofs.BinderPuts.{its-form}
 
@@ -67,12 +67,6 @@ matches {ctx} {a} l h =
     (type-form l h)
     (Sub.str (SubFields.more HasField.here Sub.typ SubFields.end))
 
--- a normal type stays where nothing is put in
-
--- a record of one field of the innermost variable
-pub one-instance : {ctx : List Kind} (l : Name) → Instance ctx ctx Ty.Var (one_term l (Term.Var 0)) (one_term l (Term.Var 0))
-one-instance l = Instance.fields (Instances.more Instance.var Instances.end)
-
 param_means : (g : Env) → SigMeans g param (Abs.Ex star (one_type u (Ty.Var 0)))
 param_means g = SigMeans.sig_decls (DeclsMean.next_decl (DeclMeans.decl_of AbstractGives.abstract) (tt, tt) DeclsMean.no_decls DeclarationsGive.declarations)
 
@@ -85,7 +79,7 @@ int_struct_means =
     (BindsMean.next_bind
     (BindMeans.bind_ty (TyMeans.ty_int BaseGives.int) TypeModule.type)
     (BindsMean.no_binds (Collected.next refl Collected.none))
-    (Seq.both_pure (AlikeSig.typ (its-form n_int)) NormalForms.none (one-instance u)))
+    (Seq.both_pure (AlikeSig.typ (its-form n_int)) NormalForms.none one-instance))
 
 -- under the parameter
 abbrev in_functor : Env
@@ -95,17 +89,12 @@ inner_means : ModMeans in_functor inner (made Pure (Abs.Ex [] (one_type t (Ty.Va
 inner_means =
     ModMeans.mod_struct
     (BindsMean.next_bind
-    (BindMeans.bind_ty (TyMeans.ty_path (ModMeans.mod_project (ModMeans.mod_name (NamedGives.named refl)) (Projected.pure HasField.here)) (TypeOfPath.type_of (var-path var0))) TypeModule.type)
+    (BindMeans.bind_ty (TyMeans.ty_path (ModMeans.mod_project (ModMeans.mod_name (NamedGives.named refl)) (Projected.pure HasField.here)) (TypeOfPath.type_of (own-path var0))) TypeModule.type)
     (BindsMean.no_binds (Collected.next refl Collected.none))
-    (Seq.both_pure (AlikeSig.typ (its-form var0)) NormalForms.none (one-instance t)))
-
-pair-instance : {from to : List Kind} {s : ℕ → Ty} → Instance from to s pair pair
-pair-instance = Instance.fields (Instances.more Instance.var (Instances.more Instance.var Instances.end))
+    (Seq.both_pure (AlikeSig.typ (its-form var0)) NormalForms.none one-instance))
 
 pub coercion-instance : {ctx : List Kind} {a : Ty} (l : Name) → Normal ctx a Kind.Star → Instance ctx ctx Ty.Var (coercion l a) (coercion l a)
-coercion-instance {ctx} {a} l h =
-    Instance.lam (type-self (one-normal l h))
-    (Instance.fields (Instances.more (Instance.call (Instance.lam (type-self (shown-normal h)) Instance.var) (Instance.get Instance.var)) Instances.end))
+coercion-instance l h = Instance.lam (type-self (one-normal l h)) (Instance.fields (Instances.more (part-instance (shown-normal h)) Instances.end))
 
 pub sealing-instance : Instance star star Ty.Var sealing_rest sealing_rest
 sealing-instance = Instance.call (Instance.lam (type-self (one-normal t var0)) pair-instance) (Instance.call (coercion-instance t var0) Instance.var)
@@ -144,9 +133,6 @@ functor-form = AlikeSig.fun (type-form u var0) (AlikeAbs.ex (type-form t under_p
 
 pub functor-normal : Normal operators (enc functor_sig) Kind.Star
 functor-normal = n_all (n_arrow (one-normal u var0) (n_fields (n_more tt (one-normal t under_param) n_end)))
-
-pub triple-instance : {from to : List Kind} {s : ℕ → Ty} → Instance from to s triple triple
-triple-instance = Instance.fields (Instances.more Instance.var (Instances.more Instance.var (Instances.more Instance.var Instances.end)))
 
 pub apply-instance : {ctx : List Kind} → Instance ctx ctx Ty.Var apply_term apply_term
 apply-instance = Instance.get (Instance.call (Instance.inst Instance.var (type-self n_int)) (Instance.call (coercion-instance u n_int) Instance.var))

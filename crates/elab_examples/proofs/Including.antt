@@ -1,14 +1,10 @@
 -- The derivations of an include and of two refinements.
-use Rattle.std.specs.Prelude.{ℕ, List, [], ◌∷◌, ◌≢◌}
-use Rattle.std.proofs.Math.Path.{refl, ap}
-use Rattle.std.proofs.lemmas.Bool.{true≢false}
+use Rattle.std.specs.Prelude.{ℕ, List, [], ◌∷◌}
+use Rattle.std.proofs.Math.Path.{refl}
 use Rattle.omega_kinds.specs.Kind.{Kind}
 use Rattle.omega_kinds.specs.declared.label.Label.{Label}
-use Rattle.omega_kinds.specs.Name.{same_name}
-use Rattle.omega_kinds.specs.LabelOrder.{spelling}
 use Rattle.omega_types.specs.Ty.{Ty}
 use Rattle.omega_types.specs.Kinding.{here, there}
-use Rattle.omega_types.specs.Conversion.Conv.{c_refl}
 use Rattle.omega_types.specs.Normality.{Normal}
 use Rattle.omega_types.specs.Normality.Normal.{n_int, n_ex, n_fields, n_neutral}
 use Rattle.omega_types.specs.Normality.Normals.{n_end, n_more}
@@ -20,11 +16,11 @@ use Rattle.omega_terms.specs.Shorthands.{let_in, opens, Packs}
 use Rattle.omega_terms.specs.PartTerms.{type_term}
 use Rattle.omega_terms.specs.Instance.{Instance, Instances}
 use Rattle.signatures.specs.Signatures.Sig.{Sig, Abs, SigRow, HasField, made}
-use Rattle.signatures.specs.Signatures.Alike.{AlikeSig, AlikeRow}
+use Rattle.signatures.specs.Signatures.Alike.{AlikeSig}
 use Rattle.signatures.specs.Signatures.Encoding.{enc, enc_abs}
 use Rattle.signatures.specs.Explicit.SigPath.{PartAt}
 use Rattle.signatures.specs.Packing.{Packed}
-use Rattle.module_rules.specs.PathUse.{Outside, TypeOfPath, ValueOfPath}
+use Rattle.module_rules.specs.PathUse.{TypeOfPath, ValueOfPath}
 use Rattle.module_rules.specs.Projection.{Projected}
 use Rattle.module_rules.specs.Sequence.{Seq, Collected, field_lets, past_opens}
 use Rattle.module_rules.specs.ModRules.{TypeGives as TypeModule, NamedGives, IncludeGives as IncludeModule}
@@ -34,24 +30,15 @@ use Rattle.sig_rules.specs.Refinement.{Refined}
 use Rattle.omega_kinds.specs.declared.effect.Effect.TheVariants.{Impure}
 use Rattle.omega_terms.specs.Typing.{HasType}
 use Rattle.signatures.specs.Explicit.WellFormed.{WellFormed}
-use Rattle.fing_syntax.specs.Phrase.{Mod}
+use Rattle.fing_syntax.specs.Phrase.{Mod, ModAt, ModUnpack, ExpAt, PathExp}
 use Rattle.elab_laws.proofs.TypedClaims.{module_is_typed}
 use Rattle.elab_examples.specs.Rows.{t, x}
-use Rattle.elab_examples.specs.PackageRow.{u, A, two, hiding, package_type}
+use Rattle.elab_examples.specs.PackageRow.{u, p, A, o, named, two, t_first, hiding, package_type}
 use Rattle.elab_examples.specs.IncludeRow.{with_p, including, x_of_p, including_sig, IncludeMeans, FixingT, FixingU, ProjectMeans}
-use Rattle.elab_examples.proofs.Sealing.{x-not-t}
-use Rattle.elab_examples.proofs.Packages.{t_first_means, t_first_norm, package_type-normal, var0, var1, var-path, shown-normal, value-normal, label-t-u, label-t-x, label-u-x, x-not-u}
-use Rattle.elab_examples.proofs.PackageOrder.{fields_of, u-not-t}
+use Rattle.elab_examples.proofs.Packages.{t_first_means, t_first_norm, package_type-normal}
+use Rattle.elab_examples.proofs.Parts.{differ, labels-differ, own-path, var0, var1, shown-normal, value-normal, three-form}
+use Rattle.elab_examples.proofs.PackageOrder.{fields_of}
 use Rattle.omega_types.proofs.BinderPuts.{its-form}
-
-label-A-t : Label.Name A ≢ Label.Name t
-label-A-t e = true≢false (ap (λ l. same_name A (spelling l)) e)
-
-label-A-u : Label.Name A ≢ Label.Name u
-label-A-u e = true≢false (ap (λ l. same_name A (spelling l)) e)
-
-label-A-x : Label.Name A ≢ Label.Name x
-label-A-x e = true≢false (ap (λ l. same_name A (spelling l)) e)
 
 -- A, t, u and x after the lets of the included fields
 abbrev record_term : Term
@@ -65,8 +52,8 @@ whole_sig a b = Sig.Str (SigRow.More A (Sig.Typ a Kind.Star) (SigRow.More t (Sig
 
 whole-normal : {ctx : List Kind} {a b : Ty} → Normal ctx a Kind.Star → Normal ctx b Kind.Star → Normal ctx (enc (whole_sig a b)) Kind.Star
 whole-normal ha hb =
-    n_fields (n_more (label-A-t, (label-A-u, (label-A-x, tt))) (shown-normal ha)
-    (n_more (label-t-u, (label-t-x, tt)) (shown-normal ha) (n_more (label-u-x, tt) (shown-normal hb) (n_more tt (value-normal ha) n_end))))
+    n_fields (n_more (labels-differ refl, (labels-differ refl, (labels-differ refl, tt))) (shown-normal ha)
+    (n_more (labels-differ refl, (labels-differ refl, tt)) (shown-normal ha) (n_more (labels-differ refl, tt) (shown-normal hb) (n_more tt (value-normal ha) n_end))))
 
 abbrev packed_term : Term
 packed_term = Term.Pack (Ty.Var 1) (Term.Pack (Ty.Var 0) (past_opens two lets_term) (Ty.Ex Kind.Star (enc (whole_sig (Ty.Var 2) (Ty.Var 0))))) (raise two (enc_abs including_sig))
@@ -80,17 +67,15 @@ record-instance = Instance.fields (Instances.more Instance.var (Instances.more I
 typed_here : {m : Mod} {x : Abs} {e : Term} → ModMeans with_p m (made Impure x [] e) → HasType [] (enc (Sig.Val package_type) ∷ []) e (enc_abs x)
 typed_here {m} {x} {e} p = module_is_typed with_p m Impure x [] e e (WellFormed.val (normal-kind package_type-normal), tt) (package_type-normal, tt) p Packed.impure
 
+unpacked_means : ModMeans with_p (ModAt o (ModUnpack (ExpAt o (PathExp (named p))) t_first)) (made Impure (Abs.Ex two hiding) [] (Term.Get (Term.Var 0) Label.Val))
+unpacked_means = ModMeans.mod_unpack (ExpMeans.exp_path (ModMeans.mod_name (NamedGives.named refl)) (ValueOfPath.value_at (own-path package_type-normal))) (t_first_means with_p) (t_first_norm []) UnpackGives.unpack
+
 include_derived : ModMeans with_p including (made Impure including_sig [] (opens two (Term.Get (Term.Var 0) Label.Val) (enc_abs (Abs.Ex two hiding)) packed_term))
 include_derived =
     ModMeans.mod_struct
-    (BindsMean.next_include
-    (ModMeans.mod_unpack
-    (ExpMeans.exp_path (ModMeans.mod_name (NamedGives.named refl)) (ValueOfPath.value_at (Outside.outside package_type (c_refl (normal-kind package_type-normal)) (its-form package_type-normal))))
-    (t_first_means with_p)
-    (t_first_norm [])
-    UnpackGives.unpack)
+    (BindsMean.next_include unpacked_means
     (BindsMean.next_bind
-    (BindMeans.bind_ty (TyMeans.ty_path (ModMeans.mod_name (NamedGives.named refl)) (TypeOfPath.type_of (var-path var1))) TypeModule.type)
+    (BindMeans.bind_ty (TyMeans.ty_path (ModMeans.mod_name (NamedGives.named refl)) (TypeOfPath.type_of (own-path var1))) TypeModule.type)
     (BindsMean.no_binds (Collected.next refl (Collected.next refl (Collected.next refl (Collected.next refl Collected.none)))))
     (Seq.both_pure (AlikeSig.typ (its-form var1)) NormalForms.none record-instance))
     (IncludeModule.include (Seq.some_impure refl Packed.impure (Packed.pure Packs.none) packing)))
@@ -99,23 +84,18 @@ pub include_means : IncludeMeans
 include_means = (_, include_derived, typed_here include_derived)
 
 pub fixing_t : FixingT
-fixing_t = Refined.refined [] (Kind.Star ∷ []) refl (PartAt.field HasField.here PartAt.end) (AlikeSig.str (AlikeRow.more (AlikeSig.typ (its-form n_int)) (AlikeRow.more (AlikeSig.typ (its-form var0)) (AlikeRow.more (AlikeSig.val (its-form n_int)) AlikeRow.end))))
+fixing_t = Refined.refined [] (Kind.Star ∷ []) refl (PartAt.field HasField.here PartAt.end) (three-form n_int var0 n_int)
 
 pub fixing_u : FixingU
-fixing_u = Refined.refined (Kind.Star ∷ []) [] refl (PartAt.field (HasField.there u-not-t HasField.here) PartAt.end) (AlikeSig.str (AlikeRow.more (AlikeSig.typ (its-form var0)) (AlikeRow.more (AlikeSig.typ (its-form var1)) (AlikeRow.more (AlikeSig.val (its-form var0)) AlikeRow.end))))
+fixing_u = Refined.refined (Kind.Star ∷ []) [] refl (PartAt.field (HasField.there (differ refl) HasField.here) PartAt.end) (three-form var0 var1 var0)
 
 abbrev projected_term : Term
 projected_term = Term.Pack (Ty.Var 1) (Term.Pack (Ty.Var 0) (Term.Get (Term.Var 0) (Label.Name x)) (Ty.Ex Kind.Star (enc (Sig.Val (Ty.Var 2))))) (raise two (enc_abs (Abs.Ex two (Sig.Val (Ty.Var 1)))))
 
 project_derived : ModMeans with_p x_of_p (made Impure (Abs.Ex two (Sig.Val (Ty.Var 1))) [] (opens two (Term.Get (Term.Var 0) Label.Val) (enc_abs (Abs.Ex two hiding)) projected_term))
 project_derived =
-    ModMeans.mod_project
-    (ModMeans.mod_unpack
-    (ExpMeans.exp_path (ModMeans.mod_name (NamedGives.named refl)) (ValueOfPath.value_at (Outside.outside package_type (c_refl (normal-kind package_type-normal)) (its-form package_type-normal))))
-    (t_first_means with_p)
-    (t_first_norm [])
-    UnpackGives.unpack)
-    (Projected.impure (HasField.there x-not-t (HasField.there x-not-u HasField.here)) (Packs.next (its-form (n_ex (value-normal (n_neutral (n_var (there (there here))))))) (Packs.next (its-form (value-normal var1)) Packs.none)))
+    ModMeans.mod_project unpacked_means
+    (Projected.impure (HasField.there (differ refl) (HasField.there (differ refl) HasField.here)) (Packs.next (its-form (n_ex (value-normal (n_neutral (n_var (there (there here))))))) (Packs.next (its-form (value-normal var1)) Packs.none)))
 
 pub project_means : ProjectMeans
 project_means = (_, project_derived, typed_here project_derived)

@@ -6,6 +6,7 @@ pub mod Including
 pub mod PackageOrder
 pub mod Outcomes
 pub mod Packages
+pub mod Parts
 pub mod Refusals
 pub mod Sealing
 pub mod Sharing

@@ -20,7 +20,6 @@ use Rattle.signatures.specs.Matching.Subtyping.{Match}
 use Rattle.signatures.specs.Signatures.FieldOrder.{with_name}
 use Rattle.sig_laws.proofs.Algebra.FormLaws.{module-under}
 use Rattle.sig_laws.proofs.Formed.Conditions.{abs-body}
-use Rattle.match_laws.proofs.OneMatch.Views.{field-unique}
 use Rattle.fing_syntax.specs.Phrase.{Span, SpanName, Mod, ModAt, ModStruct, ModProject, ModFunctor, ModApply, Bind, BindAt, BindModule, Binds, NoBinds, MoreBinds, SigEx}
 use Rattle.fing_syntax.specs.Place.{name_of}
 use Rattle.module_rules.specs.Projection.{Projected}
@@ -34,6 +33,7 @@ use Rattle.elab_laws.proofs.FieldLaws.{rise-with_name}
 use Rattle.premise_laws.proofs.Environments.{good-module, bound-bind}
 use Rattle.premise_laws.proofs.Determined.{packed-one}
 use Rattle.module_rules.proofs.Determined.{seq-one, projected-one}
+use Rattle.sig_laws.proofs.Algebra.PathLaws.{one-field}
 
 abbrev pub ModShows : Env → Mod → Effect → Abs → Type 0
 ModShows g m f x = (ts : List Ty) × (e : Term) × ModMeans g m (made f x ts e)
@@ -57,8 +57,8 @@ ProjectedSig f ks s N = (ts : List Ty) × (e : Term) × (N ≡ made f (Abs.Ex ks
 
 projected-sig : {ctx ks : List Kind} {f : Effect} {fs : SigRow} {ts : List Ty} {e : Term} {l : Name} {s : Sig} {N : Module} → HasField fs l s → Projected ctx (made f (Abs.Ex ks (Sig.Str fs)) ts e) l N → ProjectedSig f ks s N
 unfolding ProjectedSig
-projected-sig {ks = ks} {ts = ts} {e = e} {l = l} h (Projected.pure i) = let d = Term.Get e (Label.Name l) in (ts, d, ap (λ s. made Pure (Abs.Ex ks s) ts d) (field-unique i h))
-projected-sig {ks = ks} {fs = fs} {e = e} h (Projected.impure {d = d} i p) = let c = opens ks e (enc_abs (Abs.Ex ks (Sig.Str fs))) d in ([], c, ap (λ s. made Impure (Abs.Ex ks s) [] c) (field-unique i h))
+projected-sig {ks = ks} {ts = ts} {e = e} {l = l} h (Projected.pure i) = let d = Term.Get e (Label.Name l) in (ts, d, ap (λ s. made Pure (Abs.Ex ks s) ts d) (one-field i h refl))
+projected-sig {ks = ks} {fs = fs} {e = e} h (Projected.impure {d = d} i p) = let c = opens ks e (enc_abs (Abs.Ex ks (Sig.Str fs))) d in ([], c, ap (λ s. made Impure (Abs.Ex ks s) [] c) (one-field i h refl))
 
 pub show-project : {g : Env} {at : Span} {m : Mod} {x : SpanName} {f : Effect} {ks : List Kind} {fs : SigRow} {s : Sig} → OkEnv g → ModShows g m f (Abs.Ex ks (Sig.Str fs)) → HasField fs (name_of x) s → ModShows g (ModAt at (ModProject m x)) f (Abs.Ex ks s)
 unfolding ProjectedSig

@@ -1,28 +1,25 @@
 -- The order of the quantifiers of two signatures with the same fields.
-use Rattle.std.specs.Prelude.{ℕ, zero, suc, List, [], ◌∷◌, ◌≡◌, ◌≢◌, ◌<◌, Bool, true, false, IsTrue}
+use Rattle.std.specs.Prelude.{ℕ, zero, suc, List, [], ◌∷◌, ◌≡◌, ◌≢◌, ◌<◌, IsTrue}
 use Rattle.std.proofs.Common.{arith}
-use Rattle.std.proofs.Math.Path.{refl, ap, sym, subst}
-use Rattle.std.proofs.lemmas.Bool.{true≢false, false≢true}
+use Rattle.std.proofs.Math.Path.{refl, sym, subst}
+use Rattle.std.proofs.lemmas.Bool.{false≢true}
 use Rattle.omega_kinds.specs.Kind.{Kind}
-use Rattle.omega_kinds.specs.Name.{Name, same_name}
+use Rattle.omega_kinds.specs.Name.{Name}
 use Rattle.omega_kinds.specs.LabelOrder.{name_before}
 use Rattle.omega_types.specs.Ty.{Ty}
-use Rattle.omega_types.specs.Kinding.{HasKind, Lookup, here, there}
+use Rattle.omega_types.specs.Kinding.{Lookup, here, there}
 use Rattle.omega_types.specs.Kinding.HasKind.{k_var}
 use Rattle.omega_types.specs.Conversion.{Conv}
 use Rattle.omega_types.specs.Conversion.Conv.{c_refl}
 use Rattle.omega_types.specs.Binders.{extend, own, applied}
-use Rattle.omega_types.specs.Normality.{Normal}
-use Rattle.omega_types.specs.Normality.Normal.{n_neutral}
-use Rattle.omega_types.specs.Normality.Neutral.{n_var}
-use Rattle.omega_types.proofs.Preservation.{conv-kinds}
-use Rattle.omega_types.proofs.Readback.{unique_normal_forms}
+use Rattle.norm_laws.proofs.Orders.Heads.{one-variable}
 use Rattle.signatures.specs.Signatures.Sig.{Sig, SigRow, HasField}
 use Rattle.signatures.specs.Explicit.SigPath.{SigPath, Item, PartAt, ParamOn, PathBefore, ItemBefore}
 use Rattle.signatures.specs.Explicit.RootPath.{Rooted, ParamsAvoid}
 use Rattle.signatures.specs.QuantifierOrder.{Counts, Taking, NewOrder}
 use Rattle.elab_examples.specs.Rows.{t, x}
 use Rattle.elab_examples.specs.PackageRow.{u, two}
+use Rattle.elab_examples.proofs.Parts.{differ}
 
 -- the structures of t, u and x, a and b being the indexes of t and u
 abbrev pub fields_of : ℕ → ℕ → SigRow
@@ -31,7 +28,7 @@ fields_of a b = SigRow.More t (Sig.Typ (Ty.Var a) Kind.Star) (SigRow.More u (Sig
 pub no-params-at-end : {s q : Sig} {ds ks : List Kind} → ParamOn s [] ds ks q → ⊥
 no-params-at-end p = elim p [ ]
 
-no-params : {fs : SigRow} {l : Name} {q : Sig} {ds ks : List Kind} → ParamOn (Sig.Str fs) (Item.Part l ∷ []) ds ks q → ⊥
+pub no-params : {fs : SigRow} {l : Name} {q : Sig} {ds ks : List Kind} → ParamOn (Sig.Str fs) (Item.Part l ∷ []) ds ks q → ⊥
 no-params (ParamOn.field h p) = no-params-at-end p
 
 params : (ctx : List Kind) (fs : SigRow) (l : Name) (i : ℕ) → ParamsAvoid ctx (Sig.Str fs) (Item.Part l ∷ []) i
@@ -62,51 +59,19 @@ no-path-before-t p PathBefore.begins = not-at-end p
 no-path-before-t (PartAt.field h p) (PathBefore.first (ItemBefore.by_name e)) = no-field-before-t h e
 no-path-before-t p (PathBefore.later e) = elim e [ ]
 
--- of two different variables none is convertible to the other
-var-of : Ty → ℕ
-var-of (Ty.Var i) = i
-var-of v = 0
-
-type-of : Sig → Ty
-type-of (Sig.Typ v k) = v
-type-of s = Ty.Int
-
-kind-of : Sig → Kind
-kind-of (Sig.Typ v k) = k
-kind-of s = Kind.Star
-
-is-type : Sig → Bool
-is-type (Sig.Typ v k) = true
-is-type s = false
-
 -- what the paths into a type part lead to
-at-part : {s : Sig} {v w : Ty} {q : SigPath} {bs : List Kind} {k j : Kind} → s ≡ Sig.Typ v j → PartAt s q bs (Sig.Typ w k) → (bs ≡ []) × (w ≡ v) × (k ≡ j)
-unfolding type-of kind-of is-type
-at-part e PartAt.end = (refl, ap type-of e, ap kind-of e)
-at-part e (PartAt.field h p) = absurd (false≢true (ap is-type e))
-at-part e (PartAt.result p) = absurd (false≢true (ap is-type e))
+at-part : {s : Sig} {v w : Ty} {q : SigPath} {bs : List Kind} {k j : Kind} → s ≡ Sig.Typ v j → PartAt s q bs (Sig.Typ w k) → (bs ≡ []) × (w ≡ v)
+at-part e PartAt.end = (refl, (cc))
+at-part e (PartAt.field h p) = absurd (cc)
+at-part e (PartAt.result p) = absurd (cc)
 
-before-u : {a b : ℕ} {q : SigPath} {bs : List Kind} {w : Ty} {k : Kind} → PartAt (Sig.Str (fields_of a b)) q bs (Sig.Typ w k) → PathBefore q (Item.Part u ∷ []) → (bs ≡ []) × (w ≡ Ty.Var a) × (k ≡ Kind.Star)
+before-u : {a b : ℕ} {q : SigPath} {bs : List Kind} {w : Ty} {k : Kind} → PartAt (Sig.Str (fields_of a b)) q bs (Sig.Typ w k) → PathBefore q (Item.Part u ∷ []) → (bs ≡ []) × (w ≡ Ty.Var a)
 before-u p PathBefore.begins = absurd (not-at-end p)
 before-u (PartAt.field h p) (PathBefore.first (ItemBefore.by_name e)) = at-part (only-t-before-u h e) p
 before-u p (PathBefore.later e) = elim e [ ]
 
-var-normal : {ctx : List Kind} {i : ℕ} → HasKind ctx (Ty.Var i) Kind.Star → Normal ctx (Ty.Var i) Kind.Star
-var-normal (k_var h) = n_neutral (n_var h)
-
--- of two different variables none is convertible to the other
-same-var : {ctx : List Kind} {a i : ℕ} → Conv ctx (Ty.Var a) (Ty.Var i) Kind.Star → a ≡ i
-unfolding var-of
-same-var {ctx} {a} {i} c = let h = conv-kinds c in ap var-of (unique_normal_forms ctx (Ty.Var a) (Ty.Var i) Kind.Star (var-normal h.0) (var-normal h.1) c)
-
-rooted-var : (ctx : List Kind) {bs : List Kind} {w : Ty} {k : Kind} {a i : ℕ} → (bs ≡ []) × (w ≡ Ty.Var a) × (k ≡ Kind.Star) → Conv (extend ctx bs) w (applied bs (Ty.Var i)) k → a ≡ i
-rooted-var ctx {bs} {w} {k} {a} {i} e c =
-    let c1 : Conv ctx w (Ty.Var i) k = subst (λ z. Conv (extend ctx z) w (applied z (Ty.Var i)) k) e.0 c in
-    let c2 : Conv ctx (Ty.Var a) (Ty.Var i) k = subst (λ z. Conv ctx z (Ty.Var i) k) e.1 c1 in
-    same-var (subst (λ z. Conv ctx (Ty.Var a) (Ty.Var i) z) e.2 c2)
-
-pub u-not-t : u ≢ t
-u-not-t e = true≢false (ap (same_name u) e)
+rooted-var : (ctx : List Kind) {bs : List Kind} {w : Ty} {k : Kind} {a i : ℕ} → (bs ≡ []) × (w ≡ Ty.Var a) → Conv (extend ctx bs) w (applied bs (Ty.Var i)) k → a ≡ i
+rooted-var ctx {w = w} {k = k} {i = i} e c = one-variable (subst (λ z. Conv ctx z (Ty.Var i) k) e.1 (subst (λ z. Conv (extend ctx z) w (applied z (Ty.Var i)) k) e.0 c))
 
 -- t's variable is taken first, then u's
 pub order-of : (ctx : List Kind) (i j : ℕ) → i < 2 → j < 2 → i ≢ j → ((m : ℕ) → m < 2 → m ≢ j → m ≢ i → ⊥) → Lookup (extend ctx two) (own two i) Kind.Star → Lookup (extend ctx two) (own two j) Kind.Star → NewOrder ctx two (Sig.Str (fields_of (own two i) (own two j))) (i ∷ j ∷ [])
@@ -115,7 +80,7 @@ order-of ctx i j hi hj d all li lj =
     (Counts.counts (hi, tt) (Rooted.at (PartAt.field HasField.here PartAt.end) (c_refl (k_var li))) (λ m h. params (extend ctx two) fs t (own two m)))
     first-least
     (Taking.next
-    (Counts.counts (hj, ((λ e. d (sym e)), tt)) (Rooted.at (PartAt.field (HasField.there u-not-t HasField.here) PartAt.end) (c_refl (k_var lj))) (λ m h. params (extend ctx two) fs u (own two m)))
+    (Counts.counts (hj, ((λ e. d (sym e)), tt)) (Rooted.at (PartAt.field (HasField.there (differ refl) HasField.here) PartAt.end) (c_refl (k_var lj))) (λ m h. params (extend ctx two) fs u (own two m)))
     second-least
     (Taking.done (λ m h. all m h.0 h.1.0 h.1.1.0)))
   where

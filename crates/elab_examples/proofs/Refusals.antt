@@ -1,8 +1,8 @@
--- The derivations of two refusals: a hidden type where a number is needed, and a hidden type that is not found.
-use Rattle.std.specs.Prelude.{List, [], ◌∷◌, ◌≡◌, ◌≢◌, Bool, true, false, IsTrue}
-use Rattle.std.proofs.Math.Path.{refl, ap}
+-- The derivations of refusals: a hidden type where a number is needed, and three matches of a sealing.
+use Rattle.std.specs.Prelude.{List, [], ◌∷◌, ◌≡◌, ◌≢◌, true, IsTrue}
+use Rattle.std.proofs.Math.Path.{refl}
 use Rattle.std.proofs.Common.{arith, inl, inr}
-use Rattle.std.proofs.lemmas.Bool.{true≢false, false≢true}
+use Rattle.std.proofs.lemmas.Bool.{false≢true}
 use Rattle.omega_kinds.specs.Kind.{Kind}
 use Rattle.omega_kinds.specs.Name.{Name}
 use Rattle.omega_kinds.specs.LabelOrder.{name_before}
@@ -10,18 +10,20 @@ use Rattle.omega_types.specs.Ty.{Ty}
 use Rattle.omega_types.specs.Kinding.{here}
 use Rattle.omega_types.specs.Kinding.HasKind.{k_var}
 use Rattle.omega_types.specs.Conversion.Conv.{c_refl}
-use Rattle.omega_types.specs.Normality.Normal.{n_int, n_neutral}
-use Rattle.omega_types.specs.Normality.Neutral.{n_var}
+use Rattle.omega_types.specs.Normality.Normal.{n_int}
 use Rattle.signatures.specs.Signatures.Sig.{Sig, Abs, SigRow, HasField, made}
-use Rattle.signatures.specs.Explicit.SigPath.{SigPath, Item, PartAt, ParamOn, PathBefore, ItemBefore}
+use Rattle.signatures.specs.Explicit.SigPath.{SigPath, Item, PartAt, PathBefore, ItemBefore}
 use Rattle.signatures.specs.Explicit.RootPath.{Rooted, RootPath, LeastRoot, RootOf}
 use Rattle.signatures.specs.Matching.LookUp.{Found, FoundAt, FoundAfter}
 use Rattle.signatures.specs.Matching.MatchRefusal.{Why, MatchRefusal, RefusesMatch, RefusesSub, RefusesFields}
 use Rattle.signatures.specs.Signatures.Alike.{AlikeSig, AlikeRow}
-use Rattle.signatures.specs.Env.{Env}
-use Rattle.fing_syntax.specs.Phrase.{Span, Bytes, Spelled, ModAt, ModStruct, BindAt, BindVal, BindModule, NoBinds, MoreBinds, ExpAt, ExpBool}
-use Rattle.sig_laws.specs.Good.{OkEnv}
-use Rattle.module_rules.specs.PathUse.{Outside, ValueOfPath}
+use Rattle.signatures.specs.Env.{Entry}
+use Rattle.fing_syntax.specs.Phrase.{Span, Bytes, Spelled, Mod, ModAt, ModStruct, ModProject, ModSeal, BindAt, BindVal, BindModule, NoBinds, MoreBinds, ExpAt, ExpBool, SigEx}
+use Rattle.fing_syntax.specs.Place.{sig_span}
+use Rattle.omega_terms.specs.Term.{Term}
+use Rattle.elab_rules.specs.Judgments.Program.{ProgramRefused}
+use Rattle.elab_rules.specs.Refusals.Refusal.{refuse_match}
+use Rattle.module_rules.specs.PathUse.{ValueOfPath}
 use Rattle.module_rules.specs.Projection.{Projected}
 use Rattle.module_rules.specs.Sequence.{Collected}
 use Rattle.sig_rules.specs.SigRules.{ValueGives, AbstractGives, DeclarationsGive}
@@ -30,20 +32,16 @@ use Rattle.core_rules.specs.TypeRules.{BaseGives}
 use Rattle.core_rules.specs.ExpRules.{LiteralGives}
 use Rattle.elab_rules.specs.Judgments.Meaning.{TyMeans, ExpMeans, SigMeans, DeclMeans, DeclsMean, ModMeans, BindMeans, BindsMean}
 use Rattle.elab_rules.specs.Refusals.Refused.{Refused}
-use Rattle.elab_examples.specs.Rows.{HiddenSumRefused, UnmatchedRefused, MissingRefused, OtherTypeRefused, t, x, h1}
-use Rattle.elab_examples.proofs.Outcomes.{BindShows, show-struct, show-module, show-end, show-next}
+use Rattle.elab_examples.specs.Rows.{HiddenSumRefused, UnmatchedRefused, MissingRefused, OtherTypeRefused, t, x, M, h0, h1}
+use Rattle.elab_examples.proofs.Outcomes.{ModShows, show-struct, show-end, show-next}
 use Rattle.omega_kinds.specs.declared.effect.Effect.TheVariants.{Pure}
-use Rattle.elab_examples.proofs.Sealing.{sealed_means, x-not-t}
-use Rattle.elab_examples.proofs.PackageOrder.{no-field-of-end, no-params-at-end}
+use Rattle.elab_examples.proofs.Sealing.{sealed_means}
+use Rattle.elab_examples.proofs.PackageOrder.{no-field-of-end, no-params}
+use Rattle.elab_examples.proofs.Parts.{differ, own-path, var0}
 use Rattle.omega_types.proofs.BinderPuts.{its-form}
 
-is_var : Ty → Bool
-is_var (Ty.Var i) = true
-is_var u = false
-
 var-not-int : Ty.Var 0 ≢ Ty.Int
-unfolding is_var
-var-not-int p = true≢false (ap is_var p)
+var-not-int p = cc
 
 pub hidden_sum_refused : HiddenSumRefused
 hidden_sum_refused =
@@ -54,11 +52,24 @@ hidden_sum_refused =
     (inr (
       _,
       ExpMeans.exp_path
-          (ModMeans.mod_project (ModMeans.mod_name (NamedGives.named refl)) (Projected.pure (HasField.there x-not-t HasField.here)))
-          (ValueOfPath.value_at (Outside.outside (Ty.Var 0) (c_refl (k_var here)) (its-form (n_neutral (n_var here))))),
+          (ModMeans.mod_project (ModMeans.mod_name (NamedGives.named refl)) (Projected.pure (HasField.there (differ refl) HasField.here)))
+          (ValueOfPath.value_at (own-path var0)),
       inl (refl, refl),
     ))
     (Refused.here (inl (var-not-int, refl))))))
+
+-- a sealing, in its derived form, is refused where its match is
+seal-refused : {whole at given : Span} {m : Mod} {a : SigEx} {s : Sig} {ts : List Ty} {e : Term} {y : Abs} {q : MatchRefusal} → ModMeans [] m (made Pure (Abs.Ex [] s) ts e) → SigMeans (Entry.Named h1 s ∷ []) a y → RefusesMatch [] s y q
+    → ProgramRefused (MoreBinds (BindAt whole (BindModule (Spelled M (Bytes 7 8)) (ModAt at (ModProject (ModAt at (ModStruct (MoreBinds (BindAt at (BindModule (Spelled h1 at) m)) (MoreBinds (BindAt at (BindModule (Spelled h0 at) (ModAt at (ModSeal (Spelled h1 given) a)))) NoBinds)))) (Spelled h0 at))))) NoBinds) (refuse_match (Entry.Named h1 s ∷ []) (sig_span a) q)
+seal-refused p d n =
+    Refused.inside (inl (refl, refl))
+    (Refused.inside (inl (refl, refl))
+    (Refused.inside (inl (refl, refl))
+    (Refused.inside (inl (refl, refl))
+    (Refused.inside (inr (_, BindMeans.bind_module p, inl (refl, refl)))
+    (Refused.inside (inl (refl, refl))
+    (Refused.inside (inl (refl, refl))
+    (Refused.here (inr (_, refl, (_, d, inl (_, n, refl)))))))))))
 
 -- (str (t (type a0 *)))
 abbrev wanted : Sig
@@ -67,20 +78,12 @@ wanted = Sig.Str (SigRow.More t (Sig.Typ (Ty.Var 0) Kind.Star) SigRow.End)
 abbrev nothing : Sig
 nothing = Sig.Str SigRow.End
 
-is_nothing : Sig → Bool
-is_nothing (Sig.Str SigRow.End) = true
-is_nothing s = false
-
 -- nothing is found in an empty structure
 not-found : {s r : Sig} {p : SigPath} {u : Ty} → s ≡ nothing → Found [] s p r u → ⊥
-unfolding is_nothing
-not-found e Found.end = false≢true (ap is_nothing e)
-not-found e (Found.field HasField.here h f) = false≢true (ap is_nothing e)
-not-found e (Found.field (HasField.there d i) h f) = false≢true (ap is_nothing e)
-not-found e (Found.result m n f) = false≢true (ap is_nothing e)
-
-no-params : {q : Sig} {ds ks : List Kind} → ParamOn wanted (Item.Part t ∷ []) ds ks q → ⊥
-no-params (ParamOn.field h p) = no-params-at-end p
+not-found e Found.end = cc
+not-found e (Found.field HasField.here h f) = cc
+not-found e (Found.field (HasField.there d i) h f) = cc
+not-found e (Found.result m n f) = cc
 
 before-itself : {l : Name} {s : Sig} → HasField (SigRow.More t (Sig.Typ (Ty.Var 0) Kind.Star) SigRow.End) l s → IsTrue (name_before l t) → ⊥
 before-itself HasField.here b = false≢true b
@@ -112,22 +115,9 @@ none-found u (FoundAt.found_at r n f) = not-found refl f
 
 pub unmatched_refused : UnmatchedRefused
 unmatched_refused =
-    Refused.inside (inl (refl, refl))
-    (Refused.inside (inl (refl, refl))
-    (Refused.inside (inl (refl, refl))
-    (Refused.inside (inl (refl, refl))
-    (Refused.inside (inr (_, BindMeans.bind_module (ModMeans.mod_struct (BindsMean.no_binds Collected.none)), inl (refl, refl)))
-    (Refused.inside (inl (refl, refl))
-    (Refused.inside (inl (refl, refl))
-    (Refused.here (inr (
-      _,
-      refl,
-      (
-        _,
-        SigMeans.sig_decls (DeclsMean.next_decl (DeclMeans.decl_of AbstractGives.abstract) (tt, tt) DeclsMean.no_decls DeclarationsGive.declarations),
-        inl (_, RefusesMatch.no_root FoundAfter.none (omega arith) root none-found, refl),
-      ),
-    )))))))))
+    seal-refused (ModMeans.mod_struct (BindsMean.no_binds Collected.none))
+    (SigMeans.sig_decls (DeclsMean.next_decl (DeclMeans.decl_of AbstractGives.abstract) (tt, tt) DeclsMean.no_decls DeclarationsGive.declarations))
+    (RefusesMatch.no_root FoundAfter.none (omega arith) root none-found)
 
 -- a value part that the left side lacks, or has of another type
 
@@ -136,30 +126,12 @@ missing_match = RefusesMatch.inside FoundAfter.none refl (AlikeSig.str (AlikeRow
 
 pub missing_refused : MissingRefused
 missing_refused =
-    Refused.inside (inl (refl, refl))
-    (Refused.inside (inl (refl, refl))
-    (Refused.inside (inl (refl, refl))
-    (Refused.inside (inl (refl, refl))
-    (Refused.inside (inr (_, BindMeans.bind_module (ModMeans.mod_struct (BindsMean.no_binds Collected.none)), inl (refl, refl)))
-    (Refused.inside (inl (refl, refl))
-    (Refused.inside (inl (refl, refl))
-    (Refused.here (inr (
-      _,
-      refl,
-      (
-        _,
-        SigMeans.sig_decls (DeclsMean.next_decl (DeclMeans.decl_val (TyMeans.ty_int BaseGives.int) ValueGives.value) (tt, tt) DeclsMean.no_decls DeclarationsGive.declarations),
-        inl (_, missing_match, refl),
-      ),
-    )))))))))
-
-is_bool : Ty → Bool
-is_bool Ty.Bool = true
-is_bool u = false
+    seal-refused (ModMeans.mod_struct (BindsMean.no_binds Collected.none))
+    (SigMeans.sig_decls (DeclsMean.next_decl (DeclMeans.decl_val (TyMeans.ty_int BaseGives.int) ValueGives.value) (tt, tt) DeclsMean.no_decls DeclarationsGive.declarations))
+    missing_match
 
 bool-not-int : Ty.Bool ≢ Ty.Int
-unfolding is_bool
-bool-not-int p = true≢false (ap is_bool p)
+bool-not-int p = cc
 
 type_match : RefusesMatch [] (Sig.Str (SigRow.More x (Sig.Val Ty.Bool) SigRow.End)) (Abs.Ex [] (Sig.Str (SigRow.More x (Sig.Val Ty.Int) SigRow.End))) (MatchRefusal.Clash 0 (Item.Part x ∷ []) (Why.Types Ty.Bool Ty.Int))
 type_match =
@@ -167,25 +139,11 @@ type_match =
     (AlikeSig.str (AlikeRow.more (AlikeSig.val (its-form n_int)) AlikeRow.end))
     (RefusesSub.structures (RefusesFields.at_field HasField.here (RefusesSub.values bool-not-int)))
 
-bool_means : {g : Env} {at place other : Span} → OkEnv g → BindShows g (BindAt at (BindModule (Spelled h1 place) (ModAt other (ModStruct (MoreBinds (BindAt (Bytes 18 30) (BindVal (Spelled x (Bytes 22 23)) (ExpAt (Bytes 26 30) (ExpBool true)))) NoBinds))))) h1 Pure (Abs.Ex [] (Sig.Str (SigRow.More x (Sig.Val Ty.Bool) SigRow.End)))
-bool_means ok = show-module (show-struct (show-next ok (tt, tt) (_, _, BindMeans.bind_val (ExpMeans.exp_bool LiteralGives.bool) ValueModule.value) λ ok2 names. show-end (Collected.next refl Collected.none)))
+bool_shows : {at : Span} → ModShows [] (ModAt at (ModStruct (MoreBinds (BindAt (Bytes 18 30) (BindVal (Spelled x (Bytes 22 23)) (ExpAt (Bytes 26 30) (ExpBool true)))) NoBinds))) Pure (Abs.Ex [] (Sig.Str (SigRow.More x (Sig.Val Ty.Bool) SigRow.End)))
+bool_shows = show-struct (show-next {g = []} tt (tt, tt) (_, _, BindMeans.bind_val (ExpMeans.exp_bool LiteralGives.bool) ValueModule.value) λ ok2 names. show-end (Collected.next refl Collected.none))
 
 pub other_type_refused : OtherTypeRefused
 other_type_refused =
-    let b = bool_means {g = []} {at = Bytes 11 57} {place = Bytes 11 57} {other = Bytes 11 34} tt in
-    Refused.inside (inl (refl, refl))
-    (Refused.inside (inl (refl, refl))
-    (Refused.inside (inl (refl, refl))
-    (Refused.inside (inl (refl, refl))
-    (Refused.inside (inr ((h1, made Pure (Abs.Ex [] (Sig.Str (SigRow.More x (Sig.Val Ty.Bool) SigRow.End))) b.0 b.1), b.2, inl (refl, refl)))
-    (Refused.inside (inl (refl, refl))
-    (Refused.inside (inl (refl, refl))
-    (Refused.here (inr (
-      _,
-      refl,
-      (
-        _,
-        SigMeans.sig_decls (DeclsMean.next_decl (DeclMeans.decl_val (TyMeans.ty_int BaseGives.int) ValueGives.value) (tt, tt) DeclsMean.no_decls DeclarationsGive.declarations),
-        inl (_, type_match, refl),
-      ),
-    )))))))))
+    seal-refused bool_shows.2
+    (SigMeans.sig_decls (DeclsMean.next_decl (DeclMeans.decl_val (TyMeans.ty_int BaseGives.int) ValueGives.value) (tt, tt) DeclsMean.no_decls DeclarationsGive.declarations))
+    type_match

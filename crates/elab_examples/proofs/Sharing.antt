@@ -2,11 +2,9 @@
 use Rattle.std.specs.Prelude.{ℕ, List, [], ◌∷◌, ◌≡◌, ◌≢◌, true, false, Some}
 use Rattle.std.proofs.Common.{inl, inr}
 use Rattle.std.proofs.Math.Path.{refl, ap}
-use Rattle.std.proofs.lemmas.Bool.{true≢false}
 use Rattle.omega_kinds.specs.Kind.{Kind}
 use Rattle.omega_kinds.specs.declared.label.Label.{Label}
 use Rattle.omega_kinds.specs.declared.effect.Effect.TheVariants.{Pure, Impure}
-use Rattle.omega_kinds.specs.Name.{same_name}
 use Rattle.omega_types.specs.Ty.{Ty}
 use Rattle.omega_types.specs.Normality.{Normal}
 use Rattle.omega_types.specs.Normality.Normal.{n_int}
@@ -18,7 +16,7 @@ use Rattle.omega_terms.specs.Coercions.{same_part, fields_part}
 use Rattle.signatures.specs.Signatures.Encoding.{enc}
 use Rattle.signatures.specs.Explicit.WellFormed.{WellFormed, WellFormedRow}
 use Rattle.signatures.specs.Signatures.Sig.{Sig, Abs, HasField, made}
-use Rattle.signatures.specs.Signatures.Alike.{AlikeSig, AlikeAbs, AlikeRow, NormalSigForm}
+use Rattle.signatures.specs.Signatures.Alike.{AlikeSig, AlikeAbs, AlikeRow}
 use Rattle.signatures.specs.Env.{Env, Entry, kinds, find, past_term}
 use Rattle.signatures.specs.Lifting.{Lift}
 use Rattle.signatures.specs.Matching.Subtyping.{Sub, SubFields, Match}
@@ -41,14 +39,8 @@ use Rattle.elab_examples.specs.Rows.{t, h0, h1}
 use Rattle.elab_examples.specs.PackageRow.{A}
 use Rattle.elab_examples.specs.FunctorRow.{F, P, X, h2}
 use Rattle.elab_examples.specs.SharingRow.{Q, v, z, argument, structure, signature, body, empty_bind, functor_bind, first_bind, second_bind, value_bind, twice, GenerativeRefused, empty, pair_of, shared_functor, shared_sig, ApplicativeShares, identity}
-use Rattle.elab_examples.proofs.Packages.{var0, var1, var-path}
+use Rattle.elab_examples.proofs.Parts.{differ, own-path, var0, var1, pair-form}
 use Rattle.elab_examples.proofs.Outcomes.{ModShows, BindShows, BindsShow, show-struct, show-module, show-project, show-generative, show-applicative, show-apply, show-end, show-next, ok-after}
-
-v-not-t : v ≢ t
-v-not-t p = true≢false (ap (same_name v) p)
-
-pair-form : {ctx : List Kind} {a : Ty} → Normal ctx a Kind.Star → NormalSigForm ctx (pair_of a) (pair_of a)
-pair-form h = AlikeSig.str (AlikeRow.more (AlikeSig.typ (its-form h)) (AlikeRow.more (AlikeSig.val (its-form h)) AlikeRow.end))
 
 -- the body of the functor
 
@@ -64,8 +56,8 @@ signature_means g =
     SigMeans.sig_decls
     (DeclsMean.next_decl (DeclMeans.decl_of AbstractGives.abstract) (tt, tt)
     (DeclsMean.next_decl
-    (DeclMeans.decl_val (TyMeans.ty_path (ModMeans.mod_name (NamedGives.named refl)) (TypeOfPath.type_of (var-path var0))) ValueGives.value)
-    ((v-not-t, tt), tt)
+    (DeclMeans.decl_val (TyMeans.ty_path (ModMeans.mod_name (NamedGives.named refl)) (TypeOfPath.type_of (own-path var0))) ValueGives.value)
+    ((differ refl, tt), tt)
     DeclsMean.no_decls DeclarationsGive.declarations) DeclarationsGive.declarations)
 
 abbrev coercion : Ty → Term
@@ -77,7 +69,7 @@ matches h =
     (OfKinds.next (normal-kind h) OfKinds.none)
     (NormalForms.next (its-form h) NormalForms.none)
     (pair-form h)
-    (Sub.str (SubFields.more HasField.here Sub.typ (SubFields.more (HasField.there v-not-t HasField.here) Sub.val SubFields.end)))
+    (Sub.str (SubFields.more HasField.here Sub.typ (SubFields.more (HasField.there (differ refl) HasField.here) Sub.val SubFields.end)))
 
 body_shows : (g : Env) → OkEnv g → ModShows g body Pure (Abs.Ex (Kind.Star ∷ []) (pair_of (Ty.Var 0)))
 body_shows g ok =
@@ -158,22 +150,17 @@ identity_means : {g : Env} {i : ℕ} {e : Term} → Normal (kinds g) (Ty.Var i) 
 identity_means h p = (
   _,
   ExpMeans.exp_lam
-      (TyMeans.ty_path (ModMeans.mod_project (ModMeans.mod_name (NamedGives.named p)) (Projected.pure HasField.here)) (TypeOfPath.type_of (var-path h)))
-      (ExpMeans.exp_path (ModMeans.mod_name (NamedGives.named refl)) (ValueOfPath.value_at (var-path h)))
+      (TyMeans.ty_path (ModMeans.mod_project (ModMeans.mod_name (NamedGives.named p)) (Projected.pure HasField.here)) (TypeOfPath.type_of (own-path h)))
+      (ExpMeans.exp_path (ModMeans.mod_name (NamedGives.named refl)) (ValueOfPath.value_at (own-path h)))
       FunctionGives.function,
 )
 
 -- Q.v, where Q's type has the index i
 argument_means : {g : Env} {i : ℕ} {e : Term} → Normal (kinds g) (Ty.Var i) Kind.Star → find g Q ≡ Some (pair_of (Ty.Var i), e) → (d : Term) × ExpMeans g argument (Ty.Var i) d
-argument_means h p = (_, ExpMeans.exp_path (ModMeans.mod_project (ModMeans.mod_name (NamedGives.named p)) (Projected.pure (HasField.there v-not-t HasField.here))) (ValueOfPath.value_at (var-path h)))
-
-index : Ty → ℕ
-index (Ty.Var i) = i
-index u = 0
+argument_means h p = (_, ExpMeans.exp_path (ModMeans.mod_project (ModMeans.mod_name (NamedGives.named p)) (Projected.pure (HasField.there (differ refl) HasField.here))) (ValueOfPath.value_at (own-path h)))
 
 zero-not-one : Ty.Var 0 ≢ Ty.Var 1
-unfolding index
-zero-not-one p = let e = ap index p in cc
+zero-not-one p = cc
 
 pub generative_refused : GenerativeRefused
 generative_refused =

@@ -1,6 +1,6 @@
 -- Each derived type has its kind, each written signature is ordered explicit, and each module's signature is well formed.
-use Rattle.std.specs.Prelude.{List, [], ◌∷◌, ◌++◌, ◌≡◌, Bool, true, false, cond}
-use Rattle.std.proofs.Math.Path.{sym, ◌∙◌, ap, subst}
+use Rattle.std.specs.Prelude.{List, [], ◌∷◌, ◌++◌, ◌≡◌}
+use Rattle.std.proofs.Math.Path.{sym, ◌∙◌, subst}
 use Rattle.omega_kinds.specs.Kind.{Kind}
 use Rattle.omega_kinds.specs.declared.label.Label.{Label}
 use Rattle.omega_kinds.specs.declared.effect.Effect.{Effect}
@@ -11,12 +11,10 @@ use Rattle.omega_types.specs.Ty.{Ty, Row}
 use Rattle.omega_types.specs.Kinding.{HasKind, HasKinds, Fresh}
 use Rattle.omega_types.specs.Kinding.HasKind.{k_int, k_bool, k_text, k_arrow, k_fields, k_all, k_lam}
 use Rattle.omega_types.specs.Kinding.HasKinds.{k_end, k_more}
-use Rattle.omega_types.specs.Binders.{extend, OfKinds}
+use Rattle.omega_types.specs.Binders.{extend, past, OfKinds}
 use Rattle.omega_types.proofs.Preservation.{normal-kind}
-use Rattle.omega_terms.specs.declared.op.Op.{Op}
 use Rattle.omega_terms.specs.Term.{Term, TermRow}
-use Rattle.omega_terms.specs.Typing.{result_type}
-use Rattle.signatures.specs.Signatures.Sig.{Sig, Abs, SigRow, NoField, Module, made}
+use Rattle.signatures.specs.Signatures.Sig.{Sig, Abs, SigRow, Module, made}
 use Rattle.signatures.specs.Signatures.SigSubst.{abs_at, raise_sig_row}
 use Rattle.signatures.specs.Signatures.Alike.{NormalAbsForm, ex}
 use Rattle.signatures.specs.Env.{Entry, Env, kinds, type_vars, with_module, named_fields, IsGoodEnv}
@@ -44,19 +42,19 @@ use Rattle.module_rules.specs.Sequence.{Seq, Collected}
 use Rattle.sig_rules.specs.Refinement.{Refined}
 use Rattle.elab_rules.specs.Judgments.Meaning.{TyMeans, ArgTysMean, FieldTysMean, ExpMeans, OpsMean, ArgsMean, FieldExpsMean, SigMeans, DeclMeans, DeclsMean, ModMeans, BindMeans, BindsMean}
 use Rattle.elab_rules.specs.Judgments.Program.{ProgramMeans, program}
-use Rattle.explicit_laws.proofs.Fields.{merge-none}
+use Rattle.explicit_laws.proofs.Fields.{Apart as ApartFields, none, next}
 use Rattle.explicit_laws.proofs.Sequences.{sequence_explicit}
 use Rattle.explicit_laws.proofs.Fixings.{fixed_explicit}
 use Rattle.norm_laws.proofs.Norm.NormKeeps.{norm_abs-explicit}
 use Rattle.sig_laws.proofs.Formed.Conditions.{match-kinds, row-field, str-fields, meta-explicit}
 use Rattle.explicit_laws.proofs.Operations.{plain_explicit, field_explicit, opaque_explicit, instance_well_formed, outside_explicit, generative_explicit, lift_explicit, lift_well_formed, lifted_types-kinds}
 use Rattle.elab_laws.proofs.EnvLaws.{good-type_vars, good-module, good-named_fields, find-well_formed}
-use Rattle.elab_laws.proofs.NameSets.{In, with_names-keeps, are_new-none, apart-from}
-use Rattle.elab_laws.proofs.FieldLaws.{rise-with_name, rise-with_names, fresh-insert}
+use Rattle.elab_laws.proofs.FieldLaws.{pick, not-sym, Apart, FreshAll, NoFields, fresh_all-end, fresh_all-insert, no_fields-end, no_fields-joined, with_names-no_fields, rise-with_name, rise-with_names, fresh-insert}
 use Rattle.sig_laws.proofs.Encoded.EncLaws.{enc_explicit-kind}
 use Rattle.sig_laws.proofs.Encoded.EnvTyping.{kinds-named_fields}
 use Rattle.explicit_laws.proofs.Liftings.{body-of}
-use Rattle.omega_terms.proofs.TypingLaws.{part-kind}
+use Rattle.omega_terms.proofs.TypingLaws.{part-kind, result-kind}
+use Rattle.omega_types.proofs.Inverse.{arrow-kinds, fields-kinds}
 use Rattle.omega_types.proofs.BinderPuts.{forms-types, types-kinds}
 use Rattle.sig_laws.proofs.Algebra.FormLaws.{kinds-type_vars}
 
@@ -71,61 +69,15 @@ good-sig (impure w) = w
 
 -- records
 
--- none of the names is a label of the row
-abbrev NoneIn : List Name → Row → Type 0
-NoneIn [] row = Unit {0}
-NoneIn (l ∷ ls) row = Fresh (Label.Name l) row × NoneIn ls row
-
-part-cases : (P : Row → Type 0) (l m : Label) (t u : Ty) (rest : Row) → P (Row.More l t (Row.More m u rest)) → P (Row.More m u (insert_part l t rest)) → P (insert_part l t (Row.More m u rest))
-part-cases P l m t u rest f g = go (label_before l m)
-  where
-    go : (b : Bool) → P (cond b (Row.More l t (Row.More m u rest)) (Row.More m u (insert_part l t rest)))
-    go true = f
-    go false = g
-
 insert-kinds : {ctx : List Kind} (l : Label) {t : Ty} {row : Row} → Fresh l row → HasKind ctx t Kind.Star → HasKinds ctx row → HasKinds ctx (insert_part l t row)
 insert-kinds l f h k_end = k_more tt h k_end
-insert-kinds {ctx} l {t} f h (k_more {l = m} {t = u} {rest = rest} g k ks) =
-    part-cases (HasKinds ctx) l m t u rest (k_more f h (k_more g k ks)) (k_more (fresh-insert m l t rest (λ e. f.0 (sym e)) g) k (insert-kinds l f.1 h ks))
-
-name-of-label : Label → Name
-name-of-label (Label.Name n) = n
-name-of-label l = []
-
-same-label : {l m : Name} → Path Label (Label.Name l) (Label.Name m) → l ≡ m
-unfolding name-of-label
-same-label e = ap name-of-label e
-
-none-inserted : (names : List Name) (l : Name) (t : Ty) (row : Row) → IsNew l names → NoneIn names row → NoneIn names (insert_part (Label.Name l) t row)
-none-inserted [] l t row h f = tt
-none-inserted (n ∷ ns) l t row h f = (fresh-insert (Label.Name n) (Label.Name l) t row (λ e. h.0 (sym (same-label e))) f.0, none-inserted ns l t row h.1 f.1)
-
-none-end : (names : List Name) → NoneIn names Row.End
-none-end [] = tt
-none-end (n ∷ ns) = (tt, none-end ns)
+insert-kinds {ctx} l {t} f h (k_more {l = m} {rest = rest} g k ks) = pick (HasKinds ctx) (label_before l m) (λ e. k_more f h (k_more g k ks)) (λ e. k_more (fresh-insert m l t rest (not-sym f.0) g) k (insert-kinds l f.1 h ks))
 
 abbrev GoodRow : List Kind → List Name → Row → Type 0
-GoodRow ctx names row = HasKinds ctx row × NoneIn names row
+GoodRow ctx names row = HasKinds ctx row × FreshAll names row
 
 good-field : {ctx : List Kind} (names : List Name) (l : Name) {t : Ty} {row : Row} → IsNew l names → HasKind ctx t Kind.Star → GoodRow ctx (l ∷ names) row → GoodRow ctx names (insert_part (Label.Name l) t row)
-good-field names l {t = t} {row = row} n h g = (insert-kinds (Label.Name l) g.1.0 h g.0, none-inserted names l t row n g.1.1)
-
--- inversions
-
-fields-of : {ctx : List Kind} {row : Row} → HasKind ctx (Ty.Fields row) Kind.Star → HasKinds ctx row
-fields-of (k_fields h) = h
-
-result-of : {ctx : List Kind} {a b : Ty} → HasKind ctx (Ty.Arrow a b) Kind.Star → HasKind ctx b Kind.Star
-result-of (k_arrow h g) = g
-
-op-kind : (ctx : List Kind) (o : Op) → HasKind ctx (result_type o) Kind.Star
-op-kind ctx Op.Add = k_int
-op-kind ctx Op.Sub = k_int
-op-kind ctx Op.Mul = k_int
-op-kind ctx Op.Div = k_int
-op-kind ctx Op.Rem = k_int
-op-kind ctx Op.Less = k_bool
-op-kind ctx Op.Equal = k_bool
+good-field names l {t = t} {row = row} n h g = (insert-kinds (Label.Name l) g.1.0 h g.0, fresh_all-insert names l t row n g.1.1)
 
 -- paths
 
@@ -205,20 +157,19 @@ collected-rising h (Collected.next {l = l} e c) = (collected-all_later l h.0 c, 
 
 collected-well_formed : {g : Env} {names : List Name} {fs : SigRow} {es : TermRow} → IsGoodEnv g → Collected g names fs es → WellFormedRow (kinds g) fs
 collected-well_formed h Collected.none = WellFormedRow.end
-collected-well_formed {g} h (Collected.next {l = l} {s = s} {e = e} p c) = WellFormedRow.more (find-well_formed g l h s e p) (collected-well_formed h c)
+collected-well_formed {g} h (Collected.next {l = l} {s = s} {e = e} p c) = WellFormedRow.more (find-well_formed g l h (s, e) p) (collected-well_formed h c)
 
 -- declarations give an ordered explicit signature of names that are new
 pub data GoodDecls (ctx : List Kind) (names : List Name) : Abs → Type 0 where
-  decls : {ks : List Kind} {fs : SigRow} → Explicit ctx (Abs.Ex ks (Sig.Str fs)) → ((n : Name) → In n names → NoField n fs) → GoodDecls ctx names (Abs.Ex ks (Sig.Str fs))
-
-none-raised : (js : List Kind) (n : Name) (fs : SigRow) → NoField n fs → NoField n (raise_sig_row js fs)
-none-raised js n SigRow.End h = tt
-none-raised js n (SigRow.More l s fs) h = (h.0, none-raised js n fs h.1)
+  decls : {ks : List Kind} {fs : SigRow} → Explicit ctx (Abs.Ex ks (Sig.Str fs)) → NoFields names fs → GoodDecls ctx names (Abs.Ex ks (Sig.Str fs))
 
 more-decls : {ctx : List Kind} {names : List Name} {ks js : List Kind} {fs gs : SigRow} → Explicit ctx (Abs.Ex ks (Sig.Str fs)) → AreNew fs names → GoodDecls (extend ctx ks) (with_names fs names) (Abs.Ex js (Sig.Str gs)) → GoodDecls ctx names (Abs.Ex (ks ++ js) (Sig.Str (merge (raise_sig_row js fs) gs)))
 more-decls {ctx} {names} {ks} {js} {fs} {gs} h a (decls e n) =
-    decls (sequence_explicit ctx ks js fs gs h e (apart-from fs gs names n))
-    (λ l i. merge-none l (raise_sig_row js fs) gs (none-raised js l fs (are_new-none fs l names a i)) (n l (with_names-keeps fs l names i)))
+    decls (sequence_explicit ctx ks js fs gs h e (apart fs gs (with_names-no_fields fs names gs n).0)) (no_fields-joined (past js) names fs gs a n)
+  where
+    apart : (fs gs : SigRow) → Apart fs gs → ApartFields fs gs
+    apart SigRow.End gs h = none
+    apart (SigRow.More l s fs) gs h = next h.0 (apart fs gs h.1)
 
 decls-explicit : {ctx : List Kind} {names : List Name} {x : Abs} → GoodDecls ctx names x → Explicit ctx x
 decls-explicit (decls e n) = e
@@ -250,7 +201,7 @@ mutual
   args_kind g h (ArgTysMean.next_arg a (AppliedGives.applied n) r) f = args_kind g h r (normal-kind n.0)
 
   pub field_kinds : (g : Env) {names : List Name} {a : FieldTyExs} {parts : List FieldTy} {row : Row} → IsGoodEnv g → FieldTysMean g names a parts → RecordTypeGives names parts row → GoodRow (kinds g) names row
-  field_kinds g {names} h FieldTysMean.no_field_tys RecordTypeGives.no_fields = (k_end, none-end names)
+  field_kinds g {names} h FieldTysMean.no_field_tys RecordTypeGives.no_fields = (k_end, fresh_all-end names)
   field_kinds g {names} h (FieldTysMean.next_field_ty {x = x} m a f) (RecordTypeGives.next_field n r) = good-field names (name_of x) n (type_kind g h a) (field_kinds g h f r)
 
   pub exp_kind : (g : Env) {a : Exp} {t : Ty} {e : Term} → IsGoodEnv g → ExpMeans g a t e → HasKind (kinds g) t Kind.Star
@@ -265,20 +216,20 @@ mutual
   exp_kind g h (ExpMeans.exp_ops a r) = ops_kind g h r (exp_kind g h a)
   exp_kind g h (ExpMeans.exp_apply a r) = arguments_kind g h r (exp_kind g h a)
   exp_kind g h (ExpMeans.exp_fields f r) = k_fields (field_exp_kinds g h f r).0
-  exp_kind g h (ExpMeans.exp_get a (GetGives.get p)) = part-kind (fields-of (exp_kind g h a)) p
+  exp_kind g h (ExpMeans.exp_get a (GetGives.get p)) = part-kind (fields-kinds (exp_kind g h a)) p
   exp_kind g h (ExpMeans.exp_pack f s n m (PackGives.pack p)) = enc_explicit-kind (norm_abs-explicit n (sig_explicit g h s))
 
   pub ops_kind : (g : Env) {a : OpExps} {t u : Ty} {d e : Term} → IsGoodEnv g → OpsMean g t d a u e → HasKind (kinds g) t Kind.Star → HasKind (kinds g) u Kind.Star
   ops_kind g h OpsMean.no_ops f = f
-  ops_kind g h (OpsMean.next_op {o = o} b OperationGives.operation r) f = ops_kind g h r (op-kind (kinds g) (omega_op o))
+  ops_kind g h (OpsMean.next_op {o = o} b OperationGives.operation r) f = ops_kind g h r (result-kind (omega_op o))
 
   pub arguments_kind : (g : Env) {a : Args} {t u : Ty} {d e : Term} → IsGoodEnv g → ArgsMean g t d a u e → HasKind (kinds g) t Kind.Star → HasKind (kinds g) u Kind.Star
   arguments_kind g h ArgsMean.no_arg f = f
-  arguments_kind g h (ArgsMean.next_value b CallGives.call r) f = arguments_kind g h r (result-of f)
+  arguments_kind g h (ArgsMean.next_value b CallGives.call r) f = arguments_kind g h r (arrow-kinds f).1
   arguments_kind g h (ArgsMean.next_type a (InstanceGives.instance n) r) f = arguments_kind g h r (normal-kind n.0)
 
   pub field_exp_kinds : (g : Env) {names : List Name} {a : FieldExps} {parts : List FieldExp} {row : Row} {es : TermRow} → IsGoodEnv g → FieldExpsMean g names a parts → RecordGives names parts row es → GoodRow (kinds g) names row
-  field_exp_kinds g {names} h FieldExpsMean.no_field_exps RecordGives.no_fields = (k_end, none-end names)
+  field_exp_kinds g {names} h FieldExpsMean.no_field_exps RecordGives.no_fields = (k_end, fresh_all-end names)
   field_exp_kinds g {names} h (FieldExpsMean.next_field_exp {x = x} m a f) (RecordGives.next_field n r) = good-field names (name_of x) n (exp_kind g h a) (field_exp_kinds g h f r)
 
   -- written signatures are ordered explicit
@@ -302,14 +253,14 @@ mutual
   decl_explicit g h (DeclMeans.decl_include a IncludeGives.include) = sig_explicit g h a
 
   pub decls_good : (g : Env) {names : List Name} {a : Decls} {x : Abs} → IsGoodEnv g → DeclsMean g names a x → GoodDecls (kinds g) names x
-  decls_good g h DeclsMean.no_decls = decls (plain_explicit (WellFormed.str tt WellFormedRow.end) (in_str in_end)) (λ n i. tt)
+  decls_good g {names} h DeclsMean.no_decls = decls (plain_explicit (WellFormed.str tt WellFormedRow.end) (in_str in_end)) (no_fields-end names)
   decls_good g {names} h (DeclsMean.next_decl {ks = ks} {fs = fs} d n r (DeclarationsGive.declarations {js = js} {gs = gs})) =
       let e = decl_explicit g h d in
       more-decls e n (subst (λ c. GoodDecls c (with_names fs names) (Abs.Ex js (Sig.Str gs))) (under-fields g ks fs) (decls_good (named_fields (type_vars g ks) fs) (good-declared g ks fs h e) r))
 
   -- modules are well formed
   pub module_good : (g : Env) {a : Mod} {m : Module} → IsGoodEnv g → ModMeans g a m → GoodModule (kinds g) m
-  module_good g h (ModMeans.mod_name {x = x} (NamedGives.named {s = s} {e = e} p)) = pure (find-well_formed g (name_of x) h s e p) OfKinds.none
+  module_good g h (ModMeans.mod_name {x = x} (NamedGives.named {s = s} {e = e} p)) = pure (find-well_formed g (name_of x) h (s, e) p) OfKinds.none
   module_good g h (ModMeans.mod_struct b) = binds_good g h tt b
   module_good g h (ModMeans.mod_project m p) = good-projected (module_good g h m) p
   module_good g h (ModMeans.mod_applicative {x = x} {ks = ks} {s = s} {y = y} {ts = ts} {e = d} a b (PureFunctorGives.pure_functor l)) =
@@ -318,7 +269,7 @@ mutual
   module_good g h (ModMeans.mod_generative {x = x} {ks = ks} {s = s} {f = f} {y = y} {ts = ts} {e = c} a b q (GenerativeGives.generative p)) =
       let e = sig_explicit g h a in
       good-functor {d = c} e (subst (λ z. GoodModule z (made f y ts c)) (kinds-type_vars g ks) (module_good (with_module g ks (name_of x) s) (good-module g ks (name_of x) s h (body-of e)) b))
-  module_good g h (ModMeans.mod_apply {x = x} {d = d} p (PartsGive.parts {f = f} {ks = ks} {s = s} {y = y}) q m (ApplyGives.apply n)) = good-instance (find-well_formed g (name_of x) h (Sig.Fun f ks s y) d p) (match-kinds m) n
+  module_good g h (ModMeans.mod_apply {x = x} {d = d} p (PartsGive.parts {f = f} {ks = ks} {s = s} {y = y}) q m (ApplyGives.apply n)) = good-instance (find-well_formed g (name_of x) h (Sig.Fun f ks s y, d) p) (match-kinds m) n
   module_good g h (ModMeans.mod_seal p s m SealGives.seal) = good-sealed (sig_explicit g h s) m
   module_good g h (ModMeans.mod_unpack e s n UnpackGives.unpack) = good-explicit (norm_abs-explicit n (sig_explicit g h s))
 

@@ -27,11 +27,11 @@ use Rattle.signatures.specs.Signatures.RecordOrder.{insert_part, insert_term, Is
 use Rattle.module_rules.specs.Sequence.{Collected}
 use Rattle.explicit_laws.proofs.Fields.{insert-none, merge-none}
 
-pick : {A : Type 0} {x y : A} (P : A → Type 0) (b : Bool) → (b ≡ true → P x) → (b ≡ false → P y) → P (cond b x y)
+pub pick : {A : Type 0} {x y : A} (P : A → Type 0) (b : Bool) → (b ≡ true → P x) → (b ≡ false → P y) → P (cond b x y)
 pick P true f g = f refl
 pick P false f g = g refl
 
-not-sym : {A : Type 0} {x y : A} → x ≢ y → y ≢ x
+pub not-sym : {A : Type 0} {x y : A} → x ≢ y → y ≢ x
 not-sym d e = d (sym e)
 
 -- record types and record terms
@@ -136,6 +136,10 @@ with_names-no_fields (SigRow.More l s fs) names gs h =
     let r = with_names-no_fields fs (with_name l names) gs h in
     let q = with_name-no_fields l names gs r.1 in
     ((q.0, r.0), q.1)
+
+-- fields of new names, and others past them
+pub no_fields-joined : (r : ℕ → ℕ) (names : List Name) (fs gs : SigRow) → AreNew fs names → NoFields (with_names fs names) gs → NoFields names (merge (rename_sig_row r fs) gs)
+no_fields-joined r names fs gs a n = no_fields-merge names (rename_sig_row r fs) gs (no_fields-rename r names fs (new-no_fields names fs a)) (with_names-no_fields fs names gs n).1
 
 -- names in their order
 

@@ -1,7 +1,6 @@
--- What each judgment keeps in good environments, and what is known of matching and of the order of quantifiers, in the form
--- that the proof of exactness uses.
-use Rattle.std.specs.Prelude.{List, [], ◌∷◌, ◌≡◌, ◌⊎◌}
-use Rattle.std.proofs.Math.Path.{refl, sym}
+-- What each judgment and the order of quantifiers keep in good environments, in the form that the proof of exactness uses.
+use Rattle.std.specs.Prelude.{List, [], ◌∷◌}
+use Rattle.std.proofs.Math.Path.{refl}
 use Rattle.omega_kinds.specs.Kind.{Kind}
 use Rattle.omega_kinds.specs.Name.{Name}
 use Rattle.omega_types.specs.Ty.{Ty}
@@ -11,8 +10,8 @@ use Rattle.omega_types.proofs.BinderPuts.{types-forms}
 use Rattle.omega_terms.specs.Term.{Term}
 use Rattle.omega_terms.proofs.NormalTyping.{typed-normal}
 use Rattle.omega_terms.proofs.InstanceLaws.{instance-self}
-use Rattle.signatures.specs.Signatures.Sig.{Sig, Abs, SigRow, Module}
-use Rattle.signatures.specs.Explicit.WellFormed.{WellFormed, WellFormedAbs, abs, Rising}
+use Rattle.signatures.specs.Signatures.Sig.{Abs, Module}
+use Rattle.signatures.specs.Explicit.WellFormed.{abs}
 use Rattle.signatures.specs.QuantifierOrder.{Norm}
 use Rattle.signatures.specs.Env.{Env, Entry, kinds, IsGoodEnv}
 use Rattle.sig_laws.proofs.Encoded.EncodingTyping.{GoodAbs}
@@ -27,19 +26,17 @@ use Rattle.elab_laws.proofs.ModuleTyping.{GoodModule as TypedModule}
 use Rattle.elab_laws.proofs.Soundness.{ty-good, exp-good, sig-good, decl-good, mod-good, bind-good, binds-good}
 use Rattle.elab_laws.proofs.Derived.{GoodModule as FormedModule, sig_explicit, decl_explicit, module_good, bind_good, binds_good}
 use Rattle.sig_laws.specs.Good.{OkRight, OkEnv, OkModule}
+use Rattle.elab_laws.specs.Typed.{IsNormalEnv}
 
 -- environments
 
-typed-env : (g : Env) → OkEnv g → GoodEnv g
-typed-env [] h = tt
-typed-env (Entry.TypeVar k ∷ g) h = (tt, typed-env g h.1)
-typed-env (Entry.Named x s ∷ g) h = (well_formed-good h.0.0 h.0.1, typed-env g h.1)
-typed-env (Entry.Value x t ∷ g) h = (h.0, typed-env g h.1)
-typed-env (Entry.TypeParam x ∷ Entry.TypeVar k ∷ g) h = (tt, typed-env (Entry.TypeVar k ∷ g) h.1)
-typed-env (Entry.TypeParam x ∷ []) h = absurd h.0
-typed-env (Entry.TypeParam x ∷ Entry.Named y s ∷ g) h = absurd h.0
-typed-env (Entry.TypeParam x ∷ Entry.Value y t ∷ g) h = absurd h.0
-typed-env (Entry.TypeParam x ∷ Entry.TypeParam y ∷ g) h = absurd h.0
+pub good_env : (g : Env) → IsGoodEnv g → IsNormalEnv g → GoodEnv g
+good_env [] w n = tt
+good_env (Entry.TypeVar k ∷ g) w n = (tt, good_env g w.1 n.1)
+good_env (Entry.Named x s ∷ g) w n = (well_formed-good w.0 n.0, good_env g w.1 n.1)
+good_env (Entry.Value x t ∷ g) w n = (n.0, good_env g w.1 n.1)
+good_env (Entry.TypeParam x ∷ Entry.TypeVar k ∷ g) w n = (tt, good_env (Entry.TypeVar k ∷ g) w.1 n.1)
+good_env (Entry.TypeParam x ∷ g) w n = absurd w.0
 
 formed-env : (g : Env) → OkEnv g → IsGoodEnv g
 formed-env [] h = tt
@@ -47,10 +44,17 @@ formed-env (Entry.TypeVar k ∷ g) h = (tt, formed-env g h.1)
 formed-env (Entry.Named x s ∷ g) h = (h.0.0, formed-env g h.1)
 formed-env (Entry.Value x t ∷ g) h = (normal-kind h.0, formed-env g h.1)
 formed-env (Entry.TypeParam x ∷ Entry.TypeVar k ∷ g) h = (tt, formed-env (Entry.TypeVar k ∷ g) h.1)
-formed-env (Entry.TypeParam x ∷ []) h = absurd h.0
-formed-env (Entry.TypeParam x ∷ Entry.Named y s ∷ g) h = absurd h.0
-formed-env (Entry.TypeParam x ∷ Entry.Value y t ∷ g) h = absurd h.0
-formed-env (Entry.TypeParam x ∷ Entry.TypeParam y ∷ g) h = absurd h.0
+formed-env (Entry.TypeParam x ∷ g) h = absurd h.0
+
+normal-env : (g : Env) → OkEnv g → IsNormalEnv g
+normal-env [] h = tt
+normal-env (Entry.TypeVar k ∷ g) h = (tt, normal-env g h.1)
+normal-env (Entry.Named x s ∷ g) h = (h.0.1, normal-env g h.1)
+normal-env (Entry.Value x t ∷ g) h = (h.0, normal-env g h.1)
+normal-env (Entry.TypeParam x ∷ g) h = (tt, normal-env g h.1)
+
+typed-env : (g : Env) → OkEnv g → GoodEnv g
+typed-env g h = good_env g (formed-env g h) (normal-env g h)
 
 -- phrases
 
@@ -79,25 +83,9 @@ bind_ok g b x M h p = module-ok (bind-good (typed-env g h) p) (bind_good g (form
 pub binds_ok : (g : Env) (before : List Name) (bs : Binds) (M : Module) → OkEnv g → NamesRise before → BindsMean g before bs M → OkModule (kinds g) M
 binds_ok g before bs M h r p = module-ok (binds-good (typed-env g h) r p) (binds_good g (formed-env g h) r p)
 
--- matching
-
 -- the order of quantifiers
-
-pub norm_one : (ctx : List Kind) (x y z : Abs) → Norm ctx x y → Norm ctx x z → z ≡ y
-norm_one ctx x y z a b = sym (norms.norm_one ctx x y z a b)
 
 pub norm_ok : (ctx : List Kind) (x y : Abs) → OkRight ctx x → Norm ctx x y → OkRight ctx y
 norm_ok ctx x y h n =
     let g : GoodAbs ctx x = record { normal = h.1; shape = explicit-shape h.0 } in
     (norms.norm_keeps ctx x y n h.0, (norm-good n g).normal)
-
--- The premise on names is needed: where a name stands twice, the empty rest gives a structure with one label twice.
-
-abbrev twice : List Name
-twice = [] ∷ [] ∷ []
-
-abbrev empty : Sig
-empty = Sig.Str SigRow.End
-
-rises : {ctx : List Kind} {fs : SigRow} → WellFormedAbs ctx (Abs.Ex [] (Sig.Str fs)) → Rising fs
-rises (abs (WellFormed.str r w)) = r

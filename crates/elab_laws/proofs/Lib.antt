@@ -4,7 +4,6 @@ pub mod FieldLaws
 pub mod FormedClaims
 pub mod Kept
 pub mod ModuleTyping
-pub mod NameSets
 pub mod PhraseRules
 pub mod Soundness
 pub mod TypedClaims

@@ -28,7 +28,7 @@ use Rattle.signatures.specs.Packing.{Packed}
 use Rattle.signatures.specs.Lifting.{Lift, lifted_types}
 use Rattle.signatures.specs.Signatures.FieldOrder.{merge, with_names}
 use Rattle.signatures.specs.Env.{Env, kinds, types, with_module, type_vars, named_fields}
-use Rattle.sig_laws.proofs.Encoded.EncodingTyping.{ShapeRow, Hides, shape-substitute, shape-alike, shape_abs-substitute, shape_abs-alike, shape_abs-unalike, shape_abs-unrename, shape_row-rename, normal_sig_row-rename, enc-normal, enc_abs-normal, enc_abs-form, Good, GoodAbs, good-normal, enc-field}
+use Rattle.sig_laws.proofs.Encoded.EncodingTyping.{ShapeRow, Hides, shape-substitute, shape-alike, shape_abs-substitute, shape_abs-alike, shape_abs-unalike, shape_abs-unrename, shape_row-rename, enc-normal, enc_abs-normal, enc_abs-form, Good, GoodAbs, good-normal, enc-field, one_part-normal}
 use Rattle.sig_laws.proofs.Encoded.CoercionTyping.{match-typed}
 use Rattle.sig_laws.proofs.Encoded.LiftTyping.{lifted-normal, lift-typed}
 use Rattle.sig_laws.proofs.Encoded.EnvTyping.{types-type_vars, kinds-named_fields, types-named_fields, field_vars}
@@ -37,12 +37,12 @@ use Rattle.module_rules.specs.PathUse.{SigOutside, SigOfPath}
 use Rattle.sig_rules.specs.Refinement.{Refined}
 use Rattle.module_rules.specs.Sequence.{field_lets}
 use Rattle.elab_laws.proofs.ModuleTyping.{GoodModule, plain-module, packed-typed, module-good}
-use Rattle.elab_laws.proofs.FieldLaws.{normal-merge, shape-merge, apart-rename, NoFields, new-no_fields, no_fields-merge, no_fields-rename, with_names-no_fields}
+use Rattle.elab_laws.proofs.FieldLaws.{normal-merge, shape-merge, apart-rename, NoFields, no_fields-joined, with_names-no_fields}
 use Rattle.omega_types.proofs.BinderLaws.{extend-append}
-use Rattle.sig_laws.proofs.Encoded.EncodingLaws.{enc_abs-substitute, one_part-normal}
-use Rattle.sig_laws.proofs.Algebra.AlikeLaws.{form_sig-normal, form_abs-normal}
+use Rattle.sig_laws.proofs.Encoded.EncodingLaws.{enc_abs-substitute}
+use Rattle.sig_laws.proofs.Algebra.AlikeLaws.{form_sig-normal, form_abs-normal, normal_row-rename}
 use Rattle.sig_laws.proofs.Algebra.FormLaws.{kinds-type_vars}
-use Rattle.explicit_laws.proofs.Fields.{field-not}
+use Rattle.sig_laws.proofs.Algebra.PathLaws.{field-not}
 
 pub good-body : {ctx ks : List Kind} {s : Sig} → GoodAbs ctx (Abs.Ex ks s) → Good (extend ctx ks) s
 good-body g = record { normal = g.normal; shape = g.shape }
@@ -72,11 +72,10 @@ decls-sig (GoodDecls.decls g n) = record { normal = g.normal; shape = g.shape }
 pub join-decls : {ctx ks js : List Kind} {before : List Name} {fs gs : SigRow} → GoodAbs ctx (Abs.Ex ks (Sig.Str fs)) → AreNew fs before → GoodDecls (extend ctx ks) (with_names fs before) (Abs.Ex js (Sig.Str gs)) → GoodDecls ctx before (Abs.Ex (ks ++ js) (Sig.Str (merge (raise_sig_row js fs) gs)))
 join-decls {ctx} {ks} {js} {before} {fs} {gs} g new (GoodDecls.decls h none) =
     let r : ℕ → ℕ = past js in
-    let apart = with_names-no_fields fs before gs none in
-    let n : NormalSigRow (extend (extend ctx ks) js) (merge (raise_sig_row js fs) gs) = normal-merge (extend (extend ctx ks) js) (raise_sig_row js fs) gs (normal_sig_row-rename r fs (past-maps (extend ctx ks) js) g.normal) h.normal in
-    let s : ShapeRow (merge (raise_sig_row js fs) gs) = shape-merge (raise_sig_row js fs) gs (shape_row-rename r fs g.shape) h.shape (apart-rename r fs gs apart.0) in
+    let n : NormalSigRow (extend (extend ctx ks) js) (merge (raise_sig_row js fs) gs) = normal-merge (extend (extend ctx ks) js) (raise_sig_row js fs) gs (normal_row-rename r (past-maps (extend ctx ks) js) fs g.normal) h.normal in
+    let s : ShapeRow (merge (raise_sig_row js fs) gs) = shape-merge (raise_sig_row js fs) gs (shape_row-rename r fs g.shape) h.shape (apart-rename r fs gs (with_names-no_fields fs before gs none).0) in
     GoodDecls.decls (record { normal = subst (λ c. NormalSigRow c (merge (raise_sig_row js fs) gs)) (sym (extend-append ctx ks js)) n; shape = s })
-    (no_fields-merge before (raise_sig_row js fs) gs (no_fields-rename r before fs (new-no_fields before fs new)) apart.1)
+    (no_fields-joined r before fs gs new none)
 
 -- functors
 pub applicative-good : {ctx ks bs : List Kind} {vs ts : List Ty} {s r : Sig} {z : Abs} {e : Term} → Good (extend ctx ks) s → GoodModule (extend ctx ks) (enc s ∷ shifts ks vs) (made Pure (Abs.Ex bs r) ts e) → Lift ctx ks s (Abs.Ex bs r) z → GoodModule ctx vs (made Pure z (lifted_types ks ts) (ty_lam_over ks (Term.Lam (enc s) (one_field Label.App e))))
@@ -94,9 +93,6 @@ generative-good {ks = ks} g m p =
 pub apply-good : {ctx ks : List Kind} {vs ts : List Ty} {f : Effect} {s t : Sig} {y w : Abs} {c d e : Term} → Good ctx (Sig.Fun f ks s y) → Typed ctx vs d (enc (Sig.Fun f ks s y)) → Good ctx t → Typed ctx vs e (enc t) → Match ctx t (Abs.Ex ks s) ts c → NormalAbsForm ctx (abs_at ts y) w → GoodModule ctx vs (made f w [] (Term.Get (Term.Call (insts d ts) (Term.Call c e)) (result_label f)))
 apply-good {ctx} {ks} {vs} {ts} {f} {s} {t} {y} {w} {c} {d} {e} g hd i he m n = by_effect f y w g.shape.2 n good typed
   where
-    S : ℕ → Ty
-    S = puts ts Ty.Var
-
     good : GoodAbs ctx w
     good = record { normal = form_abs-normal n; shape = shape_abs-alike n (shape_abs-substitute (puts ts Ty.Var) y g.shape.1) }
 

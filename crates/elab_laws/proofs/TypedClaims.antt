@@ -1,5 +1,5 @@
 -- The statements on typing, from the induction on derivations.
-use Rattle.std.specs.Prelude.{List, [], ◌∷◌}
+use Rattle.std.specs.Prelude.{List, []}
 use Rattle.std.proofs.Math.Path.{sym, subst}
 use Rattle.omega_kinds.specs.Kind.{Kind}
 use Rattle.omega_kinds.specs.declared.effect.Effect.TheVariants.{Pure}
@@ -21,27 +21,14 @@ use Rattle.signatures.specs.Signatures.Sig.{Sig, Abs, made}
 use Rattle.signatures.specs.Signatures.SigSubst.{sig_at}
 use Rattle.signatures.specs.Signatures.Encoding.{enc, enc_abs}
 use Rattle.sig_laws.proofs.Encoded.EncodingTyping.{good-normal}
-use Rattle.signatures.specs.Env.{Env, Entry, IsGoodEnv}
-use Rattle.sig_laws.proofs.Encoded.EnvTyping.{GoodEnv, env-normal}
-use Rattle.sig_laws.proofs.Formed.WellFormedShape.{well_formed-good}
-use Rattle.elab_laws.specs.Typed.{IsNormalEnv, WholeIsTyped, WholeIsNormal, WholeIsNeverStuck, WholeIsSynthesised, PureModuleIsTyped, SigOfProgramIsNormal, TypeIsKinded, ExpressionIsTyped, ExpressionIsNormal, SignatureIsNormal, ModuleIsTyped, ModuleIsNormal}
+use Rattle.sig_laws.proofs.Encoded.EnvTyping.{env-normal}
+use Rattle.elab_laws.specs.Typed.{WholeIsTyped, WholeIsNormal, WholeIsNeverStuck, WholeIsSynthesised, PureModuleIsTyped, SigOfProgramIsNormal, TypeIsKinded, ExpressionIsTyped, ExpressionIsNormal, SignatureIsNormal, ModuleIsTyped, ModuleIsNormal}
 use Rattle.elab_rules.specs.Judgments.Program.{ProgramMeans}
 use Rattle.elab_laws.proofs.ModuleTyping.{GoodModule, module-good, packed-typed}
 use Rattle.elab_laws.proofs.Derived.{module_good}
-use Rattle.elab_laws.proofs.Kept.{module-ok}
+use Rattle.elab_laws.proofs.Kept.{good_env, module-ok}
 use Rattle.elab_laws.proofs.Soundness.{ty-good, exp-good, sig-good, mod-good, binds-good, program-typed}
 use Rattle.sig_laws.proofs.Encoded.EncodingLaws.{enc-substitute}
-
-good_env : (g : Env) → IsGoodEnv g → IsNormalEnv g → GoodEnv g
-good_env [] w n = tt
-good_env (Entry.TypeVar k ∷ g) w n = (tt, good_env g w.1 n.1)
-good_env (Entry.Named x s ∷ g) w n = (well_formed-good w.0 n.0, good_env g w.1 n.1)
-good_env (Entry.Value x t ∷ g) w n = (n.0, good_env g w.1 n.1)
-good_env (Entry.TypeParam x ∷ []) w n = elim (w.0) [ ]
-good_env (Entry.TypeParam x ∷ Entry.TypeVar k ∷ g) w n = (tt, good_env (Entry.TypeVar k ∷ g) w.1 n.1)
-good_env (Entry.TypeParam x ∷ Entry.Named y s ∷ g) w n = elim (w.0) [ ]
-good_env (Entry.TypeParam x ∷ Entry.Value y t ∷ g) w n = elim (w.0) [ ]
-good_env (Entry.TypeParam x ∷ Entry.TypeParam y ∷ g) w n = elim (w.0) [ ]
 
 pub whole_is_typed : WholeIsTyped
 whole_is_typed = program-typed

@@ -1,5 +1,5 @@
 -- Operators, functions and operands applied one after the other.
-use Rattle.std.proofs.Common.{◌≡◌, ◌<◌, List, [], ◌∷◌, length, refl, sym, subst, arith}
+use Rattle.std.proofs.Common.{◌≡◌, List, sym, subst}
 use Rattle.omega_kinds.specs.Kind.{Kind}
 use Rattle.omega_types.specs.Ty.{Ty}
 use Rattle.omega_types.specs.Normality.{Normal}
@@ -26,11 +26,6 @@ operands-at {g} {at = at} {t = t} {d = d} {rest = rest} {e = e} s q r = subst (�
 
 pub args-at : {g h : Env} {at p : Span} {t : Ty} {d : Term} {rest : Args} {e : CodeRefusal} → h ≡ g → at ≡ p → RefusedAs h (args at t d rest) e → RefusedAs g (args p t d rest) e
 args-at {g} {at = at} {t = t} {d = d} {rest = rest} {e = e} s q r = subst (λ p. RefusedAs g (args p t d rest) e) q (subst (λ x. RefusedAs x (args at t d rest) e) s r)
-
--- nothing is left
-pub none-below : {A : Type 0} (xs : List A) → length xs < 1 → xs ≡ []
-none-below [] h = refl
-none-below (x ∷ xs) h = absurd (omega arith)
 
 -- normal types
 

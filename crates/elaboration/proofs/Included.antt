@@ -40,11 +40,11 @@ use Rattle.elab_laws.proofs.Kept.{mod_ok, binds_ok}
 use Rattle.refusal_lines.specs.Plain.{plain_refusal}
 use Rattle.refusal_lines.specs.declared.refusal.Refusal.{Refusal as CodeRefusal}
 use Rattle.elaboration.specs.Answered.{RefusedAs, Placed}
-use Rattle.elaboration.proofs.ArgSteps.{none-below}
 use Rattle.elaboration.proofs.Entering.{left-module, left-fields}
 use Rattle.elaboration.proofs.Means.{param-env}
 use Rattle.elaboration.proofs.Placing.{if_some-map, by-rule}
 use Rattle.elaboration.proofs.Refuse.Modules.{include-no_structure, include-later}
+use Rattle.elaboration.proofs.Slices.{empty}
 
 -- a functor's body under its parameter
 pub body-module : (g : Env) (a : SigEx) (b : Mod) (x : Name) (y : Abs) (M : Module) → OkEnv g → SigMeans g a y
@@ -74,7 +74,7 @@ bind-include {g} {at} {e = e} p = record { stands = if_some-map (plain_refusal e
 pub ended : {g : Env} {before : List Name} (list : List Bind) (M : Module) → length list < 1
     → (fs : SigRow) × (es : TermRow) × Collected g before fs es × (M ≡ made Pure (Abs.Ex [] (Sig.Str fs)) [] (Term.Fields es))
     → BindsMean g before (binds_of list) M
-ended {g} {before} list M h q = subst (λ xs. BindsMean g before (binds_of xs) M) (sym (none-below list h)) (subst (BindsMean g before NoBinds) (sym q.3) (BindsMean.no_binds q.2))
+ended {g} {before} list M h q = subst (λ xs. BindsMean g before (binds_of xs) M) (sym (empty list h)) (subst (BindsMean g before NoBinds) (sym q.3) (BindsMean.no_binds q.2))
 
 -- what is included is no structure
 

@@ -5,7 +5,7 @@ use Rattle.omega_kinds.specs.Kind.{Kind}
 use Rattle.omega_kinds.specs.Name.{Name}
 use Rattle.omega_types.specs.Ty.{Ty}
 use Rattle.signatures.specs.Env.{Env}
-use Rattle.signatures.specs.Signatures.Sig.{Sig, Abs, SigRow, HasField, NoField, here, there}
+use Rattle.signatures.specs.Signatures.Sig.{Sig, Abs, SigRow, HasField}
 use Rattle.semantic_sigs.specs.View.{body_of, kinds_of}
 use Rattle.fing_syntax.specs.Phrase.{Span, SpanName, TyEx}
 use Rattle.fing_syntax.specs.Place.{name_of, name_span, ty_span}
@@ -21,18 +21,14 @@ use Rattle.elab_rules.specs.Refusals.Refusal.{of_sig, refuse}
 use Rattle.elab_rules.specs.Refusals.Steps.{WhereAt}
 use Rattle.refusal_lines.specs.Plain.{plain_refusal}
 use Rattle.refusal_lines.specs.declared.refusal.Refusal.{Refusal as CodeRefusal}
-use Rattle.sig_laws.proofs.Algebra.PathLaws.{one-field}
+use Rattle.sig_laws.proofs.Algebra.PathLaws.{no-field, one-field}
 use Rattle.elaboration.specs.Answered.{Placed, ByWhere}
 use Rattle.elaboration.specs.Leaving.{LeftAt, StandsAt}
 use Rattle.elaboration.proofs.Placing.{if_some-map}
 use Rattle.elaboration.proofs.Slices.{empty, first-rest, rest-of}
 
-no-field : {fs : SigRow} {l : Name} {t : Sig} → HasField fs l t → NoField l fs → ⊥
-no-field here n = n.0 refl
-no-field (there d h) n = no-field h n.1
-
 lacks-none : {s t : Sig} {l : Name} → IsAt s l t → Lacks s l → ⊥
-lacks-none {l = l} p n = no-field p.2 (subst (λ u. Lacks u l) p.1 n)
+lacks-none {l = l} p n = no-field p.0 (subst (λ u. Lacks u l) p.1 n) p.2
 
 same-part : {fs : SigRow} {s t : Sig} {l : Name} → HasField fs l s → IsAt (Sig.Str fs) l t → HasField fs l t × (s ≡ t)
 same-part {fs} {t = t} {l = l} h p =
@@ -49,7 +45,7 @@ Leaving s path l at = (x : SpanName) × LeavesAt name_of s path x × (name_of x 
 
 lacking : {s : Sig} {l : Name} (z : SpanName) (path : List SpanName) → Lacks s (name_of z) → LeavesAt (λ m. m) s (names_of (z ∷ path)) l → Leaving s (z ∷ path) l (name_span z)
 lacking z path n (LeavesAt.here m) = (z, LeavesAt.here n, refl, refl)
-lacking z path n (LeavesAt.there f h) = absurd (no-field f n)
+lacking z path n (LeavesAt.there f h) = absurd (no-field _ n f)
 
 further : {s t : Sig} {l : Name} {at : Span} (z y : SpanName) (path : List SpanName) → IsAt s (name_of z) t → LeftAt t (y ∷ path) at → LeavesAt (λ m. m) s (names_of (z ∷ y ∷ path)) l → Leaving s (z ∷ y ∷ path) l at
 further z y path p left (LeavesAt.here m) = absurd (lacks-none p m)

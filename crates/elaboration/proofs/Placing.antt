@@ -1,5 +1,7 @@
 -- From a rule's reason, and its place, to a refusal of the rule.
-use Rattle.std.proofs.Common.{◌≡◌, Option, Some, None, IfSome, ap, ◌∙◌}
+use Rattle.std.proofs.Common.{◌≡◌, Option, Some, None, Result, Ok, Err, IfErr, IfOk, IfSome, IsErrAnd, sym, subst, ap, ◌∙◌}
+use Rattle.std.specs.Prelude.{MatchResult}
+use Rattle.std.proofs.lemmas.Result.{err_from_is_err_and}
 use Rattle.std.specs.Option.{option_map}
 use Rattle.signatures.specs.Env.{Env}
 use Rattle.fing_syntax.specs.Phrase.{Span}
@@ -25,3 +27,26 @@ by-test why fails g at e h p = record { stands = if_some-map (plain_refusal e) (
   where
     some-is : {v w : ElabWhy} → Some v ≡ Some w → w ≡ v
     some-is e = cc
+
+-- what a rule answers, where a call places its reason
+pub kept : {T E F : Type 0} {P Q : T → Type 0} (post : E → F → Type 0) (s : Result T E) (r : Result T F) → MatchResult s (λ x. r ≡ Ok x) (λ e. IsErrAnd r (post e)) → IfOk s P → ((x : T) → P x → Q x) → IfOk r Q
+kept {Q = Q} post (Ok x) r m h f = subst (λ y. IfOk y Q) (sym m) (f x h)
+kept {Q = Q} post (Err e) r m h f = let p = err_from_is_err_and {Q = post e} r m in subst (λ y. IfOk y Q) (sym p.1) tt
+
+pub mapped-by : {W E T : Type 0} (reason : W → ElabWhy) (plain : E → Option W) {P : W → Type 0} (Refuses : W → Type 0) {g : Env} {at : Span} {post : E → CodeRefusal → Type 0} (s : Result T E) (r : Result T CodeRefusal)
+    → MatchResult s (λ x. r ≡ Ok x) (λ e. IsErrAnd r (post e))
+    → IfErr s (λ e. IfSome (plain e) P)
+    → ((w : W) → P w → Refuses w)
+    → ((e : E) (f : CodeRefusal) → post e f → Placed g at (option_map reason (plain e)) f)
+    → IfErr r (ByRule reason g at Refuses)
+mapped-by reason plain Refuses {g} {at} (Ok x) r m h i f = subst (λ y. IfErr y (ByRule reason g at Refuses)) (sym m) tt
+mapped-by reason plain Refuses {g} {at} (Err e) r m h i f =
+    let p = err_from_is_err_and r m in
+    subst (λ y. IfErr y (ByRule reason g at Refuses)) (sym p.1) (by-rule reason (plain e) Refuses g at p.0 (if_some-map (plain e) i h) (f e p.0 p.2))
+
+pub mapped : {W E T : Type 0} (reason : W → ElabWhy) (plain : E → Option W) (Refuses : W → Type 0) {g : Env} {at : Span} {post : E → CodeRefusal → Type 0} (s : Result T E) (r : Result T CodeRefusal)
+    → MatchResult s (λ x. r ≡ Ok x) (λ e. IsErrAnd r (post e))
+    → IfErr s (λ e. IfSome (plain e) Refuses)
+    → ((e : E) (f : CodeRefusal) → post e f → Placed g at (option_map reason (plain e)) f)
+    → IfErr r (ByRule reason g at Refuses)
+mapped reason plain Refuses s r m h f = mapped-by reason plain Refuses s r m h (λ w x. x) f

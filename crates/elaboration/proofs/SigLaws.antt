@@ -7,7 +7,6 @@ use Rattle.omega_kinds.specs.declared.kind.Kind.{Kind as SharedKind}
 use Rattle.omega_types.specs.Binders.{extend, past}
 use Rattle.signatures.specs.Env.{Env, kinds, type_vars, with_module, named_fields}
 use Rattle.signatures.specs.Lifting.{Lift}
-use Rattle.signatures.specs.Signatures.Alike.{NormalAbs, NormalSig}
 use Rattle.signatures.specs.Signatures.FieldOrder.{with_names}
 use Rattle.signatures.specs.Signatures.RecordOrder.{AreNew}
 use Rattle.signatures.specs.Signatures.Sig.{Sig, Abs, SigRow, Module}
@@ -98,22 +97,11 @@ left-decl g ks js items fields pairs before between after ep ei ej eb em e =
     let c : length items ≡ length ks = sym (length-trees items) ∙ ap length (ei ∙ ej) in
     e ∙ (ap (λ n. drop n between) c ∙ (ap (drop (length ks)) m ∙ left-type_vars g ks))
 
--- what calls give, by what the code knows
-
-pub lift-given : (ks : List Kind) (s : Sig) (x y z : Abs) → ks ≡ kinds_of x → s ≡ body_of x
-    → ((c : List Kind) → NormalSig (extend c ks) s → NormalAbs (extend c ks) y → Lift c ks s y z)
-    → (ctx : List Kind) → OkRight ctx x → OkRight (extend ctx (kinds_of x)) y → Lift ctx (kinds_of x) (body_of x) y z
-lift-given ks s (Abs.Ex js t) y z ek es f ctx h i =
-    subst₂ (λ ls u. Lift ctx ls u y z) ek es (f ctx (subst₂ (λ ls u. NormalSig (extend ctx ls) u) (sym ek) (sym es) h.1) (subst (λ ls. NormalAbs (extend ctx ls) y) (sym ek) i.1))
-
 -- a signature under the parameter of functors
 right-under : (g : Env) (b : SigEx) (x y : Abs) (l : Name) → OkEnv (with_module g (kinds_of x) l (body_of x)) → SigMeans (with_module g (kinds_of x) l (body_of x)) b y → OkRight (extend (kinds g) (kinds_of x)) y
 right-under g b x y l h m = subst (λ ctx. OkRight ctx y) (kinds-type_vars g (kinds_of x)) (sig_ok (with_module g (kinds_of x) l (body_of x)) b y h m)
 
 -- an environment that is as before
-
-pub env-in : {g h : Env} → h ≡ g → OkEnv g → OkEnv h
-env-in s o = subst OkEnv (sym s) o
 
 pub sig-in : {g h : Env} {a : SigEx} {x : Abs} → h ≡ g → OkEnv g → SigMeans g a x → OkRight (kinds h) x
 sig-in {g} {h} {a} {x} s o p = subst (λ e. OkRight (kinds e) x) (sym s) (sig_ok g a x o p)

@@ -89,8 +89,7 @@ pub(crate) fn expect_int(alloc: Global, env: &Env, at: Span, ty: &NormalTy) -> R
     ensures refused { IfErr result (λ e. ByTest env.now (place at) (ty.now ≡ TyTree.Int → ⊥) (Differ ty.now TyTree.Int) e) }
 {
     let needed = as_normal(Ty::make(alloc, TyNode::Int)?);
-    expect_type(env, at, ty, needed)?;
-    Ok(())
+    expect_type(env, at, ty, needed)
 }
 
 /// The type is that of truth values. `Differ` comes exactly where it is another: the type, and that of truth values.
@@ -99,8 +98,7 @@ pub(crate) fn expect_bool(alloc: Global, env: &Env, at: Span, ty: &NormalTy) -> 
     ensures refused { IfErr result (λ e. ByTest env.now (place at) (ty.now ≡ TyTree.Bool → ⊥) (Differ ty.now TyTree.Bool) e) }
 {
     let needed = as_normal(Ty::make(alloc, TyNode::Bool)?);
-    expect_type(env, at, ty, needed)?;
-    Ok(())
+    expect_type(env, at, ty, needed)
 }
 
 /// A number, a truth value, a text. The only refusal is want of memory, as wherever no place is handed in.
@@ -122,10 +120,7 @@ pub(crate) fn function_rule(
     ensures given { IfOk result (λ o. FunctionGives param.now.ty (kind_tree param.now.kind) body.ty body.term o.ty o.term) }
     ensures refused { IfErr result (λ e. ByRule of_core env.now (place at) (FunctionRefuses param.now.ty (kind_tree param.now.kind)) e) }
 {
-    match lam_exp(alloc, param, body) {
-        Ok(made) => Ok(made),
-        Err(why) => Err(core_refusal(env, at, why)),
-    }
+    lam_exp(alloc, param, body).map_err(|why| core_refusal(env, at, why))
 }
 
 /// `fun [X : K] => E`.
@@ -147,10 +142,7 @@ pub(crate) fn call_rule(
     ensures given { IfOk result (λ o. CallGives function.ty function.term arg.ty arg.term o.ty o.term) }
     ensures refused { IfErr result (λ e. ByRule of_core env.now (place at) (CallRefuses function.ty arg.ty) e) }
 {
-    match apply_exp(alloc, function, arg) {
-        Ok(made) => Ok(made),
-        Err(why) => Err(core_refusal(env, at, why)),
-    }
+    apply_exp(alloc, function, arg).map_err(|why| core_refusal(env, at, why))
 }
 
 /// `E [T]`; the types of both are normal in the environment.
@@ -166,10 +158,7 @@ pub(crate) fn instance_rule(
     ensures given { IfOk result (λ o. InstanceGives (kinds_in env.now) function.ty function.term arg.now.ty (kind_tree arg.now.kind) o.ty o.term) }
     ensures refused { IfErr result (λ e. ByRule of_core env.now (place at) (InstanceRefuses function.ty arg.now.ty (kind_tree arg.now.kind)) e) }
 {
-    match inst_exp(alloc, function, arg) {
-        Ok(made) => Ok(made),
-        Err(why) => Err(core_refusal(env, at, why)),
-    }
+    inst_exp(alloc, function, arg).map_err(|why| core_refusal(env, at, why))
 }
 
 /// `E#X`.
@@ -183,10 +172,7 @@ pub(crate) fn get_rule(
     ensures given { IfOk result (λ o. GetGives whole.ty whole.term name.now o.ty o.term) }
     ensures refused { IfErr result (λ e. ByRule of_core env.now (place at) (GetRefuses whole.ty name.now) e) }
 {
-    match get_exp(alloc, whole, name) {
-        Ok(made) => Ok(made),
-        Err(why) => Err(core_refusal(env, at, why)),
-    }
+    get_exp(alloc, whole, name).map_err(|why| core_refusal(env, at, why))
 }
 
 /// `if E1 then E2 else E3`.
@@ -201,10 +187,7 @@ pub(crate) fn if_rule(
     ensures given { IfOk result (λ o. IfGives test.ty test.term yes.ty yes.term no.ty no.term o.ty o.term) }
     ensures refused { IfErr result (λ e. ByRule of_core env.now (place at) (IfRefuses test.ty yes.ty no.ty) e) }
 {
-    match if_exp(alloc, test, yes, no) {
-        Ok(made) => Ok(made),
-        Err(why) => Err(core_refusal(env, at, why)),
-    }
+    if_exp(alloc, test, yes, no).map_err(|why| core_refusal(env, at, why))
 }
 
 /// An operator on two operands.
@@ -219,10 +202,7 @@ pub(crate) fn operation_rule(
     ensures given { IfOk result (λ o. OperationGives op left.ty left.term right.ty right.term o.ty o.term) }
     ensures refused { IfErr result (λ e. ByRule of_core env.now (place at) (OperationRefuses left.ty right.ty) e) }
 {
-    match op_exp(alloc, op, left, right) {
-        Ok(made) => Ok(made),
-        Err(why) => Err(core_refusal(env, at, why)),
-    }
+    op_exp(alloc, op, left, right).map_err(|why| core_refusal(env, at, why))
 }
 
 /// `fix F (X : T) : U => E`.
@@ -237,10 +217,7 @@ pub(crate) fn fix_rule(
     ensures given { IfOk result (λ o. FixGives param.now.ty (kind_tree param.now.kind) target.now.ty (kind_tree target.now.kind) body.ty body.term o.ty o.term) }
     ensures refused { IfErr result (λ e. ByRule of_core env.now (place at) (FixRefuses param.now.ty (kind_tree param.now.kind) target.now.ty (kind_tree target.now.kind) body.ty) e) }
 {
-    match fix_exp(alloc, param, target, body) {
-        Ok(made) => Ok(made),
-        Err(why) => Err(core_refusal(env, at, why)),
-    }
+    fix_exp(alloc, param, target, body).map_err(|why| core_refusal(env, at, why))
 }
 
 /// `{X = E, ..}`.
@@ -253,8 +230,5 @@ pub(crate) fn record_rule(
     ensures given { IfOk result (λ o. RecordIs (exp_fields fields.items) o.ty o.term) }
     ensures refused { IfErr result (λ e. ByRule of_core env.now (place at) (RecordRefuses [] (exp_fields fields.items)) e) }
 {
-    match fields_exp(alloc, fields) {
-        Ok(made) => Ok(made),
-        Err(why) => Err(core_refusal(env, at, why)),
-    }
+    fields_exp(alloc, fields).map_err(|why| core_refusal(env, at, why))
 }

@@ -40,10 +40,7 @@ pub(crate) fn named_rule(alloc: Global, env: &Env, name: &SpanName) -> Result<Mo
     ensures found { IfOk result (λ m. find env.now name.now.name ≡ Some (body_of m.sig, m.term)) }
     ensures refused { IfErr result (λ e. ByRule of_mod env.now (place name.now.span) (NamedRefuses env.now name.now.name) e) }
 {
-    match named(alloc, env, &name.name) {
-        Ok(made) => Ok(made),
-        Err(why) => Err(mod_refusal(env, name.span, why)),
-    }
+    named(alloc, env, &name.name).map_err(|why| mod_refusal(env, name.span, why))
 }
 
 /// `M.X`.
@@ -57,10 +54,7 @@ pub(crate) fn project_rule(
     ensures given { IfOk result (λ m. (ctx : List KindTree) → OkModule ctx (module_of whole) → Projected ctx (module_of whole) name.now (module_of m)) }
     ensures refused { IfErr result (λ e. ByRule of_mod env.now (place at) (ProjectRefuses (module_of whole) name.now) e) }
 {
-    match project(alloc, whole, name) {
-        Ok(made) => Ok(made),
-        Err(why) => Err(mod_refusal(env, at, why)),
-    }
+    project(alloc, whole, name).map_err(|why| mod_refusal(env, at, why))
 }
 
 /// A functor over a parameter, with a body under it: applicative where it is not generative and its body is pure. `Err` is
@@ -92,10 +86,7 @@ pub(crate) fn parts_rule(
     ensures given { IfOk result (λ o. PartsGive sig.now o.0 o.1 o.2) }
     ensures refused { IfErr result (λ e. ByRule of_mod env.now (place at) (FunctorRefuses sig.now) e) }
 {
-    match functor_parts(alloc, sig) {
-        Ok(made) => Ok(made),
-        Err(why) => Err(mod_refusal(env, at, why)),
-    }
+    functor_parts(alloc, sig).map_err(|why| mod_refusal(env, at, why))
 }
 
 /// A match of a signature with one that hides types; both are good in the environment.
@@ -111,10 +102,7 @@ pub(crate) fn match_rule(
     ensures given { IfOk result (λ o. Match (kinds_in env.now) left.now right.now o.types o.coercion) }
     ensures refused { IfErr result (λ e. ByMatch env.now (place at) left.now right.now e) }
 {
-    match match_sig(alloc, env, left, right) {
-        Ok(made) => Ok(made),
-        Err(why) => Err(match_refusal(env, at, why)),
-    }
+    match_sig(alloc, env, left, right).map_err(|why| match_refusal(env, at, why))
 }
 
 /// `X1 X2`, by a match of X2 against the parameter of X1, which is a functor that keeps nothing hidden. `Err` is want of
@@ -129,10 +117,7 @@ pub(crate) fn apply_rule(
         → OkSig ctx (body_of functor.now.sig) → PartsGive (body_of functor.now.sig) f param target → Match ctx left param matched.types matched.coercion
         → ApplyGives ctx (body_of functor.now.sig) functor.now.term matched.types matched.coercion arg (module_of m)) }
 {
-    match apply(alloc, functor, arg, matched.types, matched.coercion) {
-        Ok(made) => Ok(made),
-        Err(_) => Err(Mem),
-    }
+    apply(alloc, functor, arg, matched.types, matched.coercion).map_err(|_| Mem)
 }
 
 /// The fields of a structure.
@@ -149,10 +134,7 @@ pub(crate) fn fields_of(sig: &Sig) -> Option<&SigFields>
 pub(crate) fn include_rule(alloc: Global, first: Module, rest: Module) -> Result<Module, Mem>
     ensures { IfOk result (λ m. (ctx : List KindTree) → OkModule ctx (module_of first) → OkModule (extend ctx (kinds_of first.sig)) (module_of rest) → IncludeGives ctx (module_of first) (module_of rest) (module_of m)) }
 {
-    match include_bind(alloc, first, rest) {
-        Ok(made) => Ok(made),
-        Err(_) => Err(Mem),
-    }
+    include_bind(alloc, first, rest).map_err(|_| Mem)
 }
 
 /// The end of a structure: what the environment has for each of these names, all of which are bound. `Err` is want of

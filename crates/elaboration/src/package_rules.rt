@@ -24,8 +24,5 @@ pub(crate) fn unpack_rule(
     ensures given { IfOk result (λ m. UnpackGives value.ty value.term target.now (module_of m)) }
     ensures refused { IfErr result (λ e. ByRule of_unpack env.now (place at) (UnpackRefuses value.ty target.now) e) }
 {
-    match unpack_module(alloc, value, target) {
-        Ok(made) => Ok(made),
-        Err(why) => Err(unpack_refusal(env, at, why)),
-    }
+    unpack_module(alloc, value, target).map_err(|why| unpack_refusal(env, at, why))
 }

@@ -28,10 +28,7 @@ pub(crate) fn type_path_rule(
     ensures given { IfOk result (λ o. TypeOfPath (kinds_in env.now) (module_of whole) o.ty (kind_tree o.kind)) }
     ensures refused { IfErr result (λ e. ByRule of_mod env.now (place at) (TypePathRefuses (kinds_in env.now) (module_of whole)) e) }
 {
-    match path_type(alloc, whole) {
-        Ok(made) => Ok(made),
-        Err(why) => Err(mod_refusal(env, at, why)),
-    }
+    path_type(alloc, whole).map_err(|why| mod_refusal(env, at, why))
 }
 
 /// A path as a value; the module is good in the environment.
@@ -45,10 +42,7 @@ pub(crate) fn value_path_rule(
     ensures given { IfOk result (λ o. ValueOfPath (kinds_in env.now) (module_of whole) o.ty o.term) }
     ensures refused { IfErr result (λ e. ByRule of_mod env.now (place at) (ValuePathRefuses (kinds_in env.now) (module_of whole)) e) }
 {
-    match path_value(alloc, whole) {
-        Ok(made) => Ok(made),
-        Err(why) => Err(mod_refusal(env, at, why)),
-    }
+    path_value(alloc, whole).map_err(|why| mod_refusal(env, at, why))
 }
 
 /// A path as a signature; the module is good in the environment.
@@ -62,8 +56,5 @@ pub(crate) fn sig_path_rule(
     ensures given { IfOk result (λ x. SigOfPath (kinds_in env.now) (module_of whole) x) }
     ensures refused { IfErr result (λ e. ByRule of_mod env.now (place at) (SigPathRefuses (kinds_in env.now) (module_of whole)) e) }
 {
-    match path_sig(alloc, whole) {
-        Ok(made) => Ok(made),
-        Err(why) => Err(mod_refusal(env, at, why)),
-    }
+    path_sig(alloc, whole).map_err(|why| mod_refusal(env, at, why))
 }

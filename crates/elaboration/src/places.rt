@@ -1,16 +1,14 @@
 // Where the refusal of a fixed type stands.
-ghost use Rattle.std.specs.Prelude.{◌≡◌, ◌∷◌, IfSome, MatchOption, map};
-ghost use Rattle.sig_rules.specs.Refinement.{Lacks};
-ghost use Rattle.sig_calls.specs.Hidden.{IsAt};
+ghost use Rattle.std.specs.Prelude.{◌≡◌, ◌∷◌, IfSome, map};
 ghost use Rattle.sig_calls.specs.Plain.{plain_why};
 ghost use Rattle.fing_syntax.specs.Leaves.{place, spelled};
 ghost use Rattle.fing_syntax.specs.Place.{path_span};
 ghost use Rattle.elaboration.specs.Leaving.{LeftAt, StandsAt};
 
+use crate::naming::up_to;
 use fing_syntax::SpanName;
 use fing_text::Span;
-use omega_kinds::Name;
-use semantic_sigs::{Sig, SigNode, find_field};
+use semantic_sigs::{Sig, field};
 use sig_calls::SigRefusal;
 
 /// The place of the reason: the name at which the path leaves the structures of the signature, the path, or the place of
@@ -44,28 +42,12 @@ fn name_place(sig: &Sig, first: &SpanName, rest: &[SpanName]) -> Span
     }
 }
 
-// The part under the name; `None` exactly where the signature is no structure that has one.
-fn field<'a>(sig: &'a Sig, name: &Name) -> Option<&'a Sig>
-    ensures { MatchOption result (Lacks sig.now name.now) (λ s. IsAt sig.now name.now s.now) }
-{
-    match sig.node() {
-        SigNode::Str(fields) => find_field(fields, name),
-        _ => None,
-    }
-}
-
 // From the first name of a path to its last.
 fn path_place(first: &SpanName, rest: &[SpanName]) -> Span
     ensures { place result ≡ path_span (spelled first.now) (map spelled rest.now) }
 {
     match rest {
         [] => first.span,
-        [next, more @ ..] => {
-            let later = path_place(next, more);
-            Span {
-                from: first.span.from,
-                to: later.to,
-            }
-        }
+        [next, more @ ..] => up_to(first.span, path_place(next, more)),
     }
 }

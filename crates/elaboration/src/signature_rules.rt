@@ -68,10 +68,7 @@ pub(crate) fn value_rule(
     ensures given { IfOk result (λ x. ValueGives name.now ty.now.ty (kind_tree ty.now.kind) x) }
     ensures refused { IfErr result (λ e. ByRule of_sig env.now (place at) (ValueRefuses ty.now.ty (kind_tree ty.now.kind)) e) }
 {
-    match decl_val(alloc, name, ty) {
-        Ok(made) => Ok(made),
-        Err(why) => Err(sig_refusal(env, at, why)),
-    }
+    decl_val(alloc, name, ty).map_err(|why| sig_refusal(env, at, why))
 }
 
 /// `type X = T`.
@@ -111,10 +108,7 @@ pub(crate) fn include_rule(env: &Env, at: Span, sig: &Abs) -> Result<Abs, Refusa
     ensures given { IfOk result (λ x. IncludeGives sig.now x) }
     ensures refused { IfErr result (λ e. ByRule of_sig env.now (place at) (IncludeRefuses sig.now) e) }
 {
-    match include(sig) {
-        Ok(made) => Ok(made),
-        Err(why) => Err(sig_refusal(env, at, why)),
-    }
+    include(sig).map_err(|why| sig_refusal(env, at, why))
 }
 
 /// Whether the labels of a declaration differ from those before it.
@@ -127,10 +121,7 @@ pub(crate) fn distinct_rule(
     ensures given { OnOk result (AreNew (fields_in next.now) before.now) }
     ensures refused { IfErr result (λ e. ByRule of_sig env.now (place at) (DistinctRefuses before.now (fields_in next.now)) e) }
 {
-    match distinct(before, next) {
-        Ok(()) => Ok(()),
-        Err(why) => Err(sig_refusal(env, at, why)),
-    }
+    distinct(before, next).map_err(|why| sig_refusal(env, at, why))
 }
 
 /// The signature of no declarations. `Err` is want of memory.
@@ -161,8 +152,7 @@ pub(crate) fn functor_rule(alloc: Global, param: &Abs, target: &Abs) -> Result<A
 pub(crate) fn lift_rule(alloc: Global, param: &Abs, target: &Abs) -> Result<Abs, Mem>
     ensures { IfOk result (λ x. (ctx : List KindTree) → OkRight ctx param.now → OkRight (extend ctx (kinds_of param.now)) target.now → Lift ctx (kinds_of param.now) (body_of param.now) target.now x) }
 {
-    let made = lift(alloc, param.kinds(), param.body(), target)?;
-    Ok(made)
+    lift(alloc, param.kinds(), param.body(), target)
 }
 
 /// `S where type path = T`; both are good in the environment.

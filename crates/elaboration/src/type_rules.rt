@@ -65,10 +65,7 @@ pub(crate) fn arrow_rule(
     ensures given { IfOk result (λ o. ArrowGives from.now.ty (kind_tree from.now.kind) to.now.ty (kind_tree to.now.kind) o.ty (kind_tree o.kind)) }
     ensures refused { IfErr result (λ e. ByRule of_core env.now (place at) (ArrowRefuses from.now.ty (kind_tree from.now.kind) to.now.ty (kind_tree to.now.kind)) e) }
 {
-    match arrow_ty(alloc, from, to) {
-        Ok(made) => Ok(made),
-        Err(why) => Err(core_refusal(env, at, why)),
-    }
+    arrow_ty(alloc, from, to).map_err(|why| core_refusal(env, at, why))
 }
 
 /// `[X : K] -> T`.
@@ -82,10 +79,7 @@ pub(crate) fn all_rule(
     ensures given { IfOk result (λ o. AllGives (kind_tree kind.now) body.now.ty (kind_tree body.now.kind) o.ty (kind_tree o.kind)) }
     ensures refused { IfErr result (λ e. ByRule of_core env.now (place at) (AllRefuses (kind_tree kind.now) body.now.ty (kind_tree body.now.kind)) e) }
 {
-    match all_ty(alloc, kind, body) {
-        Ok(made) => Ok(made),
-        Err(why) => Err(core_refusal(env, at, why)),
-    }
+    all_ty(alloc, kind, body).map_err(|why| core_refusal(env, at, why))
 }
 
 /// `fun (X : K) => T`.
@@ -109,10 +103,7 @@ pub(crate) fn apply_rule(
     ensures given { IfOk result (λ o. AppliedGives (kinds_in env.now) operator.now.ty (kind_tree operator.now.kind) arg.now.ty (kind_tree arg.now.kind) o.ty (kind_tree o.kind)) }
     ensures refused { IfErr result (λ e. ByRule of_core env.now (place at) (AppliedRefuses operator.now.ty (kind_tree operator.now.kind) arg.now.ty (kind_tree arg.now.kind)) e) }
 {
-    match apply_ty(alloc, operator, arg) {
-        Ok(made) => Ok(made),
-        Err(why) => Err(core_refusal(env, at, why)),
-    }
+    apply_ty(alloc, operator, arg).map_err(|why| core_refusal(env, at, why))
 }
 
 /// `{X : T, ..}`.
@@ -125,8 +116,5 @@ pub(crate) fn fields_rule(
     ensures given { IfOk result (λ o. RecordTypeIs (type_fields fields.items) o.ty (kind_tree o.kind)) }
     ensures refused { IfErr result (λ e. ByRule of_core env.now (place at) (RecordTypeRefuses [] (type_fields fields.items)) e) }
 {
-    match fields_ty(alloc, fields) {
-        Ok(made) => Ok(made),
-        Err(why) => Err(core_refusal(env, at, why)),
-    }
+    fields_ty(alloc, fields).map_err(|why| core_refusal(env, at, why))
 }

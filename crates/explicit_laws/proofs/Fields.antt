@@ -1,6 +1,6 @@
 -- Fields of two structures together.
 use Rattle.std.specs.Prelude.{List, ◌≡◌, ◌≢◌, Bool, true, false, cond, IsTrue}
-use Rattle.std.proofs.Math.Path.{refl, sym}
+use Rattle.std.proofs.Math.Path.{refl}
 use Rattle.omega_kinds.specs.Kind.{Kind}
 use Rattle.omega_kinds.specs.Name.{Name}
 use Rattle.omega_kinds.specs.LabelOrder.{name_before}
@@ -8,9 +8,10 @@ use Rattle.signatures.specs.Signatures.Sig.{Sig, SigRow, HasField, here, there, 
 use Rattle.signatures.specs.Signatures.FieldOrder.{insert_field, merge}
 use Rattle.signatures.specs.Explicit.WellFormed.{BeforeAll, Rising, WellFormedRow, ExplicitResultsRow, WellFormed, ExplicitResults, in_end, in_more}
 use Rattle.omega_kinds.proofs.NameLaws.{name-transitive}
-use Rattle.explicit_laws.proofs.Names.{Compared, before, after, same, NameBefore, compare-names}
+use Rattle.sig_laws.proofs.Algebra.Names.{Compared, before, after, same, NameBefore, compare-names}
 use Rattle.explicit_laws.proofs.Moves.{FieldsIn}
 use Rattle.sig_laws.proofs.Formed.WellFormedShape.{before-no_field}
+use Rattle.sig_laws.proofs.Algebra.PathLaws.{field-not}
 
 -- no field of one is one of the other
 pub data Apart : SigRow → SigRow → Type 0 where
@@ -72,10 +73,6 @@ insert-other : (l : Name) (s : Sig) (fs : SigRow) {n : Name} {q : Sig} → n ≢
 insert-other l s SigRow.End d h = elim h [ ]
 insert-other l s (SigRow.More m t rest) {n} {q} d here = insert-cases (λ row. HasField row n q) l m s t rest (λ e. there d here) (λ e. here)
 insert-other l s (SigRow.More m t rest) {n} {q} d (there f h) = insert-cases (λ row. HasField row n q) l m s t rest (λ e. there d (there f h)) (λ e. there f (insert-other l s rest d h))
-
-pub field-not : {fs : SigRow} {n l : Name} {q : Sig} → HasField fs n q → NoField l fs → n ≢ l
-field-not here h = λ e. h.0 (sym e)
-field-not (there f g) h = field-not g h.1
 
 pub merge-left : (fs gs : SigRow) → Apart fs gs → Rising fs → FieldsIn fs (merge fs gs)
 merge-left SigRow.End gs a r l s h = elim h [ ]

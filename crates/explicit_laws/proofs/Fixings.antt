@@ -5,8 +5,7 @@ use Rattle.std.proofs.Common.{arith}
 use Rattle.std.proofs.Math.Path.{sym, ◌∙◌, ap, subst}
 use Rattle.omega_kinds.specs.Kind.{Kind}
 use Rattle.omega_types.specs.Ty.{Ty}
-use Rattle.omega_types.specs.Kinding.{here, there, HasKind}
-use Rattle.omega_types.specs.Kinding.HasKind.{k_var}
+use Rattle.omega_types.specs.Kinding.{HasKind}
 use Rattle.omega_types.specs.Mentions.{Mentions}
 use Rattle.omega_types.specs.Binders.{extend, past, own, front, raise, unders}
 use Rattle.omega_types.proofs.Preservation.{Substitutes, kind-rename}
@@ -20,15 +19,13 @@ use Rattle.sig_laws.proofs.Algebra.BinderLaws.{extend-append, unders-past}
 use Rattle.sig_laws.proofs.Algebra.SigMention.{mentions-rename}
 use Rattle.sig_laws.proofs.Algebra.Own.{split_index, unders-below}
 use Rattle.sig_laws.proofs.Formed.WellFormedLaws.{well_formed-kinds, well_formed-substitute, explicit_results-substitute}
-use Rattle.explicit_laws.proofs.Moves.{rooted-shows, shows-rooted, shows-substitute, params-moved}
-use Rattle.explicit_laws.proofs.Positions.{own-first, own-second, split-number, past-injective, not-past, own-below, length-append}
+use Rattle.explicit_laws.proofs.Moves.{params-moved}
+use Rattle.explicit_laws.proofs.Positions.{own-first, own-second, split-number, past-injective, not-past, own-below}
 use Rattle.omega_types.proofs.BinderLaws.{past-maps}
-use Rattle.omega_types.proofs.BinderPuts.{unders-substitutes}
+use Rattle.omega_types.proofs.BinderPuts.{unders-substitutes, front-substitutes, vars-substitutes}
 use Rattle.sig_laws.specs.Decide.{in_var}
-
-pub front-substitutes : {ctx : List Kind} {t : Ty} {k : Kind} → HasKind ctx t k → Substitutes (k ∷ ctx) ctx (front t Ty.Var)
-front-substitutes h _ _ here = h
-front-substitutes h _ _ (there x) = k_var x
+use Rattle.std.proofs.lemmas.List.{length-append}
+use Rattle.sig_laws.proofs.Formed.Shows.{rooted-shows, shows-rooted, shows-substitute}
 
 module _ (before after : List Kind) (k : Kind) (u : Ty) where
   -- from under all binders to under those that are left
@@ -102,7 +99,7 @@ module _ (before after : List Kind) (k : Kind) (u : Ty) where
   fixing-substitutes ctx h =
       subst (λ c. Substitutes c (left ctx) fixing) (sym (extend-append before (k ∷ after) ctx))
       (subst (λ c. Substitutes (extend (k ∷ extend ctx before) after) c fixing) (sym (extend-append before after ctx))
-      (unders-substitutes after (front-substitutes (kind-rename (past before) (past-maps before ctx) h))))
+      (unders-substitutes after (front-substitutes (kind-rename (past before) (past-maps before ctx) h) (vars-substitutes (extend ctx before)))))
 
   fixed_root : (ctx : List Kind) (s : Sig) {i n : ℕ} {p : SigPath} → HasKind ctx u k → WellFormed (inside ctx) s → Kept i n → i < length (before ++ after) → RootPath ctx (before ++ (k ∷ after)) s n p → RootPath ctx (before ++ after) (substitute_sig fixing s) i p
   fixed_root ctx s {i} {n} {p} h w e b (root_path bound (root_of x y)) = by_numbers b

@@ -1,6 +1,5 @@
 -- The operations keep signatures ordered explicit, as the contract says it.
-use Rattle.std.specs.Prelude.{List, ◌≢◌}
-use Rattle.std.proofs.Math.Path.{sym}
+use Rattle.std.specs.Prelude.{List}
 use Rattle.omega_kinds.specs.Kind.{Kind}
 use Rattle.omega_kinds.specs.Name.{Name}
 use Rattle.signatures.specs.Signatures.Sig.{Sig, Abs, SigRow, HasField, here, there, NoField}
@@ -9,16 +8,12 @@ use Rattle.explicit_laws.proofs.Fields.{Apart, none, next}
 use Rattle.explicit_laws.proofs.Sequences.{sequence_explicit, row-of}
 use Rattle.explicit_laws.proofs.Fixings.{fixed_explicit}
 use Rattle.explicit_laws.proofs.Operations.{lift_explicit, lift_well_formed, generative_explicit, instance_explicit, outside_explicit}
-use Rattle.sig_laws.proofs.Formed.WellFormedShape.{before-no_field}
+use Rattle.sig_laws.proofs.Formed.WellFormedShape.{after-differs}
 use Rattle.explicit_laws.specs.Kept.{SequenceKeeps, LiftKeeps, LiftKeepsWellFormed, GenerativeKeeps, FixingKeeps, InstanceKeeps, OutsideKeeps}
-
-no-field-differs : {fs : SigRow} {l m : Name} {s : Sig} → NoField l fs → HasField fs m s → m ≢ l
-no-field-differs n here e = n.0 (sym e)
-no-field-differs n (there d h) e = no-field-differs n.1 h e
 
 apart-of : (fs gs : SigRow) → Rising fs → ((l : Name) (s : Sig) → HasField fs l s → NoField l gs) → Apart fs gs
 apart-of SigRow.End gs r h = none
-apart-of (SigRow.More l s fs) gs r h = next (h l s here) (apart-of fs gs r.1 (λ m t f. h m t (there (no-field-differs (before-no_field l fs r.0) f) f)))
+apart-of (SigRow.More l s fs) gs r h = next (h l s here) (apart-of fs gs r.1 (λ m t f. h m t (there (after-differs l m r.0 f) f)))
 
 fields-rise : {ctx ks : List Kind} {fs : SigRow} → Explicit ctx (Abs.Ex ks (Sig.Str fs)) → Rising fs
 fields-rise (explicit w r e) = (row-of w).0

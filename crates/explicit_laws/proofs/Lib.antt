@@ -2,9 +2,7 @@ pub mod Fields
 pub mod Fixings
 pub mod Liftings
 pub mod Moves
-pub mod Names
 pub mod Operations
-pub mod Paths
 pub mod Positions
 pub mod Sequences
 pub mod KeptClaims

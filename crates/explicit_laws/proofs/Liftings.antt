@@ -1,21 +1,16 @@
 -- The lifted signature of an applicative functor is ordered explicit where its parameter and its result are.
-use Rattle.std.specs.Prelude.{ℕ, zero, suc, ◌<◌, List, [], ◌∷◌, ◌++◌, ◌≡◌, ◌⊎◌, length, map}
+use Rattle.std.specs.Prelude.{ℕ, zero, suc, ◌<◌, List, [], ◌∷◌, ◌++◌, ◌≡◌, ◌⊎◌, length}
 use mathlib.Core.Logic.{inl, inr}
 use Rattle.std.proofs.Common.{arith}
-use Rattle.std.proofs.Math.Path.{sym, ◌∙◌, ap, subst, fun_ext}
+use Rattle.std.proofs.Math.Path.{sym, ◌∙◌, ap, subst}
 use Rattle.std.proofs.lemmas.List.{length-map}
 use Rattle.omega_kinds.specs.Kind.{Kind}
 use Rattle.omega_kinds.specs.declared.effect.Effect.TheVariants.{Pure}
 use Rattle.omega_types.specs.Ty.{Ty}
 use Rattle.omega_types.specs.Substitution.{rename}
-use Rattle.omega_types.specs.Kinding.{Lookup, here, there, HasKind}
-use Rattle.omega_types.specs.Kinding.HasKind.{k_var}
 use Rattle.omega_types.specs.Conversion.{Conv}
 use Rattle.omega_types.specs.Mentions.{Mentions, m_operator, m_arg}
-use Rattle.omega_types.specs.Normalises.{Maps}
 use Rattle.omega_types.specs.Binders.{extend, past, own, lifts, arrow_over, applied}
-use Rattle.omega_types.proofs.Preservation.{Substitutes}
-use Rattle.omega_types.proofs.Mention.{lookup-unique}
 use Rattle.signatures.specs.Signatures.Sig.{Sig, Abs}
 use Rattle.signatures.specs.Signatures.SigSubst.{rename_sig, substitute_sig}
 use Rattle.signatures.specs.Signatures.SigMentions.{Avoids}
@@ -24,57 +19,17 @@ use Rattle.signatures.specs.Explicit.RootPath.{ParamsAvoid, RootPath, root_path,
 use Rattle.sig_laws.proofs.Formed.RootNumbers.{own_falls, by_numbers}
 use Rattle.signatures.specs.Explicit.WellFormed.{EachRooted, WellFormed, Explicit, explicit, in_pure}
 use Rattle.signatures.specs.Lifting.{lifted_kinds, lifting, lifted}
-use Rattle.sig_laws.proofs.Algebra.BinderLaws.{extend-append, applied-append, past-append, lifts-past, unders-vars, past-length}
+use Rattle.sig_laws.proofs.Algebra.BinderLaws.{extend-append, applied-append, past-append, lifts-past, unders-vars}
 use Rattle.sig_laws.proofs.Algebra.SigAlgebra.{substitute-vars_sig}
 use Rattle.sig_laws.proofs.Algebra.SigMention.{mentions-raised}
 use Rattle.sig_laws.proofs.Algebra.Own.{split_index, unders-below}
 use Rattle.sig_laws.proofs.Formed.WellFormedLaws.{well_formed-kinds, well_formed-substitute, explicit_results-substitute, explicit-rename, maps-substitutes}
-use Rattle.explicit_laws.proofs.Moves.{Shows, shows, rooted-shows, shows-rooted, shows-substitute, avoids-moved, params-moved}
+use Rattle.explicit_laws.proofs.Moves.{params-moved}
 use Rattle.explicit_laws.proofs.Positions.{past-injective, not-past, own-below}
-use Rattle.omega_types.proofs.BinderLaws.{applied-kind, past-maps}
-use Rattle.omega_types.proofs.BinderPuts.{lifts-maps}
 use Rattle.sig_laws.proofs.Encoded.LiftTyping.{lifting-own as lifting-below, lifting-outer as lifting-past}
 use Rattle.sig_laws.specs.Decide.{in_var}
-
-pub lookup-mapped : (F : Kind → Kind) (bs ctx other : List Kind) {i : ℕ} {k : Kind} → i < length bs → Lookup (extend ctx bs) i k → Lookup (extend other (map F bs)) i (F k)
-lookup-mapped F [] ctx other h x = absurd (omega (arith, h))
-lookup-mapped F (b ∷ bs) ctx other {i} {k} h x = go (lookup-mapped F bs (b ∷ ctx) (F b ∷ other)) (split_index bs i)
-  where
-    last : (j : ℕ) → i ≡ past bs j → j ≡ zero
-    last j e = let g = past-length bs j in omega arith
-
-    go : ((g : i < length bs) → Lookup (extend (b ∷ ctx) bs) i k → Lookup (extend (F b ∷ other) (map F bs)) i (F k)) → (i < length bs) ⊎ ((j : ℕ) × (i ≡ past bs j)) → Lookup (extend (F b ∷ other) (map F bs)) i (F k)
-    go ih (inl g) = ih g x
-    go ih (inr (j, e)) =
-        let f : i ≡ past bs zero = e ∙ ap (past bs) (last j e) in
-        let same : b ≡ k = lookup-unique (past-maps bs (b ∷ ctx) zero b here) (subst (λ n. Lookup (extend (b ∷ ctx) bs) n k) f x) in
-        let l = length-map bs F in
-        let p = past-length bs zero in
-        let q = past-length (map F bs) zero in
-        let place : past (map F bs) zero ≡ i = omega arith in
-        subst (λ n. Lookup (extend (F b ∷ other) (map F bs)) n (F k)) place (subst (λ n. Lookup (extend (F b ∷ other) (map F bs)) (past (map F bs) zero) (F n)) same (past-maps (map F bs) (F b ∷ other) zero (F b) here))
-
-pub lookup-outside : (bs : List Kind) {ctx : List Kind} {i : ℕ} {k : Kind} → Lookup (extend ctx bs) (past bs i) k → Lookup ctx i k
-lookup-outside [] x = x
-lookup-outside (b ∷ bs) {ctx} {i} {k} x = go (lookup-outside bs x)
-  where
-    go : Lookup (b ∷ ctx) (suc i) k → Lookup ctx i k
-    go (there y) = y
-
-pub past-same : (ks js : List Kind) → length ks ≡ length js → past ks ≡ past js
-past-same ks js e = fun_ext (λ i. let a = past-length ks i in let b = past-length js i in omega arith)
-
-pub maps-lifted : (ks bs ctx : List Kind) → Maps ctx (extend ctx (lifted_kinds ks bs)) (past bs)
-maps-lifted ks bs ctx = subst (Maps ctx (extend ctx (lifted_kinds ks bs))) (past-same (lifted_kinds ks bs) bs (length-map bs (arrow_over ks))) (past-maps (lifted_kinds ks bs) ctx)
-
-pub lifting-substitutes : (ks bs ctx : List Kind) → Substitutes (extend (extend ctx ks) bs) (extend (extend ctx (lifted_kinds ks bs)) ks) (lifting ks bs)
-lifting-substitutes ks bs ctx i k x = go (split_index bs i)
-  where
-    go : (i < length bs) ⊎ ((j : ℕ) × (i ≡ past bs j)) → HasKind (extend (extend ctx (lifted_kinds ks bs)) ks) (lifting ks bs i) k
-    go (inl h) = subst (λ t. HasKind (extend (extend ctx (lifted_kinds ks bs)) ks) t k) (sym (lifting-below ks bs i h)) (applied-kind ks (k_var (lookup-mapped (arrow_over ks) bs (extend ctx ks) ctx h x)))
-    go (inr (j, e)) =
-        subst (λ t. HasKind (extend (extend ctx (lifted_kinds ks bs)) ks) t k) (sym (ap (lifting ks bs) e ∙ lifting-past ks bs j))
-        (k_var (lifts-maps ks (maps-lifted ks bs ctx) j k (lookup-outside bs (subst (λ n. Lookup (extend (extend ctx ks) bs) n k) e x))))
+use Rattle.sig_laws.proofs.LiftLaws.{lifting_kinds, lifting_maps, maps-lifted}
+use Rattle.sig_laws.proofs.Formed.Shows.{Shows, shows, rooted-shows, shows-rooted, shows-substitute, avoids-moved}
 
 -- what is mentioned
 
@@ -86,24 +41,14 @@ mentions-applied (k ∷ ks) {i} {t} m = go (mentions-applied ks m)
     go (m_operator n) = mentions-raised t i n
     go (m_arg n) = let e = in_var n in absurd (omega (arith, e))
 
-index_of : Ty → ℕ
-index_of (Ty.Var i) = i
-index_of t = zero
-
-same-index : {i j : ℕ} → Path Ty (Ty.Var i) (Ty.Var j) → i ≡ j
-unfolding index_of
-same-index e = ap index_of e
-
 pub lifts-below : (ks : List Kind) (r : ℕ → ℕ) (x : ℕ) → x < length ks → lifts ks r x ≡ x
-lifts-below ks r x h = sym (same-index (sym (unders-below ks (λ i. Ty.Var (r i)) x h) ∙ ap (λ g. g x) (unders-vars ks r)))
+lifts-below ks r x h = let e : Path Ty (Ty.Var x) (Ty.Var (lifts ks r x)) = sym (unders-below ks (λ i. Ty.Var (r i)) x h) ∙ ap (λ g. g x) (unders-vars ks r) in cc
 
 pub lifts-back : (ks : List Kind) (r : ℕ → ℕ) (x v : ℕ) → lifts ks r x ≡ past ks v → (y : ℕ) × (x ≡ past ks y) × (r y ≡ v)
 lifts-back ks r x v e = go (split_index ks x)
   where
     go : (x < length ks) ⊎ ((y : ℕ) × (x ≡ past ks y)) → (y : ℕ) × (x ≡ past ks y) × (r y ≡ v)
-    go (inl h) =
-        let f : x ≡ lifts ks r x = same-index (sym (unders-below ks (λ i. Ty.Var (r i)) x h) ∙ ap (λ g. g x) (unders-vars ks r)) in
-        absurd (not-past ks x v h (f ∙ e))
+    go (inl h) = absurd (not-past ks x v h (sym (lifts-below ks r x h) ∙ e))
     go (inr (y, f)) = (y, f, past-injective ks (r y) v (sym (lifts-past ks r y) ∙ (ap (lifts ks r) (sym f) ∙ e)))
 
 -- through the functor
@@ -124,7 +69,7 @@ pub lifted_param : (ctx ks bs : List Kind) (s : Sig) → Explicit ctx (Abs.Ex ks
 lifted_param ctx ks bs s h = explicit-rename (past bs) (maps-lifted ks bs ctx) h
 
 pub lifted_well_formed : (ctx ks bs : List Kind) (s r : Sig) → Explicit ctx (Abs.Ex ks s) → WellFormed (extend (extend ctx ks) bs) r → WellFormed (extend ctx (lifted_kinds ks bs)) (Sig.Fun Pure ks (rename_sig (lifts ks (past bs)) s) (Abs.Ex [] (substitute_sig (lifting ks bs) r)))
-lifted_well_formed ctx ks bs s r h w = WellFormed.pure (lifted_param ctx ks bs s h) (well_formed-substitute (lifting ks bs) (lifting-substitutes ks bs ctx) w)
+lifted_well_formed ctx ks bs s r h w = WellFormed.pure (lifted_param ctx ks bs s h) (well_formed-substitute (lifting ks bs) (lifting_kinds ctx ks bs) w)
 
 pub body-of : {ctx ks : List Kind} {s : Sig} → Explicit ctx (Abs.Ex ks s) → WellFormed (extend ctx ks) s
 body-of (explicit w r e) = w
@@ -132,7 +77,7 @@ body-of (explicit w r e) = w
 pub lifted_explicit : (ctx ks bs : List Kind) (s r : Sig) → Explicit ctx (Abs.Ex ks s) → Explicit (extend ctx ks) (Abs.Ex bs r) → Explicit ctx (lifted ks s (Abs.Ex bs r))
 lifted_explicit ctx ks bs s r h (explicit w q e) = explicit
     (lifted_well_formed ctx ks bs s r h w)
-    (in_pure (explicit_results-substitute (lifting ks bs) (lifting-substitutes ks bs ctx) q))
+    (in_pure (explicit_results-substitute (lifting ks bs) (lifting_kinds ctx ks bs) q))
     each
   where
     same-own : (i : ℕ) → own (lifted_kinds ks bs) i ≡ own bs i
@@ -147,11 +92,11 @@ lifted_explicit ctx ks bs s r h (explicit w q e) = explicit
 
     param-avoids : (v : ℕ) → v < length bs → Avoids (extend (extend ctx (lifted_kinds ks bs)) ks) (rename_sig (lifts ks (past bs)) s) (past ks v)
     param-avoids v lt = subst (λ z. Avoids (extend (extend ctx (lifted_kinds ks bs)) ks) z (past ks v)) (substitute-vars_sig (lifts ks (past bs)) s)
-        (avoids-moved s (past ks v) (λ i. Ty.Var (lifts ks (past bs) i)) (maps-substitutes (lifts-maps ks (maps-lifted ks bs ctx))) (well_formed-kinds (body-of h))
+        (avoids-moved s (past ks v) (λ i. Ty.Var (lifts ks (past bs) i)) (maps-substitutes (lifting_maps ctx ks bs)) (well_formed-kinds (body-of h))
         (λ x m. absurd (fresh v x lt (sym (in_var m)))))
 
     result-avoids : (p : SigPath) (v : ℕ) → v < length bs → ParamsAvoid (extend (extend ctx ks) bs) r p v → ParamsAvoid (extend (extend ctx (lifted_kinds ks bs)) ks) (substitute_sig (lifting ks bs) r) p (past ks v)
-    result-avoids p v lt a = params-moved r p (past ks v) (lifting ks bs) (lifting-substitutes ks bs ctx) (well_formed-kinds w) from
+    result-avoids p v lt a = params-moved r p (past ks v) (lifting ks bs) (lifting_kinds ctx ks bs) (well_formed-kinds w) from
       where
         from : (x : ℕ) → Mentions (past ks v) (lifting ks bs x) → ParamsAvoid (extend (extend ctx ks) bs) r p x
         from x m = go (split_index bs x)
@@ -165,7 +110,7 @@ lifted_explicit ctx ks bs s r h (explicit w q e) = explicit
         (shows-rooted (ap Ty.Var (sym (same-own i)))
         (shows-result (extend ctx (lifted_kinds ks bs)) ks
         (subst (λ u. Shows (extend (extend ctx (lifted_kinds ks bs)) ks) (substitute_sig (lifting ks bs) r) u p) (lifting-below ks bs (own bs i) (own-below bs i lt))
-        (shows-substitute (lifting ks bs) (lifting-substitutes ks bs ctx) (rooted-shows x)))))
+        (shows-substitute (lifting ks bs) (lifting_kinds ctx ks bs) (rooted-shows x)))))
         (λ j le f. subst (ParamsAvoid (extend ctx (lifted_kinds ks bs)) (Sig.Fun Pure ks (rename_sig (lifts ks (past bs)) s) (Abs.Ex [] (substitute_sig (lifting ks bs) r))) (Item.Res ∷ p)) (sym (same-own j))
         (params-result (extend ctx (lifted_kinds ks bs)) ks p (own bs j) (param-avoids (own bs j) (own-below bs j (bound j f)))
         (result-avoids p (own bs j) (own-below bs j (bound j f)) (y (own bs j) (own_falls bs i j le)))))

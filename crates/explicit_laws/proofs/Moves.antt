@@ -4,48 +4,26 @@ use Rattle.std.proofs.Math.Path.{refl, sym, ◌∙◌, ap, subst}
 use Rattle.omega_kinds.specs.Kind.{Kind}
 use Rattle.omega_kinds.specs.Name.{Name}
 use Rattle.omega_types.specs.Ty.{Ty}
-use Rattle.omega_types.specs.Substitution.{substitute}
-use Rattle.omega_types.specs.Conversion.{Conv}
 use Rattle.omega_types.specs.Mentions.{Mentions}
-use Rattle.omega_types.specs.Binders.{extend, past, unders, applied}
-use Rattle.omega_types.proofs.Preservation.{Substitutes, conv-substitute}
+use Rattle.omega_types.specs.Binders.{extend, past, unders}
+use Rattle.omega_types.proofs.Preservation.{Substitutes}
 use Rattle.signatures.specs.Signatures.Sig.{Sig, SigRow, HasField}
-use Rattle.signatures.specs.Signatures.SigSubst.{substitute_sig}
-use Rattle.sig_laws.specs.NormalSig.{normal_sig}
-use Rattle.signatures.specs.Signatures.Alike.{ConvSig, NormalSigForm}
-use Rattle.signatures.specs.Signatures.SigMentions.{MentionsSig, Avoids, by_normal_form}
+use Rattle.signatures.specs.Signatures.SigSubst.{substitute_sig, rename_sig}
+use Rattle.signatures.specs.Signatures.Alike.{ConvSig}
+use Rattle.signatures.specs.Signatures.SigMentions.{Avoids}
 use Rattle.signatures.specs.Explicit.SigPath.{SigPath, PartAt, ParamOn}
-use Rattle.signatures.specs.Explicit.RootPath.{Rooted, at, ParamsAvoid}
-use Rattle.sig_laws.proofs.Algebra.AlikeLaws.{conv_sig-sym, conv_sig-trans, form-conv_sig, form_sig-normal, form_sig-unique, conv_sig-gives, conv_sig-substitute, substitutes-convertible}
-use Rattle.sig_laws.proofs.Algebra.SigMention.{mentions_sig-substitute, mentions-unders, unmentioned_sig}
-use Rattle.sig_laws.proofs.Algebra.PathLaws.{part-substitute, param-alike, param-back, one-field}
-use Rattle.omega_types.proofs.BinderLaws.{applied-substitute}
+use Rattle.signatures.specs.Explicit.RootPath.{Rooted, ParamsAvoid}
+use Rattle.sig_laws.proofs.Algebra.AlikeLaws.{conv_sig-sym, conv_sig-trans}
+use Rattle.sig_laws.proofs.Algebra.SigMention.{mentions-unders}
+use Rattle.sig_laws.proofs.Algebra.PathLaws.{param-alike, param-back, one-field}
 use Rattle.omega_types.proofs.BinderPuts.{unders-substitutes}
+use Rattle.omega_types.specs.Normalises.{Maps}
+use Rattle.sig_laws.proofs.Algebra.SigAlgebra.{substitute-vars_sig}
+use Rattle.sig_laws.proofs.Formed.WellFormedLaws.{maps-substitutes}
+use Rattle.sig_laws.proofs.Formed.Shows.{Shows, shows, rooted-shows, shows-rooted, shows-substitute, avoids-moved}
 
--- the part at p is the type u, applied to exactly the variables of the functors on p
-pub data Shows (ctx : List Kind) (s : Sig) (u : Ty) (p : SigPath) : Type 0 where
-  shows : {bs : List Kind} {t : Ty} {k : Kind} → PartAt s p bs (Sig.Typ t k) → Conv (extend ctx bs) t (applied bs u) k → Shows ctx s u p
-
-pub rooted-shows : {ctx : List Kind} {s : Sig} {i : ℕ} {p : SigPath} → Rooted ctx s i p → Shows ctx s (Ty.Var i) p
-rooted-shows (at x c) = shows x c
-
-pub shows-rooted : {ctx : List Kind} {s : Sig} {i : ℕ} {u : Ty} {p : SigPath} → u ≡ Ty.Var i → Shows ctx s u p → Rooted ctx s i p
-shows-rooted {ctx} e (shows {bs = bs} {t = t} {k = k} x c) = at x (subst (λ v. Conv (extend ctx bs) t (applied bs v) k) e c)
-
-pub shows-substitute : {ctx other : List Kind} {s : Sig} {u : Ty} {p : SigPath} (f : ℕ → Ty) → Substitutes ctx other f → Shows ctx s u p → Shows other (substitute_sig f s) (substitute f u) p
-shows-substitute {other = other} {u = u} f h (shows {bs = bs} {t = t} {k = k} x c) =
-    shows (part-substitute f x) (subst (λ v. Conv (extend other bs) (substitute (unders bs f) t) v k) (applied-substitute bs f u) (conv-substitute (unders bs f) (unders-substitutes bs h) c))
-
--- a signature with types put in mentions a variable only where a type does that is put in for a mentioned variable
-pub avoids-moved : {ctx other : List Kind} (s : Sig) (v : ℕ) (f : ℕ → Ty) → Substitutes ctx other f → ConvSig ctx s s → ((j : ℕ) → Mentions v (f j) → Avoids ctx s j) → Avoids other (substitute_sig f s) v
-avoids-moved {ctx} {other} s v f h w a =
-    let n = conv_sig-gives w in
-    let c = conv_sig-substitute f f (substitutes-convertible h) (form-conv_sig n) in
-    let g = conv_sig-gives c in
-    by_normal_form g (unmentioned_sig v (conv_sig-trans (conv_sig-sym c) (form-conv_sig g)) (form_sig-normal g) (λ m. let q = mentions_sig-substitute f (normal_sig ctx s) v m in not-there q.0 n (a q.0 q.2) q.1))
-  where
-    not-there : {n : Sig} (j : ℕ) → NormalSigForm ctx s n → Avoids ctx s j → MentionsSig j n → ⊥
-    not-there j g (by_normal_form k m) q = m (subst (MentionsSig j) (form_sig-unique g k) q)
+pub rooted-renamed : {ctx other : List Kind} {s : Sig} {i : ℕ} {p : SigPath} (r : ℕ → ℕ) → Maps ctx other r → Rooted ctx s i p → Rooted other (rename_sig r s) (r i) p
+rooted-renamed {other = other} {s = s} {i = i} {p = p} r h x = subst (λ z. Rooted other z (r i) p) (substitute-vars_sig r s) (shows-rooted refl (shows-substitute (λ j. Ty.Var (r j)) (maps-substitutes h) (rooted-shows x)))
 
 pub params-moved : {ctx other : List Kind} (s : Sig) (p : SigPath) (v : ℕ) (f : ℕ → Ty) → Substitutes ctx other f → ConvSig ctx s s → ((j : ℕ) → Mentions v (f j) → ParamsAvoid ctx s p j) → ParamsAvoid other (substitute_sig f s) p v
 params-moved {ctx} {other} s p v f h w a ds js q on =

@@ -24,12 +24,12 @@ use Rattle.signatures.specs.Explicit.WellFormed.{EachRooted, WellFormed, WellFor
 use Rattle.sig_laws.proofs.Algebra.AlikeLaws.{conv_abs-sym, form-conv_abs}
 use Rattle.sig_laws.proofs.Algebra.Instances.{some_types, some_types-normal, kinds-length, at-substitutes, at-raise_abs}
 use Rattle.sig_laws.proofs.Formed.WellFormedLaws.{explicit-substitute, explicit-conv, well_formed_abs-substitute, well_formed_abs-conv}
-use Rattle.explicit_laws.proofs.Moves.{Shows, shows, rooted-shows, shows-rooted}
 use Rattle.explicit_laws.proofs.Liftings.{lifted_explicit, lifted_well_formed}
 use Rattle.omega_types.proofs.BinderPuts.{types-kinds}
 use Rattle.omega_types.proofs.BinderLaws.{lam_over-kind}
 use Rattle.sig_laws.proofs.Formed.Conditions.{explicit-abs}
 use Rattle.sig_laws.proofs.Algebra.PathLaws.{one-field}
+use Rattle.sig_laws.proofs.Formed.Shows.{Shows, shows, rooted-shows, shows-rooted}
 
 -- what hides nothing
 pub plain_explicit : {ctx : List Kind} {s : Sig} → WellFormed ctx s → ExplicitResults ctx s → Explicit ctx (Abs.Ex [] s)

@@ -1,15 +1,12 @@
 -- Which variable of binders an index is.
-use Rattle.std.specs.Prelude.{ℕ, ◌+◌, ◌-◌, ◌<◌, List, [], ◌∷◌, ◌++◌, ◌≡◌, ◌⊎◌, length}
+use Rattle.std.specs.Prelude.{ℕ, ◌+◌, ◌-◌, ◌<◌, List, ◌++◌, ◌≡◌, ◌⊎◌, length}
 use mathlib.Core.Logic.{inl, inr}
 use Rattle.std.proofs.Common.{arith}
 use Rattle.std.proofs.Math.Decide.{dec_lt}
 use Rattle.omega_kinds.specs.Kind.{Kind}
 use Rattle.omega_types.specs.Binders.{past, own}
 use Rattle.sig_laws.proofs.Algebra.BinderLaws.{past-length}
-
-pub length-append : (ks js : List Kind) → length (ks ++ js) ≡ length ks + length js
-length-append [] js = omega arith
-length-append (k ∷ ks) js = let e = length-append ks js in omega arith
+use Rattle.std.proofs.lemmas.List.{length-append}
 
 -- a variable of the first binders is seen past the others
 pub own-first : (ks js : List Kind) (i : ℕ) → i < length ks → own (ks ++ js) i ≡ past js (own ks i)

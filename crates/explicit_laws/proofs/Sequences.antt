@@ -2,7 +2,7 @@
 use Rattle.std.specs.Prelude.{ℕ, ◌+◌, ◌<◌, ◌≤◌, List, ◌++◌, ◌≡◌, ◌⊎◌, length}
 use mathlib.Core.Logic.{inl, inr}
 use Rattle.std.proofs.Common.{arith}
-use Rattle.std.proofs.Math.Path.{refl, sym, ◌∙◌, ap, subst}
+use Rattle.std.proofs.Math.Path.{sym, ◌∙◌, ap, subst}
 use Rattle.omega_kinds.specs.Kind.{Kind}
 use Rattle.omega_types.specs.Ty.{Ty}
 use Rattle.omega_types.specs.Binders.{extend, past, own}
@@ -17,16 +17,14 @@ use Rattle.signatures.specs.Explicit.WellFormed.{Rising, EachRooted, WellFormed,
 use Rattle.sig_laws.proofs.Algebra.BinderLaws.{extend-append}
 use Rattle.sig_laws.proofs.Algebra.SigAlgebra.{substitute-vars_sig}
 use Rattle.sig_laws.proofs.Formed.WellFormedLaws.{well_formed-kinds, well_formed-rename, explicit_results-rename, maps-substitutes}
-use Rattle.explicit_laws.proofs.Moves.{rooted-shows, shows-rooted, shows-substitute, params-moved, FieldsIn, shows-grown, params-grown}
+use Rattle.explicit_laws.proofs.Moves.{params-moved, FieldsIn, shows-grown, params-grown, rooted-renamed}
 use Rattle.explicit_laws.proofs.Fields.{Apart, none, next, merge-rising, merge-left, merge-right, merge-well_formed, merge-results}
-use Rattle.explicit_laws.proofs.Positions.{length-append, own-first, own-second, split-number, past-injective, not-past, own-below}
+use Rattle.explicit_laws.proofs.Positions.{own-first, own-second, split-number, past-injective, not-past, own-below}
 use Rattle.omega_types.proofs.BinderLaws.{past-maps}
 use Rattle.sig_laws.specs.Decide.{in_var}
 use Rattle.sig_laws.proofs.Formed.Conditions.{str-results}
-
--- a rooted variable from outside binders, under them
-pub root-raised : (ctx js : List Kind) {s : Sig} {i : ℕ} {p : SigPath} → Rooted ctx s i p → Rooted (extend ctx js) (rename_sig (past js) s) (past js i) p
-root-raised ctx js {s} {i} {p} r = subst (λ z. Rooted (extend ctx js) z (past js i) p) (substitute-vars_sig (past js) s) (shows-rooted refl (shows-substitute (λ j. Ty.Var (past js j)) (maps-substitutes (past-maps js ctx)) (rooted-shows r)))
+use Rattle.std.proofs.lemmas.List.{length-append}
+use Rattle.sig_laws.proofs.Formed.Shows.{rooted-shows, shows-rooted}
 
 pub params-raised : (ctx js : List Kind) (s : Sig) (p : SigPath) (i : ℕ) → ConvSig ctx s s → ParamsAvoid ctx s p i → ParamsAvoid (extend ctx js) (rename_sig (past js) s) p (past js i)
 params-raised ctx js s p i w a = subst (λ z. ParamsAvoid (extend ctx js) z p (past js i)) (substitute-vars_sig (past js) s)
@@ -78,7 +76,7 @@ sequence_explicit ctx ks js fs gs (explicit w r h) (explicit v q g) a = explicit
 
     first : (i : ℕ) (p : SigPath) → i < length ks → RootPath ctx ks (Sig.Str fs) i p → RootPath ctx (ks ++ js) (Sig.Str (merge (raise_sig_row js fs) gs)) i p
     first i p e (root_path b (root_of x y)) =
-        let shown = rooted-shows (root-raised (extend ctx ks) js x) in
+        let shown = rooted-shows (rooted-renamed (past js) (past-maps js (extend ctx ks)) x) in
         made i p (let q = length-append ks js in omega (arith, q, e))
         (shows-rooted (ap Ty.Var (sym (own-first ks js i e))) (shows-grown left shown))
         (λ j le lt. params-grown (own (ks ++ js) j) left shown (avoid j le (split-number ks js j lt)))

@@ -1,11 +1,11 @@
 // The parser: trees out of the steps in which the recogniser reads a list of tokens.
-// Stands on fing_grammar (the recogniser), fing_syntax (trees) and the productions, a crate for each kind of phrase.
+// Stands on fing_grammar (the recogniser), fing_syntax (trees) and parse_productions.
 // Proved: `program` gives exactly the one tree of the tokens, or refuses exactly where they have none, with the length
 // of their longest front that begins some program.
 #![tactic(auto)]
 
-pub mod build;
-pub mod parser;
+mod build;
+mod parser;
 
 pub use fing_grammar::ParseRefusal;
 pub use parser::program;

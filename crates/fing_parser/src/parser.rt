@@ -8,7 +8,7 @@ use crate::build::build;
 use fing_grammar::{ParseRefusal, recognise};
 use fing_lexer::Token;
 use fing_syntax::Program;
-use parse_stack::refusal::BuildRefusal;
+use parse_stack::BuildRefusal;
 use std::alloc::Global;
 
 /// The program that the tokens are, of which there are at most 1,048,576: the one tree by the grammar, with the derived

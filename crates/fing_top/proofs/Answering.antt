@@ -44,7 +44,7 @@ use Rattle.omega_machine.specs.declared.outcome.End.TheVariants as ending
 use Rattle.fing_top.specs.Counts.{bind_count, node_count, counts_line}
 use Rattle.fing_top.specs.Ending.{ending_status, ending_text, counted_text}
 use Rattle.fing_top.specs.Refusing.{untokened, unparsed, numbered}
-use Rattle.fing_top.specs.declared.programs.Compiled.{Compiled}
+use Rattle.fing_top.specs.declared.compiling.Compiled.{Compiled}
 use Rattle.fing_top.specs.declared.refusing.Refused.TheVariants.{Program as InProgram}
 use Rattle.fing_top.specs.declared.status.Status.{Status}
 use Rattle.fing_top.specs.declared.status.Status.TheVariants as status

@@ -1,7 +1,9 @@
 -- What the code makes of a source, and why it refuses one.
-use Rattle.std.specs.Prelude.{◌≡◌, ℕ, List}
+use Rattle.std.specs.Prelude.{◌≡◌, ℕ, ◌^◌, ◌<◌, List}
 use Rattle.omega_types.specs.Ty.{Ty}
 use Rattle.omega_terms.specs.Term.{Term}
+use Rattle.omega_checker.specs.Judgment.{Judgment}
+use Rattle.omega_scopes.specs.Depth.{ty_depth, type_depth, term_depth}
 use Rattle.signatures.specs.Signatures.Encoding.{enc_abs}
 use Rattle.signatures.specs.Signatures.Sig.{made}
 use Rattle.fing_syntax.specs.Phrase.{Binds as Program}
@@ -9,7 +11,7 @@ use Rattle.elab_rules.specs.Judgments.Program.{ProgramMeans}
 use Rattle.fing_top.specs.Counts.{bind_count}
 use Rattle.fing_top.specs.Refusing.{refusal_line, HasLine}
 use Rattle.fing_top.specs.Reply.{Spells, Refuses}
-use Rattle.fing_top.specs.declared.programs.Compiled.{Compiled}
+use Rattle.fing_top.specs.declared.compiling.Compiled.{Compiled}
 use Rattle.fing_top.specs.declared.refusing.Refused.{Refused}
 
 -- the bytes spell a program of so many bindings, of this effect, this signature and this whole term
@@ -25,3 +27,7 @@ pub record IsCompiled (bytes : List ℕ) (c : Compiled) : Type 0 where
 -- a refusal that has a line is the one of the bytes
 abbrev pub IsRefused : (bytes : List ℕ) → Refused → Type 0
 IsRefused bytes why = HasLine why → Refuses bytes (refusal_line why)
+
+-- fewer than 2^64 binders of a sort stand one in another in the type and in the term
+abbrev pub IsShallow : Judgment → Type 0
+IsShallow j = (ty_depth j.ty < 2 ^ 64) × (type_depth j.term < 2 ^ 64) × (term_depth j.term < 2 ^ 64)

@@ -1,12 +1,13 @@
 -- The lines of refused sources.
-use Rattle.std.specs.Prelude.{ℕ, List, [], ◌∷◌, codes, decimal, flat_map}
+use Rattle.std.specs.Prelude.{ℕ, ◌+◌, ◌^◌, ◌<◌, List, [], ◌∷◌, codes, decimal, flat_map}
 use Rattle.fing_lexer.specs.declared.lexer.LexRefusal.{LexRefusal}
 use Rattle.fing_lexer.specs.declared.lexer.LexRefusal.TheVariants as lex
 use Rattle.fing_grammar.specs.declared.refusal.ParseRefusal.{ParseRefusal}
 use Rattle.fing_grammar.specs.declared.refusal.ParseRefusal.TheVariants as parse
 use Rattle.refusal_lines.specs.InScope.{HasLine as RefusalHasLine}
 use Rattle.refusal_lines.specs.Line.{line_of}
-use Rattle.refusal_lines.specs.Plain.{plain_refusal}
+use Rattle.refusal_lines.specs.Plain.{plain_reason, plain_refusal}
+use Rattle.sig_scopes.specs.ReasonScoped.{given_depth}
 use Rattle.fing_top.specs.declared.refusing.Refused.{Refused}
 use Rattle.fing_top.specs.declared.refusing.Refused.TheVariants.{BadByte, BadText, Wide, TooDeep, Syntax, Program, Mem}
 
@@ -53,3 +54,9 @@ abbrev pub HasLine : Refused → Type 0
 HasLine Mem = ⊥
 HasLine (Program r) = RefusalHasLine (plain_refusal r)
 HasLine _ = Unit {0}
+
+-- the type variables in scope, and the binders that stand one in another in the types of a program's refusal, are below
+-- 2^64 together
+abbrev pub HasRoom : Refused → Type 0
+HasRoom (Program r) = r.types + given_depth (plain_reason r.why) < 2 ^ 64
+HasRoom _ = Unit {0}

@@ -6,7 +6,7 @@ ghost use Rattle.fing_top.specs.Answer.{limit, AnswersBytes, change, output};
 ghost use Rattle.fing_top.specs.Counts.{node_count, counts_line};
 ghost use Rattle.fing_top.specs.Ending.{counted_text};
 
-use crate::programs::Compiled;
+use crate::compiling::Compiled;
 use crate::refusing::{has_line, write_line};
 use crate::running::{evaluated, status_at, write_end};
 use crate::status::{Status, status_of};

@@ -8,9 +8,11 @@
 // has exactly one reply to all bytes, and each answer its exit status.
 #![tactic(auto)]
 
+mod checking;
+mod compiling;
 mod counting;
+mod emitting;
 mod pages;
-mod programs;
 mod refusing;
 mod running;
 mod status;

@@ -1,7 +1,7 @@
 // Why a source is refused, and the line that says so.
 ghost use Rattle.std.specs.Prelude.{IsTrue};
 ghost use Rattle.fing_text.specs.Writes.{Wrote};
-ghost use Rattle.fing_top.specs.Refusing.{refusal_line, numbered, HasLine};
+ghost use Rattle.fing_top.specs.Refusing.{refusal_line, numbered, HasLine, HasRoom};
 
 use fing_lexer::LexRefusal;
 use fing_parser::ParseRefusal;
@@ -84,9 +84,11 @@ impl From<Mem> for Refused {
 }
 
 /// Whether the refusal has a line. Want of memory has none, and no reason whose types have a level past the last number
-/// of 64 bits, which no memory holds. Takes no memory.
+/// of 64 bits, which no memory holds. It may be false also where 2^64 type variables or more are in scope below a binder
+/// of a type in it. Takes no memory.
 pub fn has_line(why: &Refused) -> bool
-    ensures { IsTrue result → HasLine why.now }
+    ensures sound { IsTrue result → HasLine why.now }
+    ensures complete { HasLine why.now → HasRoom why.now → IsTrue result }
 {
     match why {
         Refused::Program(refusal) => refusal_in_scope(refusal),

@@ -7,7 +7,7 @@ ghost use Rattle.fing_top.specs.Compiled.{IsCompiled, IsRefused};
 ghost use Rattle.fing_top.specs.Ending.{ending_status, ending_text};
 ghost use Rattle.fing_words.specs.declared.command_line.CommandLine.TheVariants as command;
 
-use crate::programs::{Compiled, compile};
+use crate::compiling::{Compiled, compile};
 use crate::refusing::{Refused, has_line, write_line, write_numbered};
 use crate::status::{Status, status_of};
 use fing_text::{Sink, WriteFault, put};

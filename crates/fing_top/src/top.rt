@@ -6,8 +6,9 @@ ghost use Rattle.fing_top.specs.Reply.{OneReply, EachReplied};
 ghost use Rattle.fing_top.specs.Answer.{limit, AnswersBytes, Answers, Completes, Takes, Lacks, change, output};
 ghost use Rattle.fing_top.specs.Words.{IsSized};
 
+use crate::checking::check;
 use crate::counting::count;
-use crate::programs::{check, emit};
+use crate::emitting::emit;
 use crate::running::run;
 use crate::status::Status;
 use crate::verifying::verify;

@@ -10,27 +10,19 @@ use Rattle.omega_kinds.specs.declared.kind.Kind.{Kind as SharedKind}
 use Rattle.omega_types.specs.Ty.{Ty}
 use Rattle.omega_types.specs.Index.{shift}
 use Rattle.omega_types.specs.Scope.{scope_of}
+use Rattle.sig_laws.proofs.Algebra.BinderLaws.{lam_over-append}
 use Rattle.functor_calls.specs.LiftedVars.{lifted_var, lifted_vars}
-use Rattle.omega_types.specs.Binders.{extend, applied, arrow_over, lam_over}
-use Rattle.omega_types.proofs.BinderLaws.{lam-take, spread, spread-applied}
+use Rattle.omega_types.specs.Binders.{extend, applied, arrow_over}
+use Rattle.omega_types.proofs.BinderLaws.{spread, spread-applied}
 
 less : (n : ℕ) → suc n - 1 ≡ n
 less n = omega arith
 
-arrow-take : (kinds : List SharedKind) (n : ℕ) (d : SharedKind) (k : Kind) → n < length kinds → arrow_over (map kind_tree (take (suc n) kinds)) k ≡ arrow_over (map kind_tree (take n kinds)) (Kind.Arrow (kind_tree (get_or kinds n d)) k)
-arrow-take [] n d k lt = absurd (omega (arith, lt))
-arrow-take (j ∷ kinds) zero d k lt = refl
-arrow-take (j ∷ kinds) (suc n) d k lt = ap (Kind.Arrow (kind_tree j)) (arrow-take kinds n d k (omega arith))
+pub arrow_last : (kinds : List SharedKind) (k : SharedKind) (target : Kind) → arrow_over (map kind_tree (kinds ++ k ∷ [])) target ≡ arrow_over (map kind_tree kinds) (Kind.Arrow (kind_tree k) target)
+arrow_last [] k target = refl
+arrow_last (j ∷ kinds) k target = ap (Kind.Arrow (kind_tree j)) (arrow_last kinds k target)
 
-pub arrow-next : (kinds : List SharedKind) (left : ℕ) (kind shared : SharedKind) (target grown whole : Kind) → 0 < left → left ≤ length kinds → arrow_over (map kind_tree (take left kinds)) target ≡ whole → kind ≡ get_or kinds (left - 1) kind → kind_tree shared ≡ kind_tree kind → grown ≡ Kind.Arrow (kind_tree shared) target → arrow_over (map kind_tree (take (left - 1) kinds)) grown ≡ whole
-arrow-next kinds zero kind shared target grown whole lt le e ek es en = absurd (omega (arith, lt))
-arrow-next kinds (suc n) kind shared target grown whole lt le e ek es en =
-    ap₂ (λ m u. arrow_over (map kind_tree (take m kinds)) u) (less n) (en ∙ ap (λ k. Kind.Arrow k target) (es ∙ (ap kind_tree ek ∙ ap (λ m. kind_tree (get_or kinds m kind)) (less n)))) ∙ (sym (arrow-take kinds n kind target (omega arith)) ∙ e)
-
-pub lam-next : (kinds : List SharedKind) (left : ℕ) (kind shared : SharedKind) (t grown whole : Ty) → 0 < left → left ≤ length kinds → lam_over (map kind_tree (take left kinds)) t ≡ whole → kind ≡ get_or kinds (left - 1) kind → kind_tree shared ≡ kind_tree kind → grown ≡ Ty.Lam (kind_tree shared) t → lam_over (map kind_tree (take (left - 1) kinds)) grown ≡ whole
-lam-next kinds zero kind shared t grown whole lt le e ek es en = absurd (omega (arith, lt))
-lam-next kinds (suc n) kind shared t grown whole lt le e ek es en =
-    ap₂ (λ m u. lam_over (map kind_tree (take m kinds)) u) (less n) (en ∙ ap (λ k. Ty.Lam k t) (es ∙ (ap kind_tree ek ∙ ap (λ m. kind_tree (get_or kinds m kind)) (less n)))) ∙ (sym (lam-take kinds n kind t (omega arith)) ∙ e)
+pub ruleset over_steps = (arrow_last, lam_over-append, map-append)
 
 -- the innermost kind of a scope
 

@@ -4,8 +4,8 @@
 // `pure_functor` the conclusion of its rule. None of them is refused for another cause than want of memory.
 #![tactic(auto)]
 
-pub mod functors;
-pub mod lifting;
+mod functors;
+mod lifting;
 mod operators;
 mod parameters;
 

@@ -10,15 +10,13 @@ use std::alloc::Global;
 
 // The kind of an operator that takes a type of each kind, the first one first. `Err` is want of memory, as for all calls
 // here.
+#[tactic(auto, using(crate::proofs::Loops::over_steps))]
 pub(crate) fn arrow_over(alloc: Global, kinds: &Kinds, target: Kind) -> Result<Kind, Mem>
     ensures { IfOk result (λ k. kind_tree k ≡ arrow_over_of kinds.now (kind_tree target)) }
 {
-    let kinds = kinds.items();
     let mut kind = target;
-    let mut left = kinds.len();
-    while left > 0 {
-        left -= 1;
-        kind = arrow(alloc, kinds[left].share()?, kind)?;
+    for from in kinds.items().iter().rev() {
+        kind = arrow(alloc, from.share()?, kind)?;
     }
     Ok(kind)
 }
@@ -35,15 +33,13 @@ pub(crate) fn lifted_kinds(alloc: Global, kinds: &Kinds, hidden: &Kinds) -> Resu
 }
 
 // The operator that takes a type of each kind, the first one first, and gives the body.
+#[tactic(auto, using(crate::proofs::Loops::over_steps))]
 pub(crate) fn lam_over(alloc: Global, kinds: &Kinds, body: Ty) -> Result<Ty, Mem>
     ensures { IfOk result (λ t. t ≡ lam_over_of kinds.now body) }
 {
-    let kinds = kinds.items();
     let mut ty = body;
-    let mut left = kinds.len();
-    while left > 0 {
-        left -= 1;
-        ty = Ty::make(alloc, TyNode::Lam(kinds[left].share()?, ty))?;
+    for kind in kinds.items().iter().rev() {
+        ty = Ty::make(alloc, TyNode::Lam(kind.share()?, ty))?;
     }
     Ok(ty)
 }

@@ -19,11 +19,11 @@ use Rattle.signatures.specs.Explicit.WellFormed.{WellFormed, WellFormedRow, Each
 use Rattle.signatures.specs.Matching.Subtyping.{Sub, SubFields, Match}
 use Rattle.signatures.specs.Matching.LookUp.{Found, FoundAt, found_at, FoundAfter}
 use Rattle.signatures.specs.Matching.MatchRefusal.{RefusesMatch}
-use Rattle.match_laws.proofs.LookUp.Good.{GoodLeft, GoodAbs}
 use Rattle.omega_kinds.proofs.NameLaws.{name-irreflexive}
-use Rattle.match_laws.proofs.LookUp.Roots.{least-unique}
 use Rattle.match_laws.proofs.Theorems.{match_sig_gives}
 use Rattle.match_laws.specs.Examples.{name_t, with_int, with_nothing, hides_t, IntIsFound, NothingIsFound}
+use Rattle.sig_laws.proofs.Algebra.Paths.{one_least}
+use Rattle.sig_laws.specs.Good.{OkSig, OkRight}
 
 -- the one path
 abbrev path_t : SigPath
@@ -45,13 +45,13 @@ root_t number e = subst (λ n. RootPath [] (Kind.Star ∷ []) body_t n path_t) (
 pub roots_t : EachRooted [] (Kind.Star ∷ []) body_t
 roots_t number lt = (path_t, root_t number (omega (arith, lt)))
 
-good_t : GoodAbs [] hides_t
+good_t : OkRight [] hides_t
 good_t = (explicit (WellFormed.str (tt, tt) (WellFormedRow.more (WellFormed.typ (k_var here)) WellFormedRow.end)) (in_str (in_more in_typ in_end)) roots_t, (n_neutral (n_var here), tt))
 
-good_int : GoodLeft [] with_int
+good_int : OkSig [] with_int
 good_int = (WellFormed.str (tt, tt) (WellFormedRow.more (WellFormed.typ k_int) WellFormedRow.end), (n_int, tt))
 
-good_nothing : GoodLeft [] with_nothing
+good_nothing : OkSig [] with_nothing
 good_nothing = (WellFormed.str tt WellFormedRow.end, tt)
 
 pub int_is_found : IntIsFound
@@ -82,7 +82,7 @@ pub nothing_is_found : NothingIsFound
 nothing_is_found = ((match_sig_gives [] with_nothing hides_t good_nothing good_t).1 _).1 (RefusesMatch.no_root FoundAfter.none (omega arith) least_t (λ t f. none f))
   where
     none : {t : Ty} → FoundAt [] with_nothing (Kind.Star ∷ []) body_t [] t → ⊥
-    none {t} (found_at {p = p} {n = n} l k f) = empty (subst (λ z. Found [] with_nothing z n t) (least-unique (omega arith) l least_t) f)
+    none {t} (found_at {p = p} {n = n} l k f) = empty (subst (λ z. Found [] with_nothing z n t) (one_least l least_t) f)
       where
         empty : {n : Sig} {t : Ty} → Found [] with_nothing path_t n t → ⊥
         empty (Found.field hs hr f) = elim hs [ ]

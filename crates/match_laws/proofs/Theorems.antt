@@ -11,15 +11,15 @@ use Rattle.signatures.specs.Signatures.SigSize.{size, size_abs}
 use Rattle.signatures.specs.Matching.Subtyping.{Sub, SubAbs, Match}
 use Rattle.signatures.specs.Matching.MatchRefusal.{MatchRefusal, RefusesMatch, RefusesSub, RefusesSubAbs}
 use Rattle.match_laws.specs.MatchFunction.{Outcome, MatchOutcome, match_sig, sub_sig, sub_abs}
-use Rattle.match_laws.specs.MatchClaims.{OneMatch, OneSub, OneSubAbs, SearchGives, MatchIsLookedUp, OneFound, MatchOrRefusal, SubOrRefusal, SubAbsOrRefusal, NotBoth, OneRefusal, SubNotBoth, SubAbsNotBoth, OneSubRefusal, OneSubAbsRefusal, MatchSigGives, SubSigGives, SubAbsGives, MatchSigStep, SubSigStep, SubAbsStep}
+use Rattle.match_laws.specs.MatchClaims.{OneMatch, OneSub, OneSubAbs, SearchGives, MatchIsLookedUp, OneFound, MatchOrRefusal, SubOrRefusal, SubAbsOrRefusal, NotBoth, OneRefusal, SubNotBoth, SubAbsNotBoth, OneSubRefusal, OneSubAbsRefusal, MatchSigGives, SubSigGives, SubAbsGives, MatchSigStep, SubSigStep, SubAbsStep, IsRightSig}
 use Rattle.match_laws.proofs.OneMatch.Unique.{sub-unique, abs-unique, match-unique}
 use Rattle.match_laws.proofs.LookUp.Roots.{least_root-gives}
-use Rattle.match_laws.proofs.LookUp.Good.{GoodLeft, GoodRight, GoodAbs, GoodLeftAbs}
 use Rattle.match_laws.proofs.LookUp.LookUpLaws.{match-looked, found_at-unique}
 use Rattle.match_laws.proofs.LookUp.Refused.{sub-excluded, abs-excluded, match-excluded}
 use Rattle.match_laws.proofs.LookUp.OneRefusal.{sub-refusal, abs-one, match-one}
 use Rattle.match_laws.proofs.Function.LookSound.{MatchOk, match_ok, refusal_ok}
 use Rattle.match_laws.proofs.Function.FunctionSound.{SubOk, sub_ok, sub_no, AbsOk, abs_ok, abs_no, FnsSound, sub_sig-ok, sub_abs-ok, match_sig-ok, sub_step-ok, abs_step-ok, match_step-ok}
+use Rattle.sig_laws.specs.Good.{OkSig, OkAbs, OkRight}
 
 pub one_match : OneMatch
 one_match ctx s x ts us f g w v m n = match-unique m w v us g n
@@ -90,7 +90,7 @@ match-means : {ctx : List Kind} {s : Sig} {x : Abs} {o : MatchOutcome} → Match
 match-means (match_ok m) = m
 match-means (refusal_ok r) = r
 
-match-back : {ctx : List Kind} {s : Sig} {x : Abs} {o p : MatchOutcome} → GoodLeft ctx s → GoodAbs ctx x → MatchOk ctx s x o → MatchOk ctx s x p → o ≡ p
+match-back : {ctx : List Kind} {s : Sig} {x : Abs} {o p : MatchOutcome} → OkSig ctx s → OkRight ctx x → MatchOk ctx s x o → MatchOk ctx s x p → o ≡ p
 match-back w v (match_ok m) (match_ok {ts = us} {f = g} n) = let e = match-unique m w.0 v.0 us g n in ap₂ MatchOutcome.matched e.0 e.1
 match-back w v (match_ok {ts = ts} {f = f} m) (refusal_ok r) = absurd (match-excluded r w v ts f m)
 match-back w v (refusal_ok r) (match_ok {ts = ts} {f = f} m) = absurd (match-excluded r w v ts f m)
@@ -110,7 +110,7 @@ sub-means : {ctx : List Kind} {s r : Sig} {o : Outcome} → SubOk ctx s r o → 
 sub-means (sub_ok d) = d
 sub-means (sub_no d) = d
 
-sub-back : {ctx : List Kind} {s r : Sig} {o p : Outcome} → GoodLeft ctx s → GoodRight ctx r → SubOk ctx s r o → SubOk ctx s r p → o ≡ p
+sub-back : {ctx : List Kind} {s r : Sig} {o p : Outcome} → OkSig ctx s → IsRightSig ctx r → SubOk ctx s r o → SubOk ctx s r p → o ≡ p
 sub-back w v (sub_ok d) (sub_ok {f = g} c) = ap Outcome.coerced (sub-unique d w.0 v.0 g c)
 sub-back w v (sub_ok {f = f} d) (sub_no r) = absurd (sub-excluded r w v f d)
 sub-back w v (sub_no r) (sub_ok {f = f} d) = absurd (sub-excluded r w v f d)
@@ -130,7 +130,7 @@ abs-means : {ctx : List Kind} {x y : Abs} {o : Outcome} → AbsOk ctx x y o → 
 abs-means (abs_ok d) = d
 abs-means (abs_no d) = d
 
-abs-back : {ctx : List Kind} {x y : Abs} {o p : Outcome} → GoodLeftAbs ctx x → GoodAbs ctx y → AbsOk ctx x y o → AbsOk ctx x y p → o ≡ p
+abs-back : {ctx : List Kind} {x y : Abs} {o p : Outcome} → OkAbs ctx x → OkRight ctx y → AbsOk ctx x y o → AbsOk ctx x y p → o ≡ p
 abs-back w v (abs_ok d) (abs_ok {f = g} c) = ap Outcome.coerced (abs-unique d w.0 v.0 g c)
 abs-back w v (abs_ok {f = f} d) (abs_no r) = absurd (abs-excluded r w v f d)
 abs-back w v (abs_no r) (abs_ok {f = f} d) = absurd (abs-excluded r w v f d)

@@ -16,9 +16,10 @@ use Rattle.sig_laws.specs.SigLaws.{PutsKinds}
 use Rattle.sig_laws.specs.NormalSig.{normal_sig, normal_abs}
 use Rattle.signatures.specs.Explicit.WellFormed.{WellFormed, WellFormedAbs, Explicit}
 use Rattle.signatures.specs.Matching.Subtyping.{Sub, SubAbs, Match}
-use Rattle.match_laws.specs.MatchClaims.{IsLeft, IsLeftAbs, IsRightSig, IsRightAbs}
+use Rattle.match_laws.specs.MatchClaims.{IsRightSig}
 use Rattle.signatures.specs.Matching.MatchRefusal.{MatchRefusal}
 use Rattle.match_laws.specs.MatchFunction.{Outcome, MatchOutcome, match_sig, sub_abs}
+use Rattle.sig_laws.specs.Good.{OkSig, OkAbs, OkRight}
 
 mutual
   pub data IsSub : List Kind → Sig → Sig → Type 0 where
@@ -67,10 +68,10 @@ MatchesSubstitute = (ctx other : List Kind) (s : Sig) (x : Abs) (ts : List Ty) (
 
 -- so may they in subtyping of normal signatures, whose normal forms are taken afterwards
 abbrev pub SubSubstitute : Type 0
-SubSubstitute = (ctx other : List Kind) (s r : Sig) (f : Term) (g : ℕ → Ty) → IsLeft ctx s → IsRightSig ctx r → PutsKinds ctx other g → Sub ctx s r f → (h : Term) × Sub other (normal_sig other (substitute_sig g s)) (normal_sig other (substitute_sig g r)) h
+SubSubstitute = (ctx other : List Kind) (s r : Sig) (f : Term) (g : ℕ → Ty) → OkSig ctx s → IsRightSig ctx r → PutsKinds ctx other g → Sub ctx s r f → (h : Term) × Sub other (normal_sig other (substitute_sig g s)) (normal_sig other (substitute_sig g r)) h
 
 abbrev pub SubAbsSubstitute : Type 0
-SubAbsSubstitute = (ctx other : List Kind) (x y : Abs) (f : Term) (g : ℕ → Ty) → IsLeftAbs ctx x → IsRightAbs ctx y → PutsKinds ctx other g → SubAbs ctx x y f → (h : Term) × SubAbs other (normal_abs other (substitute_abs g x)) (normal_abs other (substitute_abs g y)) h
+SubAbsSubstitute = (ctx other : List Kind) (x y : Abs) (f : Term) (g : ℕ → Ty) → OkAbs ctx x → OkRight ctx y → PutsKinds ctx other g → SubAbs ctx x y f → (h : Term) × SubAbs other (normal_abs other (substitute_abs g x)) (normal_abs other (substitute_abs g y)) h
 
 -- the function refuses exactly where no types match
 abbrev pub MatchSigRefuses : Type 0

@@ -338,16 +338,16 @@ include_no-structure f (Abs.Ex ks s) ts e b eb h = IncludeRefuses.no_structure (
 lets-ok : (ctx : List Kind) (fs : SigRow) (i : ℕ) (d : Term) → WellFormedRow ctx fs → NormalSigRow ctx fs → NormalTerm ctx d → NormalTerm ctx (field_lets i fs d)
 lets-ok ctx fs i d w n nd = lets-normal ctx i fs d (w, n) nd
 
-pub include-given : (f h : Effect) (x y z : Abs) (ts us vs : List Ty) (e d c : Term) (b : Sig) (fs : SigRow) (m : Module)
-    → b ≡ body_of x → b ≡ Sig.Str fs → c ≡ field_lets 0 fs d → z ≡ y → vs ≡ us
-    → ((ctx : List Kind) → OkModule ctx (made f x ts e) → OkModule (extend ctx (kinds_of x)) (made h z vs c) → Seq ctx (made f x ts e) (made h z vs c) m)
+pub include-given : (f h : Effect) (x y : Abs) (ts us : List Ty) (e d c : Term) (b : Sig) (fs : SigRow) (m : Module)
+    → b ≡ body_of x → b ≡ Sig.Str fs → c ≡ field_lets 0 fs d
+    → ((ctx : List Kind) → OkModule ctx (made f x ts e) → OkModule (extend ctx (kinds_of x)) (made h y us c) → Seq ctx (made f x ts e) (made h y us c) m)
     → (ctx : List Kind) → OkModule ctx (made f x ts e) → OkModule (extend ctx (kinds_of x)) (made h y us d) → IncludeGives ctx (made f x ts e) (made h y us d) m
-include-given f h (Abs.Ex ks s) (Abs.Ex js t) z ts us vs e d c b fs m eb es ec ez ev seq ctx ok rest =
+include-given f h (Abs.Ex ks s) (Abs.Ex js t) ts us e d c b fs m eb es ec seq ctx ok rest =
     let same : s ≡ Sig.Str fs = sym eb ∙ es in
     let good : OkModule ctx (made f (Abs.Ex ks (Sig.Str fs)) ts e) = subst (λ s. OkModule ctx (made f (Abs.Ex ks s) ts e)) same ok in
     let lets : NormalTerm (extend ctx ks) (field_lets 0 fs d) = lets-ok (extend ctx ks) fs 0 d (str-fields (abs-body good.0.0)) good.0.1 rest.2 in
     let inner : OkModule (extend ctx ks) (made h (Abs.Ex js t) us (field_lets 0 fs d)) = (rest.0, rest.1, lets) in
-    let told : made h z vs c ≡ made h (Abs.Ex js t) us (field_lets 0 fs d) = ap (λ u. made h u vs c) ez ∙ (ap (λ u. made h (Abs.Ex js t) u c) ev ∙ ap (made h (Abs.Ex js t) us) ec) in
+    let told : made h (Abs.Ex js t) us c ≡ made h (Abs.Ex js t) us (field_lets 0 fs d) = ap (made h (Abs.Ex js t) us) ec in
     let given : Seq ctx (made f (Abs.Ex ks s) ts e) (made h (Abs.Ex js t) us (field_lets 0 fs d)) m = subst (λ r. OkModule (extend ctx ks) r → Seq ctx (made f (Abs.Ex ks s) ts e) r m) told (seq ctx ok) inner in
     subst (λ s. IncludeGives ctx (made f (Abs.Ex ks s) ts e) (made h (Abs.Ex js t) us d) m) (sym same)
     (IncludeGives.include (subst (λ s. Seq ctx (made f (Abs.Ex ks s) ts e) (made h (Abs.Ex js t) us (field_lets 0 fs d)) m) same given))

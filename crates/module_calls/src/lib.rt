@@ -4,15 +4,15 @@
 // their order.
 #![tactic(auto)]
 
-pub mod bindings;
+mod bindings;
 mod forms;
-pub mod functors;
-pub mod hidden;
-pub mod naming;
-pub mod paths;
-pub mod projecting;
-pub mod refusal;
-pub mod sequences;
+mod functors;
+mod hidden;
+mod naming;
+mod paths;
+mod projecting;
+mod refusal;
+mod sequences;
 
 pub use bindings::{bind_sig, bind_type, bind_val, end_struct};
 pub use functors::{apply, functor_parts, gen_functor, seal};

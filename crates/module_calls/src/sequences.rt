@@ -70,12 +70,10 @@ pub fn include_bind(alloc: Global, first: Module, rest: Module) -> Result<Module
         return Err(ModRefusal::NotStructure);
     };
     let term = field_lets(alloc, fields, rest.term)?;
-    let sig = rest.sig.share()?;
-    let types = rest.types.share(alloc)?;
     let last = Module {
         effect: rest.effect,
-        sig,
-        types,
+        sig: rest.sig,
+        types: rest.types,
         term,
     };
     Ok(seq_bind(alloc, first, last)?)

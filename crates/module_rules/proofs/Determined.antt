@@ -30,15 +30,16 @@ use Rattle.sig_laws.proofs.Algebra.BinderLaws.{extend-append}
 use Rattle.sig_laws.proofs.Formed.WellFormedLaws.{well_formed-kinds, well_formed-substitute}
 use Rattle.sig_laws.proofs.Algebra.Instances.{normals_of, at-substitutes}
 use Rattle.sig_laws.proofs.Formed.Conditions.{abs-body, str-fields, row-field}
-use Rattle.match_laws.proofs.OneMatch.Views.{field-unique}
+use Rattle.match_laws.proofs.AnyTypes.AnyTypesSubst.{kinds-substituted}
 use Rattle.module_rules.specs.Projection.{Projected}
 use Rattle.module_rules.specs.Sequence.{Seq, joined, past_opens, Collected}
 use Rattle.signatures.specs.Verdict.{One}
 use Rattle.sig_laws.specs.Good.{OkModule, Bound}
 use Rattle.omega_terms.proofs.InstanceLaws.{instance-one}
-use Rattle.premise_laws.proofs.Terms.{instance-total, of_kinds-substitute, forms-unique, repack-one, repack_all-one}
+use Rattle.premise_laws.proofs.Terms.{instance-total, forms-unique, repack-one, repack_all-one}
 use Rattle.premise_laws.proofs.Environments.{some-same}
 use Rattle.omega_types.proofs.BinderPuts.{forms-kinds}
+use Rattle.sig_laws.proofs.Algebra.PathLaws.{one-field}
 
 -- lets round a term of normal types
 pub lets-normal : (ctx : List Kind) (i : ℕ) (fs : SigRow) (e : Term) → OkRow ctx fs → NormalTerm ctx e → NormalTerm ctx (field_lets i fs e)
@@ -60,7 +61,7 @@ pub projected-one : (ctx ks : List Kind) (f : Effect) (fs : SigRow) (ts : List T
 projected-one ctx ks Pure fs ts e l t w h = (made Pure (Abs.Ex ks t) ts (Term.Get e (Label.Name l)), Projected.pure h, only)
   where
     only : (N : Module) → Projected ctx (made Pure (Abs.Ex ks (Sig.Str fs)) ts e) l N → N ≡ made Pure (Abs.Ex ks t) ts (Term.Get e (Label.Name l))
-    only N p = let v = projected-view p in v.2 ∙ ap (λ s. made Pure (Abs.Ex ks s) ts (Term.Get e (Label.Name l))) (field-unique v.1 h)
+    only N p = let v = projected-view p in v.2 ∙ ap (λ s. made Pure (Abs.Ex ks s) ts (Term.Get e (Label.Name l))) (one-field v.1 h refl)
 projected-one ctx ks Impure fs ts e l t w h = (result t p.0, Projected.impure h p.1, only)
   where
     result : Sig → Term → Module
@@ -72,7 +73,7 @@ projected-one ctx ks Impure fs ts e l t w h = (result t p.0, Projected.impure h 
     only : (N : Module) → Projected ctx (made Impure (Abs.Ex ks (Sig.Str fs)) ts e) l N → N ≡ result t p.0
     only N q =
         let v = projected-view q in
-        let a : v.0 ≡ t = field-unique v.2 h in
+        let a : v.0 ≡ t = one-field v.2 h refl in
         let b : v.1 ≡ p.0 = p.2 v.1 (subst (λ s. Packs (extend ctx ks) (vars ks) (Term.Get (Term.Var zero) (Label.Name l)) (raise ks (enc_abs (Abs.Ex ks s))) v.1) a v.3) in
         v.4 ∙ (λ i. result (a i) (b i))
 
@@ -99,10 +100,14 @@ collected-one g (l ∷ names) b = go (collected-one g names b.1)
             let y = v.7 ∙ (λ i. TermRow.More (Label.Name l) (a i).1 (d i).1) in
             λ i. (x i, y i)
 
+-- a binding and the rest, of which one is impure
+abbrev ImpureView : List Kind → (f : Effect) (ks : List Kind) (s : Sig) (ts : List Ty) (e : Term) (h : Effect) (js : List Kind) (t : Sig) (us : List Ty) (d : Term) → Module → Type 0
+ImpureView ctx f ks s ts e h js t us d N = (p q r : Term) × Packed ctx (made f (Abs.Ex ks s) ts e) p × Packed (extend ctx ks) (made h (Abs.Ex js t) us d) q × Packs (extend ctx ks) (vars ks) (past_opens ks q) (raise ks (enc_abs (Abs.Ex (ks ++ js) t))) r × (N ≡ made Impure (Abs.Ex (ks ++ js) t) [] (opens ks p (enc_abs (Abs.Ex ks s)) r))
+
 -- a binding and the rest
 abbrev SeqView : List Kind → (f : Effect) (ks : List Kind) (s : Sig) (ts : List Ty) (e : Term) (h : Effect) (js : List Kind) (t : Sig) (us : List Ty) (d : Term) → Module → Type 0
 SeqView ctx Pure ks s ts e Pure js t us d N = (n : Sig) × (ns : List Ty) × (c : Term) × NormalSigForm ctx (sig_at ts s) n × NormalForms ctx (map (substitute (puts ts Ty.Var)) us) js ns × Instance (extend ctx ks) ctx (puts ts Ty.Var) d c × (N ≡ made Pure (Abs.Ex (ks ++ js) t) (ts ++ ns) (let_in (enc n) e c))
-SeqView ctx f ks s ts e h js t us d N = (p q r : Term) × Packed ctx (made f (Abs.Ex ks s) ts e) p × Packed (extend ctx ks) (made h (Abs.Ex js t) us d) q × Packs (extend ctx ks) (vars ks) (past_opens ks q) (raise ks (enc_abs (Abs.Ex (ks ++ js) t))) r × (N ≡ made Impure (Abs.Ex (ks ++ js) t) [] (opens ks p (enc_abs (Abs.Ex ks s)) r))
+SeqView ctx f ks s ts e h js t us d N = ImpureView ctx f ks s ts e h js t us d N
 
 seq-view : {ctx ks js : List Kind} {s t : Sig} {ts us : List Ty} {e d : Term} (f h : Effect) {N : Module} → Seq ctx (made f (Abs.Ex ks s) ts e) (made h (Abs.Ex js t) us d) N → SeqView ctx f ks s ts e h js t us d N
 seq-view Pure Pure (Seq.both_pure {n = n} {ns = ns} {c = c} a b i) = (n, ns, c, a, b, i, refl)
@@ -110,9 +115,7 @@ seq-view Pure Pure (Seq.some_impure j p q r) = absurd (pure-not_impure j)
   where
     pure-not_impure : Pure ≡ Impure → ⊥
     pure-not_impure e = cc
-seq-view Pure Impure (Seq.some_impure {p = p} {q = q} {r = r} j a b c) = (p, q, r, a, b, c, refl)
-seq-view Impure Pure (Seq.some_impure {p = p} {q = q} {r = r} j a b c) = (p, q, r, a, b, c, refl)
-seq-view Impure Impure (Seq.some_impure {p = p} {q = q} {r = r} j a b c) = (p, q, r, a, b, c, refl)
+seq-view _ _ (Seq.some_impure {p = p} {q = q} {r = r} j a b c) = (p, q, r, a, b, c, refl)
 
 whole-well : (ctx ks js : List Kind) (t : Sig) → WellFormedAbs (extend ctx ks) (Abs.Ex js t) → WellFormedAbs ctx (Abs.Ex (ks ++ js) t)
 whole-well ctx ks js t (abs w) = abs (subst (λ c. WellFormed c t) (sym (extend-append ks js ctx)) w)
@@ -130,7 +133,7 @@ seq-pure ctx ks s ts e js t us d a b = (result n.0 ns.0 c.0, Seq.both_pure n.1 n
     n = form_sig-one (well_formed-kinds (well_formed-substitute (puts ts Ty.Var) put (abs-body a.0.0)))
 
     ns : (ns : List Ty) × NormalForms ctx (map (substitute (puts ts Ty.Var)) us) js ns
-    ns = normals_of (of_kinds-substitute (puts ts Ty.Var) put (forms-kinds b.1))
+    ns = normals_of (kinds-substituted (puts ts Ty.Var) put (forms-kinds b.1))
 
     c : (c : Term) × Instance (extend ctx ks) ctx (puts ts Ty.Var) d c
     c = instance-total ctx (puts ts Ty.Var) b.2 put
@@ -142,13 +145,6 @@ seq-pure ctx ks s ts e js t us d a b = (result n.0 ns.0 c.0, Seq.both_pure n.1 n
         let y = forms-unique ns.1 v.1 v.4 in
         let z = instance-one put v.5 c.1 in
         v.6 ∙ (λ i. result (x i) (y i) (z i))
-
--- the view of a sequence of which a part is impure
-abbrev ImpureView : List Kind → (f : Effect) (ks : List Kind) (s : Sig) (ts : List Ty) (e : Term) (h : Effect) (js : List Kind) (t : Sig) (us : List Ty) (d : Term) → Module → Type 0
-ImpureView ctx f ks s ts e h js t us d N = (p q r : Term) × Packed ctx (made f (Abs.Ex ks s) ts e) p × Packed (extend ctx ks) (made h (Abs.Ex js t) us d) q × Packs (extend ctx ks) (vars ks) (past_opens ks q) (raise ks (enc_abs (Abs.Ex (ks ++ js) t))) r × (N ≡ made Impure (Abs.Ex (ks ++ js) t) [] (opens ks p (enc_abs (Abs.Ex ks s)) r))
-
-ok-well : (ctx : List Kind) (f : Effect) (js : List Kind) (t : Sig) (us : List Ty) (d : Term) → OkModule ctx (made f (Abs.Ex js t) us d) → WellFormedAbs ctx (Abs.Ex js t)
-ok-well ctx f js t us d h = h.0.0
 
 seq-impure : (ctx ks : List Kind) (s : Sig) (ts : List Ty) (e : Term) (js : List Kind) (t : Sig) (us : List Ty) (d : Term) (f h : Effect) → joined f h ≡ Impure
     → ((N : Module) → Seq ctx (made f (Abs.Ex ks s) ts e) (made h (Abs.Ex js t) us d) N → ImpureView ctx f ks s ts e h js t us d N)
@@ -165,7 +161,7 @@ seq-impure ctx ks s ts e js t us d f h j view a b = (result p.0 r.0, Seq.some_im
     q = packed-one (extend ctx ks) (made h (Abs.Ex js t) us d) b
 
     r : One (λ r. Packs (extend ctx ks) (vars ks) (past_opens ks q.0) (raise ks (enc_abs (Abs.Ex (ks ++ js) t))) r)
-    r = repack-one ctx ks js (past_opens ks q.0) t (whole-well ctx ks js t (ok-well (extend ctx ks) h js t us d b))
+    r = repack-one ctx ks js (past_opens ks q.0) t (whole-well ctx ks js t b.0.0)
 
     only : (N : Module) → Seq ctx (made f (Abs.Ex ks s) ts e) (made h (Abs.Ex js t) us d) N → N ≡ result p.0 r.0
     only N m =

@@ -15,12 +15,12 @@ use Rattle.omega_types.proofs.Hereditary.{normal-gives}
 use Rattle.omega_types.proofs.LawProofs.{normal_of_normal}
 use Rattle.omega_types.proofs.Readback.{unique_normal_forms}
 use Rattle.signatures.specs.Signatures.Sig.{Sig, Abs}
-use Rattle.signatures.specs.Signatures.SigSubst.{raise_abs, abs_at, substitute_abs}
+use Rattle.signatures.specs.Signatures.SigSubst.{raise_abs, abs_at}
 use Rattle.signatures.specs.Signatures.Alike.{ConvAbs, NormalAbsForm}
 use Rattle.sig_laws.specs.NormalSig.{normal_abs}
-use Rattle.sig_laws.proofs.Algebra.SigAlgebra.{substitute-vars_abs}
 use Rattle.sig_laws.proofs.Algebra.AlikeLaws.{conv_abs-gives, conv_abs-sym, conv_abs-trans, conv_abs-substitute, substitutes-convertible, form-conv_abs, conv-form_abs, form_abs-unique, form_abs-normal, normal_abs-form, normal_abs-rename, normal_abs-self}
-use Rattle.sig_laws.proofs.Algebra.Instances.{some_types, some_types-normal, kinds-length, at-substitutes, past-substitutes, at-raise_sig, at-raise_abs}
+use Rattle.sig_laws.proofs.Algebra.Instances.{some_types, some_types-normal, kinds-length, at-substitutes, at-raise_sig, at-raise_abs}
+use Rattle.match_laws.proofs.AnyTypes.AnyTypesConv.{conv_abs-raise}
 use Rattle.module_rules.specs.PathUse.{Outside, SigOutside}
 use Rattle.signatures.specs.Verdict.{Perhaps, one, none}
 use Rattle.sig_laws.specs.Decide.{dec_ty}
@@ -88,17 +88,10 @@ module _ (ctx ks : List Kind) (x : Abs) (h : ConvAbs (extend ctx ks) x x) where
       let c = form-conv_abs sig_within-form in
       conv_abs-gives (conv_abs-substitute (puts (some_types ks) Ty.Var) (puts (some_types ks) Ty.Var) (substitutes-convertible (at-substitutes (of_kinds ctx ks))) (conv_abs-trans (conv_abs-sym c) c))
 
-  conv-raised : {y z : Abs} → ConvAbs ctx y z → ConvAbs (extend ctx ks) (raise_abs ks y) (raise_abs ks z)
-  conv-raised {y} {z} c =
-      let s : List Kind → Abs → Abs = λ js w. substitute_abs (λ i. Ty.Var (past js i)) w in
-      subst (λ w. ConvAbs (extend ctx ks) w (raise_abs ks z)) (substitute-vars_abs (past ks) y)
-      (subst (λ w. ConvAbs (extend ctx ks) (s ks y) w) (substitute-vars_abs (past ks) z)
-      (conv_abs-substitute (λ i. Ty.Var (past ks i)) (λ i. Ty.Var (past ks i)) (substitutes-convertible (past-substitutes ks ctx)) c))
-
   sig_raised : (m : Abs) → SigOutside ctx ks x m → raise_abs ks m ≡ sig_within
   sig_raised m (SigOutside.outside y c f) =
       form_abs-unique
-      (conv-form_abs (conv_abs-trans (conv_abs-sym c) (conv-raised (form-conv_abs f))) (normal_abs-form (extend ctx ks) (raise_abs ks m) (normal_abs-rename (past ks) (past-maps ks ctx) m (form_abs-normal f))))
+      (conv-form_abs (conv_abs-trans (conv_abs-sym c) (conv_abs-raise ctx ks (form-conv_abs f))) (normal_abs-form (extend ctx ks) (raise_abs ks m) (normal_abs-rename (past ks) (past-maps ks ctx) m (form_abs-normal f))))
       sig_within-form
 
   sig_normal-self : (m : Abs) → SigOutside ctx ks x m → normal_abs ctx m ≡ m

@@ -2,3 +2,4 @@ pub mod NormAgain
 pub mod NormKeeps
 pub mod NormRenamed
 pub mod NormUnique
+pub mod Shuffles

@@ -9,11 +9,12 @@ use Rattle.norm_laws.proofs.Orders.OrderExists.{order_exists, norm_abs_exists, N
 use mathlib.Core.Logic.{inl, inr}
 use Rattle.signatures.specs.Explicit.SigPath.{SigPath}
 use Rattle.signatures.specs.Explicit.RootPath.{RootPath, LeastRoot}
-use Rattle.norm_laws.proofs.Orders.Roots.{Roots, roots, one_least}
+use Rattle.norm_laws.proofs.Orders.Roots.{Roots, roots}
 use Rattle.norm_laws.proofs.Norm.NormUnique.{norm_abs_unique}
 use Rattle.norm_laws.proofs.Norm.NormKeeps.{norm_abs-explicit}
 use Rattle.norm_laws.proofs.Norm.NormAgain.{norm_abs-again}
 use Rattle.norm_laws.specs.Norms.{RootsFound, OneLeastRoot, OrderExists, OrderUnique, NormExists, NormUnique, NormKeeps, NormOfNorm}
+use Rattle.sig_laws.proofs.Algebra.Paths.{one_least}
 
 pub roots_found : RootsFound
 roots_found ctx ks s i w = go (roots ctx ks s i w)

@@ -11,12 +11,12 @@ use Rattle.signatures.specs.QuantifierOrder.{NewOrder, reordered, renumber, Norm
 use Rattle.signatures.specs.Explicit.WellFormed.{EachRooted, WellFormed, WellFormedRow, ExplicitResults, ExplicitResultsRow, Explicit, explicit, in_str, in_pure, in_impure, in_more}
 use Rattle.sig_laws.specs.Good.{OkRight}
 use Rattle.sig_laws.proofs.Algebra.AlikeLaws.{normal_sig-rename, normal_abs-rename}
-use Rattle.norm_laws.proofs.Orders.Orders.{renumber-maps}
 use Rattle.norm_laws.proofs.Norm.NormKeeps.{norm-well_formed, norm_abs-explicit}
 use Rattle.norm_laws.proofs.Orders.OrderExists.{root-each}
 use Rattle.package_calls.specs.Renumbered.{moved}
 use Rattle.package_calls.specs.Normed.{order, in_order, functor_in_order, normed_sig, normed_abs, normed_row}
 use Rattle.package_calls.proofs.TurnLaws.{in-new-order}
+use Rattle.sig_laws.proofs.Formed.NormGood.{reorder-maps}
 
 abbrev pub Good : List Kind → Sig → Sig → Type 0
 Good ctx s t = NormSig ctx s t × NormalSig ctx t
@@ -35,13 +35,13 @@ abs-in-order : (ctx ks : List Kind) (s t : Sig) → Good (extend ctx ks) s t →
 abs-in-order ctx ks s t g (o, n, ek, em) =
     subst (λ js. GoodAbs ctx (Abs.Ex ks s) (Abs.Ex js (rename_sig (moved (order ks t).1) t))) (sym ek)
     (subst (λ r. GoodAbs ctx (Abs.Ex ks s) (Abs.Ex (reordered ks o) (rename_sig r t))) (sym em)
-    (Norm.ex g.0 n, normal_sig-rename (renumber ks o) (renumber-maps n ctx) t g.1))
+    (Norm.ex g.0 n, normal_sig-rename (renumber ks o) (reorder-maps n ctx) t g.1))
 
 functor-in-order : (ctx ks : List Kind) (s t : Sig) (x y : Abs) → Good (extend ctx ks) s t → Ordered ctx ks t → GoodAbs (extend ctx ks) x y → Good ctx (Sig.Fun Impure ks s x) (functor_in_order ks t y)
 functor-in-order ctx ks s t x y g (o, n, ek, em) h =
     subst (λ js. Good ctx (Sig.Fun Impure ks s x) (Sig.Fun Impure js (rename_sig (moved (order ks t).1) t) (rename_abs (moved (order ks t).1) y))) (sym ek)
     (subst (λ r. Good ctx (Sig.Fun Impure ks s x) (Sig.Fun Impure (reordered ks o) (rename_sig r t) (rename_abs r y))) (sym em)
-    (NormSig.impure g.0 n h.0, (normal_sig-rename (renumber ks o) (renumber-maps n ctx) t g.1, normal_abs-rename (renumber ks o) (renumber-maps n ctx) y h.1)))
+    (NormSig.impure g.0 n h.0, (normal_sig-rename (renumber ks o) (reorder-maps n ctx) t g.1, normal_abs-rename (renumber ks o) (reorder-maps n ctx) y h.1)))
 
 mutual
   pub sig-normed : {ctx : List Kind} (s : Sig) → WellFormed ctx s → ExplicitResults ctx s → NormalSig ctx s → Good ctx s (normed_sig s)

@@ -1,5 +1,5 @@
 -- What a renumbering does at each form of type and of signature, with indexes counted as the code counts them.
-use Rattle.std.proofs.Common.{◌≡◌, ℕ, zero, suc, ◌+◌, ◌-◌, ◌<◌, ◌≤◌, List, [], ◌∷◌, Option, Some, None, get_or, slice_index_or, length, refl, sym, ap, ap₂, ◌∙◌, arith}
+use Rattle.std.proofs.Common.{◌≡◌, ℕ, zero, suc, ◌+◌, ◌-◌, ◌<◌, ◌≤◌, List, [], ◌∷◌, Option, Some, None, get_or, length, refl, sym, ap, ap₂, ◌∙◌, arith}
 use Rattle.omega_kinds.specs.Kind.{Kind}
 use Rattle.omega_types.specs.Ty.{Ty, Row, lift}
 use Rattle.omega_types.specs.Bound.{bound_of}
@@ -13,6 +13,7 @@ use Rattle.signatures.specs.Signatures.SigSubst.{rename_sig, rename_abs, rename_
 use Rattle.semantic_sigs.specs.Bound.{bound_sig, bound_abs, bound_sig_row}
 use Rattle.semantic_sigs.specs.Fields.{SigPairs, sig_row}
 use Rattle.semantic_sigs.proofs.SigSteps.{map_sigs, name_follows-at}
+use Rattle.root_paths.proofs.RootedLaws.{lift-fixes}
 use Rattle.package_calls.specs.Renumbered.{moved, or_stays, place_in, sunk}
 
 -- indexes below so many binders
@@ -20,13 +21,9 @@ use Rattle.package_calls.specs.Renumbered.{moved, or_stays, place_in, sunk}
 abbrev pub Fixes : ℕ → (ℕ → ℕ) → Type 0
 Fixes n r = (i : ℕ) → i < n → r i ≡ i
 
-lift-fixes : (n : ℕ) (r : ℕ → ℕ) → Fixes n r → Fixes (suc n) (lift r)
-lift-fixes n r h zero lt = refl
-lift-fixes n r h (suc i) lt = ap suc (h i (omega arith))
-
 pub sunk-fixes : (depth : ℕ) (r : ℕ → ℕ) → Fixes depth (sunk depth r)
 sunk-fixes zero r i lt = absurd (omega (arith, lt))
-sunk-fixes (suc depth) r i lt = lift-fixes depth (sunk depth r) (sunk-fixes depth r) i lt
+sunk-fixes (suc depth) r i lt = lift-fixes (sunk depth r) depth (sunk-fixes depth r) i lt
 
 sunk-outside : (depth : ℕ) (r : ℕ → ℕ) (i : ℕ) → sunk depth r (depth + i) ≡ depth + r i
 sunk-outside zero r i = let a : zero + i ≡ i = omega arith in let b : r i ≡ zero + r i = omega arith in ap r a ∙ b
@@ -68,7 +65,7 @@ pub ruleset ty_steps = (ty-unchanged, ty-under, row-renumbered, may_follow-at)
 
 lifts-fixes : (ks : List Kind) (n : ℕ) (r : ℕ → ℕ) → Fixes n r → Fixes (length ks + n) (lifts ks r)
 lifts-fixes [] n r h i lt = h i (omega (arith, lt))
-lifts-fixes (k ∷ ks) n r h i lt = lifts-fixes ks (suc n) (lift r) (lift-fixes n r h) i (omega (arith, lt))
+lifts-fixes (k ∷ ks) n r h i lt = lifts-fixes ks (suc n) (lift r) (lift-fixes r n h) i (omega (arith, lt))
 
 mutual
   sig-fixed : (n : ℕ) (r : ℕ → ℕ) (s : Sig) → Fixes n r → bound_sig s ≤ n → rename_sig r s ≡ s
@@ -111,11 +108,6 @@ pub ruleset sig_steps = (sig-unchanged, abs-unchanged, sig-below, abs-below, sig
 -- one index
 
 pub ruleset index_steps = (sunk-fixes, sunk-new, sunk-stays)
-
-pub place-read : (ps : List (Option ℕ)) (i : ℕ) → slice_index_or ps i None ≡ place_in ps i
-place-read [] i = refl
-place-read (p ∷ ps) zero = refl
-place-read (p ∷ ps) (suc i) = place-read ps i
 
 pub place-at : (ps : List (Option ℕ)) (i : ℕ) (o : Option ℕ) → i < length ps → o ≡ get_or ps i o → o ≡ place_in ps i
 place-at [] i o lt e = absurd (omega (arith, lt))

@@ -231,9 +231,6 @@ taken-get (Some j ∷ ps) (suc i) h = taken-get ps i h
 pub type-found : (ps : Places) (found : Option ℕ) (i : ℕ) → found ≡ Some i → slice_get ps i ≡ Some None → Some i ≡ if_untaken ps found
 type-found ps found i e u = let t = untaken-get ps i u in sym (ap (if_untaken ps) e ∙ (let g : if_untaken ps (Some i) ≡ Some i = rw t refl in g))
 
-pub type-none : (ps : Places) (found : Option ℕ) → found ≡ None → None ≡ if_untaken ps found
-type-none ps found e = sym (ap (if_untaken ps) e)
-
 pub type-taken : (ps : Places) (found : Option ℕ) (i : ℕ) → found ≡ Some i → (slice_get ps i ≡ Some None → ⊥) → None ≡ if_untaken ps found
 type-taken ps found i e h = let t = taken-get ps i h in sym (ap (if_untaken ps) e ∙ (let g : if_untaken ps (Some i) ≡ None = rw t refl in g))
 

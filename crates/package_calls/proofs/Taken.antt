@@ -25,15 +25,19 @@ use Rattle.sig_laws.specs.Decide.{decided, dec_mentions_sig}
 use Rattle.sig_laws.proofs.Algebra.AlikeLaws.{normal_sig-form, avoided}
 use Rattle.sig_laws.proofs.Algebra.BinderLaws.{extend-append, past-append, applied-append}
 use Rattle.sig_laws.proofs.Algebra.PathLaws.{one-field}
-use Rattle.explicit_laws.proofs.Names.{NameBefore}
-use Rattle.explicit_laws.proofs.Moves.{Shows, shows, FieldsIn, shows-grown, params-grown}
+use Rattle.sig_laws.proofs.Algebra.Names.{NameBefore}
+use Rattle.explicit_laws.proofs.Moves.{FieldsIn, shows-grown, params-grown}
 use Rattle.explicit_laws.proofs.Liftings.{shows-result, params-result}
-use Rattle.norm_laws.proofs.Orders.OrderExists.{field-split, before_all-field, before-cases, part-opens, before-result, Opens}
+use Rattle.norm_laws.proofs.Orders.OrderExists.{field-split, part-opens, Opens}
 use Rattle.norm_laws.proofs.Orders.Decided.{param-enters}
 use Rattle.root_paths.specs.Rooted.{rooted}
 use Rattle.root_paths.proofs.RootedLaws.{rooted-conv, rooted-found}
-use Rattle.root_paths.proofs.SeekLaws.{spread-past, past-depth}
+use Rattle.root_paths.proofs.LeastLaws.{past-from}
+use Rattle.root_paths.proofs.SeekLaws.{spread-past}
 use Rattle.package_calls.specs.First.{Places, is_untaken, blocks, barred, if_untaken, first, first_row, first_type, or_first}
+use Rattle.sig_laws.proofs.Formed.WellFormedLaws.{before_all-field}
+use Rattle.sig_laws.proofs.Algebra.Paths.{before-cases, before-result}
+use Rattle.sig_laws.proofs.Formed.Shows.{Shows, shows}
 
 -- the variable is not taken yet and is rooted at the path, and no functor parameter on the path mentions one that is not
 -- taken yet; all below so many variables of functors
@@ -221,27 +225,27 @@ takes-through {c} {ps} {depth} {j} {ks} {s} {r} w = go w.1 w.2
         (λ i u. a i u [] ks s ParamOn.here) (
           w.0,
           shows x (subst₂ (λ z v. Conv z t v k) (extend-append ks bs c) (applied-append ks bs (spread (depth + j) zero depth) ∙ ap (applied bs) (sym (spread-past ks j depth))) d),
-          λ i u ds js z on. subst₂ (λ y n. Avoids (extend y js) z (past js n)) (extend-append ks ds c) (past-append ks ds (depth + i) ∙ ap (past ds) (sym (past-depth ks depth i))) (a i u (ks ++ ds) js z (ParamOn.result on)),
+          λ i u ds js z on. subst₂ (λ y n. Avoids (extend y js) z (past js n)) (extend-append ks ds c) (past-append ks ds (depth + i) ∙ ap (past ds) (sym (past-from ks depth i))) (a i u (ks ++ ds) js z (ParamOn.result on)),
         )
 
 takes-result : (c : List Kind) (ps : Places) (depth j : ℕ) {ks : List Kind} {s r : Sig} {p : SigPath} → ((i : ℕ) → is_untaken ps i ≡ true → Avoids (extend c ks) s (past ks (depth + i))) → Takes (extend c ks) ps (length ks + depth) r j p → Takes c ps depth (Sig.Fun Pure ks s (Abs.Ex [] r)) j (Item.Res ∷ p)
 takes-result c ps depth j {ks} {s} {r} {p} h w = (
   w.0,
   shows-result c ks (subst (λ u. Shows (extend c ks) r u p) (spread-past ks j depth) w.1),
-  λ i u. params-result c ks p (depth + i) (h i u) (subst (ParamsAvoid (extend c ks) r p) (past-depth ks depth i) (w.2 i u)),
+  λ i u. params-result c ks p (depth + i) (h i u) (subst (ParamsAvoid (extend c ks) r p) (past-from ks depth i) (w.2 i u)),
 )
 
 barred-outcome : {c : List Kind} (ps : Places) (depth : ℕ) (ks : List Kind) (s r : Sig) → NormalSig (extend c ks) s → barred ps (length ks + depth) s ≡ true → Outcome c ps depth (Sig.Fun Pure ks s (Abs.Ex [] r)) None
 barred-outcome {c} ps depth ks s r n e j q w = go (takes-through w)
   where
     go : {q : SigPath} → Through c ps depth ks s r j q → ⊥
-    go (through f a v) = let m = barred-yes ps (length ks + depth) s e in avoided n (a m.0 m.1) (subst (λ i. MentionsSig i s) (past-depth ks depth m.0) m.2)
+    go (through f a v) = let m = barred-yes ps (length ks + depth) s e in avoided n (a m.0 m.1) (subst (λ i. MentionsSig i s) (past-from ks depth m.0) m.2)
 
 through-outcome : (c : List Kind) (ps : Places) (depth : ℕ) (ks : List Kind) (s r : Sig) → NormalSig (extend c ks) s → barred ps (length ks + depth) s ≡ false → (o : Option ℕ) → Outcome (extend c ks) ps (length ks + depth) r o → Outcome c ps depth (Sig.Fun Pure ks s (Abs.Ex [] r)) o
 through-outcome c ps depth ks s r n e (Some i) (p, w, h) = (Item.Res ∷ p, takes-result c ps depth i avoided w, λ j q v. none-before j (takes-through v))
   where
     avoided : (i : ℕ) → is_untaken ps i ≡ true → Avoids (extend c ks) s (past ks (depth + i))
-    avoided i u = avoids-of n (λ m. barred-no ps (length ks + depth) s e i u (subst (λ x. MentionsSig x s) (sym (past-depth ks depth i)) m))
+    avoided i u = avoids-of n (λ m. barred-no ps (length ks + depth) s e i u (subst (λ x. MentionsSig x s) (sym (past-from ks depth i)) m))
 
     none-before : (j : ℕ) {q : SigPath} → Through c ps depth ks s r j q → PathBefore q (Item.Res ∷ p) → ⊥
     none-before j (through {p = o} f a v) b = h j o v (before-result (subst (λ z. PathBefore z (Item.Res ∷ p)) f b))

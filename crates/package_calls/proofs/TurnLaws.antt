@@ -1,7 +1,8 @@
 -- The variables that are taken turn by turn are in the order of the definition.
 use Rattle.std.specs.Prelude.{ℕ, zero, suc, ◌+◌, ◌-◌, ◌<◌, ◌≤◌, ◌≡◌, ◌≢◌, ◌↔◌, List, [], ◌∷◌, ◌++◌, ◌⊎◌, length, map, set, Option, Some, None, Bool, true, false}
 use mathlib.Core.Logic.{inl, inr}
-use Rattle.std.proofs.Common.{arith, append_assoc}
+use Rattle.std.proofs.Common.{arith, append_assoc, append-nil}
+use Rattle.std.proofs.lemmas.List.{length-map, length-set}
 use Rattle.std.proofs.Math.Decide.{ℕ_discrete, dec_lt}
 use Rattle.std.proofs.Math.Path.{refl, sym, ap, ◌∙◌, subst}
 use Rattle.omega_kinds.specs.Kind.{Kind}
@@ -17,7 +18,7 @@ use Rattle.signatures.specs.Explicit.WellFormed.{EachRooted, WellFormed}
 use Rattle.signatures.specs.QuantifierOrder.{IsNoneOf, Untaken, Counts, counts, Taking, done, next, NewOrder, reordered, place, renumber}
 use Rattle.sig_laws.proofs.Algebra.BinderLaws.{past-length}
 use Rattle.sig_laws.proofs.Algebra.Own.{split_index}
-use Rattle.explicit_laws.proofs.Moves.{Shows, rooted-shows, shows-rooted}
+use Rattle.explicit_laws.proofs.Positions.{own-below}
 use Rattle.norm_laws.proofs.Orders.OrderExists.{LeastBelow, least_below}
 use Rattle.norm_laws.proofs.Orders.Orders.{place-same, place-other, own-own, renumber-below, renumber-past}
 use Rattle.package_calls.specs.First.{Places, is_untaken, first}
@@ -25,6 +26,7 @@ use Rattle.package_calls.specs.Renumbered.{moved, or_stays, place_in}
 use Rattle.package_calls.specs.Turns.{turns, turn, untaken}
 use Rattle.package_calls.specs.Normed.{order}
 use Rattle.package_calls.proofs.Taken.{Takes, Outcome, outcome}
+use Rattle.sig_laws.proofs.Formed.Shows.{Shows, rooted-shows, shows-rooted}
 
 -- places
 
@@ -34,11 +36,6 @@ untaken-within (None ∷ ps) zero e = omega arith
 untaken-within (Some j ∷ ps) zero e = omega arith
 untaken-within (None ∷ ps) (suc i) e = let h = untaken-within ps i e in omega (arith, h)
 untaken-within (Some j ∷ ps) (suc i) e = let h = untaken-within ps i e in omega (arith, h)
-
-set-count : (ps : Places) (i : ℕ) (o : Option ℕ) → length (set ps i o) ≡ length ps
-set-count [] i o = refl
-set-count (x ∷ ps) zero o = refl
-set-count (x ∷ ps) (suc i) o = ap suc (set-count ps i o)
 
 untaken-set_same : (ps : Places) (i x : ℕ) → is_untaken (set ps i (Some x)) i ≡ true → ⊥
 untaken-set_same [] i x e = cc
@@ -95,10 +92,6 @@ start-count : (ks : List Kind) → count (untaken ks) ≡ length ks
 start-count [] = refl
 start-count (k ∷ ks) = ap suc (start-count ks)
 
-start-length : (ks : List Kind) → length (untaken ks) ≡ length ks
-start-length [] = refl
-start-length (k ∷ ks) = ap suc (start-length ks)
-
 start-untaken : (ks : List Kind) (i : ℕ) → i < length ks → is_untaken (untaken ks) i ≡ true
 start-untaken [] i lt = absurd (omega (arith, lt))
 start-untaken (k ∷ ks) zero lt = refl
@@ -113,17 +106,14 @@ start-place (k ∷ ks) (suc i) = start-place ks i
 abbrev Agree : List Kind → Places → List ℕ → Type 0
 Agree ks ps taken = (length ps ≡ length ks) × ((v : ℕ) → v < length ks → is_untaken ps (own ks v) ≡ true ↔ IsNoneOf v taken)
 
-own-below : (ks : List Kind) (v : ℕ) → v < length ks → own ks v < length ks
-own-below ks v lt = omega (arith, lt)
-
 same-own : (ks : List Kind) (v i : ℕ) → v < length ks → i < length ks → own ks v ≡ i → v ≡ own ks i
 same-own ks v i lv li e = omega (arith, lv, li, e)
 
 agree-start : (ks : List Kind) → Agree ks (untaken ks) []
-agree-start ks = (start-length ks, λ v lt. (λ e. tt, λ h. start-untaken ks (own ks v) (own-below ks v lt)))
+agree-start ks = (length-map ks (λ k. None), λ v lt. (λ e. tt, λ h. start-untaken ks (own ks v) (own-below ks v lt)))
 
 agree-next : (ks : List Kind) (ps : Places) (taken : List ℕ) (i x : ℕ) → Agree ks ps taken → i < length ks → Agree ks (set ps i (Some x)) (own ks i ∷ taken)
-agree-next ks ps taken i x a li = (set-count ps i (Some x) ∙ a.0, λ v lv. (to v lv, from v lv))
+agree-next ks ps taken i x a li = (length-set ps i (Some x) ∙ a.0, λ v lv. (to v lv, from v lv))
   where
     to : (v : ℕ) → v < length ks → is_untaken (set ps i (Some x)) (own ks v) ≡ true → IsNoneOf v (own ks i ∷ taken)
     to v lv e = go (ℕ_discrete (own ks v) i)
@@ -192,12 +182,8 @@ Gives ctx ks s left kinds ps taken r =
     × ((v : ℕ) → v < length ks → IsNoneOf v taken → place_in r.1 (own ks v) ≡ Some (left - suc (place order v)))
     × ((i : ℕ) → (is_untaken ps i ≡ true → ⊥) → place_in r.1 i ≡ place_in ps i)
 
-append-none : {A : Type 0} (xs : List A) → xs ++ [] ≡ xs
-append-none [] = refl
-append-none (x ∷ xs) = ap (λ l. x ∷ l) (append-none xs)
-
 gives-done : (ctx ks : List Kind) (s : Sig) (left : ℕ) (kinds : List Kind) (ps : Places) (taken : List ℕ) → ((j : ℕ) → Untaken ks taken j → ⊥) → Gives ctx ks s left kinds ps taken (kinds, ps)
-gives-done ctx ks s left kinds ps taken h = ([], done h, sym (append-none kinds), λ v lv n. absurd (h v (lv, n)), λ i n. refl)
+gives-done ctx ks s left kinds ps taken h = ([], done h, sym (append-nil kinds), λ v lv n. absurd (h v (lv, n)), λ i n. refl)
 
 gives-next : (ctx ks : List Kind) (s : Sig) (left : ℕ) (kinds : List Kind) (ps : Places) (taken : List ℕ) (i : ℕ) (r : List Kind × Places) → Agree ks ps taken → Outcome (extend ctx ks) ps zero s (Some i)
     → Gives ctx ks s left (kinds ++ (kind_at ks (own ks i) ∷ [])) (set ps i (Some left)) (own ks i ∷ taken) r
@@ -260,5 +246,5 @@ module _ (ctx ks : List Kind) (s : Sig) (formed : WellFormed (extend ctx ks) s) 
       index o placed kept i (inl lt) =
           ap (or_stays i) (ap (place_in (order ks s).1) (sym (own-own ks i lt)) ∙ placed (own ks i) (own-below ks i lt) tt) ∙ sym (renumber-below ks o i lt)
       index o placed kept i (inr (j, e)) =
-          let beyond : is_untaken (untaken ks) i ≡ true → ⊥ = λ u. let h = untaken-within (untaken ks) i u in let l = start-length ks in let p = past-length ks j in omega (arith, h, l, p, e) in
+          let beyond : is_untaken (untaken ks) i ≡ true → ⊥ = λ u. let h = untaken-within (untaken ks) i u in let l : length (untaken ks) ≡ length ks = length-map ks (λ k. None) in let p = past-length ks j in omega (arith, h, l, p, e) in
           ap (or_stays i) (kept i beyond ∙ start-place ks i) ∙ (e ∙ (sym (renumber-past ks o j) ∙ ap (renumber ks o) (sym e)))

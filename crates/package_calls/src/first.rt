@@ -5,7 +5,7 @@ ghost use Rattle.package_calls.specs.First.{first as first_of, first_row, first_
 
 use omega_kinds::{Effect, Kinds, Mem};
 use omega_types::Ty;
-use root_paths::rooted::rooted;
+use root_paths::rooted;
 use semantic_sigs::{Sig, SigFields, SigNode, sig_mentions};
 use type_normal::plain;
 
@@ -46,9 +46,8 @@ fn first_field(fields: &SigFields, depth: u64, places: &[Option<u64>]) -> Result
     ensures { IfOk result (λ found. found ≡ first_row places.now depth (sig_row fields.now)) }
 {
     for field in fields.items() {
-        match first(&field.1, depth, places)? {
-            Some(index) => return Ok(Some(index)),
-            None => {}
+        if let Some(index) = first(&field.1, depth, places)? {
+            return Ok(Some(index));
         }
     }
     Ok(None)
@@ -59,13 +58,8 @@ fn first_type(ty: &Ty, depth: u64, places: &[Option<u64>]) -> Result<Option<u64>
     ensures { IfOk result (λ found. found ≡ first_type_of places.now depth ty.now) }
 {
     match rooted(ty, depth)? {
-        Some(index) => {
-            if is_untaken(index, places) {
-                return Ok(Some(index));
-            }
-            Ok(None)
-        }
-        None => Ok(None),
+        Some(index) if is_untaken(index, places) => Ok(Some(index)),
+        _ => Ok(None),
     }
 }
 
@@ -73,10 +67,7 @@ fn first_type(ty: &Ty, depth: u64, places: &[Option<u64>]) -> Result<Option<u64>
 fn is_untaken(index: u64, places: &[Option<u64>]) -> bool
     ensures { IsTrue result ↔ slice_get places.now index ≡ Some None }
 {
-    match places.get(index as usize) {
-        Some(place) => place.is_none(),
-        None => false,
-    }
+    matches!(places.get(index as usize), Some(None))
 }
 
 // Whether a functor's parameter, below `depth` variables of functors, mentions a variable that is not taken yet. Takes no
@@ -103,10 +94,7 @@ fn is_barred(param: &Sig, depth: u64, places: &[Option<u64>]) -> bool
 fn is_blocking(place: &Option<u64>, param: &Sig, index: u64) -> bool
     ensures { result ≡ blocks place.now index param.now }
 {
-    match place {
-        Some(_) => false,
-        None => sig_mentions(param, index),
-    }
+    place.is_none() && sig_mentions(param, index)
 }
 
 // The number of variables below those of a functor, `depth` being outside.

@@ -6,10 +6,10 @@
 #![tactic(auto)]
 
 mod first;
-pub mod norms;
+mod norms;
 mod ordering;
-pub mod packing;
-pub mod refusal;
+mod packing;
+mod refusal;
 mod renumbering;
 mod renumbering_types;
 

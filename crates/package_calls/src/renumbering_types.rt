@@ -102,9 +102,5 @@ fn new_index(index: u64, places: &[Option<u64>], depth: u64) -> Result<u64, Mem>
 fn place_of(index: u64, places: &[Option<u64>]) -> Option<u64>
     ensures { result ≡ place_in places.now index }
 {
-    if index < places.len() as u64 {
-        places[index as usize]
-    } else {
-        None
-    }
+    places.get(index as usize).copied().flatten()
 }

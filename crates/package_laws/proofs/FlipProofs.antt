@@ -6,7 +6,7 @@ use Rattle.omega_kinds.specs.Kind.{Kind}
 use Rattle.omega_types.specs.Ty.{Ty}
 use Rattle.omega_types.specs.Kinding.{HasKind}
 use Rattle.omega_types.specs.Kinding
-use Rattle.omega_types.specs.Kinding.HasKind.{k_var, k_lam, k_apply, k_ex}
+use Rattle.omega_types.specs.Kinding.HasKind.{k_var, k_lam, k_apply}
 use Rattle.omega_types.specs.Conversion.Conv.{c_sym}
 use Rattle.omega_types.specs.Normality.Neutral.{n_var}
 use Rattle.omega_types.specs.Binders.{past, own, raise, OfKinds, NormalForms}
@@ -35,6 +35,7 @@ use Rattle.norm_laws.proofs.Norm.NormUnique.{norm_unique}
 use Rattle.explicit_laws.proofs.Liftings.{body-of}
 use Rattle.sig_laws.proofs.Formed.NormGood.{order-length}
 use Rattle.omega_types.proofs.BinderLaws.{past-maps}
+use Rattle.omega_types.proofs.Inverse.{ex-kinds}
 
 direct-kind : (ctx : List Kind) → HasKind (binary ∷ ctx) direct binary
 direct-kind ctx = k_lam (k_lam (k_apply (k_apply (k_var (Kinding.there (Kinding.there Kinding.here))) (k_var (Kinding.there Kinding.here))) (k_var Kinding.here)))
@@ -86,11 +87,8 @@ instance-kinds x s h e = well_formed-kinds (well_formed-substitute _ (at-substit
 same-parts : (ctx : List Kind) (t u : Ty) → (f : Term) × Sub ctx (two_parts t u) (two_parts t u) f
 same-parts ctx t u = (_, Sub.str (SubFields.more here Sub.typ (SubFields.more (there g-after-f here) Sub.typ SubFields.end)))
 
-ex-body : {ctx : List Kind} {k : Kind} {b : Ty} → HasKind ctx (Ty.Ex k b) Kind.Star → HasKind (k ∷ ctx) b Kind.Star
-ex-body (k_ex h) = h
-
 pub packed : (x : Abs) (b : Ty) (e : Term) → Explicit [] x → raise (binary ∷ []) (enc_abs x) ≡ Ty.Ex binary b → (d : Term) × Packs (binary ∷ []) (flipped ∷ []) e (Ty.Ex binary b) d
-packed x b e h q = (_, Packs.next (normal-gives (kind-substitute _ (single-substitutes (flipped-kind [])) (ex-body (subst (λ t. HasKind (binary ∷ []) t Kind.Star) q (kind-rename (past (binary ∷ [])) (past-maps (binary ∷ []) []) (conv-kinds (enc_abs-conv h (explicit-kinds h))).0))))) Packs.none)
+packed x b e h q = (_, Packs.next (normal-gives (kind-substitute _ (single-substitutes (flipped-kind [])) (ex-kinds (subst (λ t. HasKind (binary ∷ []) t Kind.Star) q (kind-rename (past (binary ∷ [])) (past-maps (binary ∷ []) []) (conv-kinds (enc_abs-conv h (explicit-kinds h))).0))))) Packs.none)
 
 pub f_matches : (c : Term) × SubAbs [] f_first g_first c
 f_matches =

@@ -5,5 +5,4 @@ pub mod OrderProofs
 pub mod Pairs
 pub mod SameLaws
 pub mod SamePackage
-pub mod Shuffles
 pub mod PackageClaims

@@ -21,7 +21,6 @@ use Rattle.omega_types.proofs.LawProofs.{normal_of_rename}
 use Rattle.omega_types.proofs.Inverse.{same-normal, normal-same}
 use Rattle.omega_types.proofs.Mention.{unmentioned, rename-agree, lookup-unique}
 use Rattle.sig_laws.proofs.Algebra.EtaLaws.{applied-kinded}
-use Rattle.norm_laws.proofs.Orders.Orders.{lookup-own}
 use Rattle.signatures.specs.Signatures.Sig.{Sig, Abs, SigRow}
 use Rattle.signatures.specs.Signatures.SigSubst.{rename_sig, rename_abs, rename_sig_row}
 use Rattle.sig_laws.specs.NormalSig.{normal_sig}
@@ -37,19 +36,20 @@ use Rattle.sig_laws.proofs.Algebra.SigMention.{mentions-rename}
 use Rattle.sig_laws.proofs.Algebra.AlikeLaws.{conv_sig-sym, conv_sig-trans, form-conv_sig, form_sig-unique, form_sig-normal, conv_sig-gives, normal_sig-rename, normal_sig-form, conv-form_sig}
 use Rattle.sig_laws.proofs.Algebra.PathLaws.{param-alike}
 use Rattle.sig_laws.proofs.Algebra.Own.{split_index}
-use Rattle.sig_laws.proofs.Formed.WellFormedLaws.{well_formed-kinds, maps-substitutes}
+use Rattle.sig_laws.proofs.Formed.WellFormedLaws.{well_formed-kinds, maps-substitutes, conv_sig-rename}
 use Rattle.norm_laws.proofs.Orders.Heads.{rename-mentions, lookup-of}
-use Rattle.explicit_laws.proofs.Moves.{params-moved}
+use Rattle.explicit_laws.proofs.Moves.{params-moved, rooted-renamed}
 use Rattle.explicit_laws.proofs.Positions.{own-below}
 use Rattle.explicit_laws.proofs.Liftings.{lifts-below, lifts-back, mentions-applied}
-use Rattle.norm_laws.proofs.Norm.NormKeeps.{conv_sig-rename, norm-well_formed}
-use Rattle.norm_laws.proofs.Norm.NormRenamed.{rooted-renamed, renumbered-sig, renumbered-abs}
+use Rattle.norm_laws.proofs.Norm.NormKeeps.{norm-well_formed}
+use Rattle.norm_laws.proofs.Norm.NormRenamed.{renumbered-sig, renumbered-abs}
 use Rattle.norm_laws.proofs.Orders.Aligned.{part-kind}
 use Rattle.sig_laws.specs.Decide.{dec_mentions, in_var}
 use Rattle.package_laws.proofs.SameLaws.{field-renamed}
 use Rattle.package_laws.proofs.SamePackage.{rename-field}
 use Rattle.omega_types.proofs.BinderLaws.{applied-kind, applied-substitute}
 use Rattle.omega_types.proofs.BinderPuts.{lifts-maps}
+use Rattle.sig_laws.proofs.Formed.NormGood.{own-lookup}
 
 -- the index stays, and no other one becomes it
 abbrev pub Fixes : (ℕ → ℕ) → ℕ → Type 0
@@ -134,25 +134,12 @@ param-rename r (ParamOn.field h on) = ParamOn.field (rename-field r h) (param-re
 param-rename r (ParamOn.result {ks = ks} {ds = ds} {js = js} {s = s} {r = b} {t = q} {p = p} on) =
     subst (λ g. ParamOn (Sig.Fun Pure ks (rename_sig (lifts ks r) s) (Abs.Ex [] (rename_sig (lifts ks r) b))) (Item.Res ∷ p) (ks ++ ds) js (rename_sig (lifts js g) q)) (sym (lifts-append ks ds r)) (ParamOn.result (param-rename (lifts ks r) on))
 
-IsTyp : Sig → Type 0
-IsTyp (Sig.Typ t k) = Unit {0}
-IsTyp s = ⊥
-
-type_of : Sig → Ty
-type_of (Sig.Typ t k) = t
-type_of s = Ty.Int
-
-kind_of : Sig → Kind
-kind_of (Sig.Typ t k) = k
-kind_of s = Kind.Star
-
 typ-back : (r : ℕ → ℕ) (q : Sig) {u : Ty} {k : Kind} → Sig.Typ u k ≡ rename_sig r q → (t : Ty) × (q ≡ Sig.Typ t k) × (u ≡ rename r t)
-unfolding IsTyp type_of kind_of
-typ-back r (Sig.Typ t j) e = (t, ap (λ i. Sig.Typ t i) (sym (ap kind_of e)), ap type_of e)
-typ-back r (Sig.Val t) e = absurd (subst IsTyp e tt)
-typ-back r (Sig.Meta x) e = absurd (subst IsTyp e tt)
-typ-back r (Sig.Str fs) e = absurd (subst IsTyp e tt)
-typ-back r (Sig.Fun f ks s x) e = absurd (subst IsTyp e tt)
+typ-back r (Sig.Typ t j) e = (t, cc, cc)
+typ-back r (Sig.Val t) e = absurd (cc (e))
+typ-back r (Sig.Meta x) e = absurd (cc (e))
+typ-back r (Sig.Str fs) e = absurd (cc (e))
+typ-back r (Sig.Fun f ks s x) e = absurd (cc (e))
 
 rename-applied : (bs : List Kind) (r : ℕ → ℕ) (v : ℕ) → rename (lifts bs r) (applied bs (Ty.Var v)) ≡ applied bs (Ty.Var (r v))
 rename-applied bs r v = sym (substitute-vars (lifts bs r) (applied bs (Ty.Var v))) ∙ (ap (λ f. substitute f (applied bs (Ty.Var v))) (sym (unders-vars bs r)) ∙ applied-substitute bs (λ i. Ty.Var (r i)) (Ty.Var v))
@@ -223,7 +210,7 @@ counts-mapped {ctx} {other} {ks} {s} {taken} {v} {p} r h c (counts u x a) = coun
 
 counts-reflect : {ctx other ks : List Kind} {s : Sig} {taken : List ℕ} {v : ℕ} {p : SigPath} (r : ℕ → ℕ) → Maps ctx other r → ConvSig (extend ctx ks) s s → Counts other ks (rename_sig (lifts ks r) s) taken v p → Counts ctx ks s taken v p
 counts-reflect {ctx} {other} {ks} {s} {taken} {v} {p} r h c (counts u x a) = counts u
-    (rooted-reflect (lifts ks r) (lifts-maps ks h) (fixes-own ks r (own ks v) (own-below ks v u.0)) (lookup-own ks ctx v u.0) c x)
+    (rooted-reflect (lifts ks r) (lifts-maps ks h) (fixes-own ks r (own ks v) (own-below ks v u.0)) (own-lookup ctx ks v u.0) c x)
     (λ j m. params-reflect (own ks j) (lifts ks r) (lifts-maps ks h) (fixes-own ks r (own ks j) (own-below ks j m.0)) c (a j m))
 
 taking-mapped : {ctx other ks : List Kind} {s : Sig} {taken order : List ℕ} (r : ℕ → ℕ) → Maps ctx other r → ConvSig (extend ctx ks) s s → Taking ctx ks s taken order → Taking other ks (rename_sig (lifts ks r) s) taken order

@@ -23,11 +23,13 @@ use Rattle.sig_laws.proofs.Algebra.BinderLaws.{past-length, puts-past}
 use Rattle.sig_laws.proofs.Algebra.SigAlgebra.{substitute-vars_sig, substitute-vars_abs}
 use Rattle.sig_laws.proofs.Algebra.AlikeLaws.{conv-form_sig, conv-form_abs, form_sig-unique, form_abs-unique, normal_sig-form, normal_abs-form, normal_sig-rename, normal_abs-rename, conv_sig-substitute, conv_abs-substitute}
 use Rattle.sig_laws.proofs.Algebra.Own.{split_index}
-use Rattle.sig_laws.proofs.Algebra.Instances.{puts-substitutes, past-substitutes, kinds-length}
+use Rattle.sig_laws.proofs.Algebra.Instances.{past-substitutes, kinds-length}
 use Rattle.norm_laws.proofs.Orders.Heads.{one-variable}
 use Rattle.norm_laws.proofs.Orders.OrderUnique.{same-own}
-use Rattle.norm_laws.proofs.Orders.Orders.{pigeonhole, lookup-own, own-own}
-use Rattle.package_laws.proofs.Shuffles.{Paired, shuffle, shuffle-below, shuffle-past}
+use Rattle.norm_laws.proofs.Orders.Orders.{pigeonhole, own-own}
+use Rattle.norm_laws.proofs.Norm.Shuffles.{Paired, shuffle, shuffle-below, shuffle-past}
+use Rattle.sig_laws.proofs.Formed.NormGood.{own-lookup}
+use Rattle.omega_types.proofs.BinderPuts.{puts-substitutes}
 
 -- a function of the numbers below n, made total
 pub total : (n : ℕ) → ((j : ℕ) → j < n → ℕ) → ℕ → ℕ
@@ -99,8 +101,8 @@ pair ctx ks s other js t third F G h g F-sub put back = pairs (total (length js)
         let a = to-has j lt in
         let c = put i j a.0 lt a.1 in
         let n = conv-kinds c.1 in
-        one_kind (extend ctx ks) (Ty.Var (own ks i)) (kind_at ks i) c.0 (k_var (lookup-own ks ctx i a.0)) n.0 ∙
-        one_kind (extend ctx ks) (F (own js j)) c.0 (kind_at js j) n.1 (F-sub (own js j) (kind_at js j) (lookup-own js other j lt))
+        one_kind (extend ctx ks) (Ty.Var (own ks i)) (kind_at ks i) c.0 (k_var (own-lookup ctx ks i a.0)) n.0 ∙
+        one_kind (extend ctx ks) (F (own js j)) c.0 (kind_at js j) n.1 (F-sub (own js j) (kind_at js j) (own-lookup other js j lt))
 
 -- what is put in are the linked variables themselves
 pub placed-shuffle : (ctx ks js : List Kind) (to from : ℕ → ℕ) (ts : List Ty) → Paired ks js to from → OfKinds (extend ctx ks) ts js
@@ -109,7 +111,7 @@ pub placed-shuffle : (ctx ks js : List Kind) (to from : ℕ → ℕ) (ts : List 
 placed-shuffle ctx ks js to from ts p o h i k x = go (split_index js i)
   where
     F-sub : Substitutes (extend ctx js) (extend ctx ks) (puts ts (λ n. Ty.Var (past ks n)))
-    F-sub = puts-substitutes ctx (λ n. Ty.Var (past ks n)) o (past-substitutes ks ctx)
+    F-sub = puts-substitutes o (past-substitutes ks ctx)
 
     go : (i < length js) ⊎ ((j : ℕ) × (i ≡ past js j)) → Conv (extend ctx ks) (puts ts (λ n. Ty.Var (past ks n)) i) (Ty.Var (shuffle ks js to i)) k
     go (inl lt) =

@@ -10,14 +10,16 @@ use Rattle.omega_types.specs.Binders.{extend, own, lifts}
 use Rattle.signatures.specs.Signatures.Sig.{Sig, Abs, SigRow, HasField, here, there}
 use Rattle.signatures.specs.Signatures.SigSubst.{rename_sig, rename_abs, rename_sig_row}
 use Rattle.signatures.specs.Explicit.SigPath.{SigPath}
-use Rattle.signatures.specs.Explicit.RootPath.{Rooted, RootPath, root_path, root_of}
+use Rattle.signatures.specs.Explicit.RootPath.{Rooted}
 use Rattle.signatures.specs.Explicit.WellFormed.{EachRooted, WellFormed, explicit}
 use Rattle.package_laws.specs.SamePaths.{SameNumbers, SameAbs, SameSig}
 use Rattle.explicit_laws.proofs.Positions.{own-below}
 use Rattle.explicit_laws.proofs.Liftings.{lifts-below}
-use Rattle.norm_laws.proofs.Norm.NormRenamed.{Undone, turned, undone-lifts, undone-sig, rooted-renamed}
+use Rattle.norm_laws.proofs.Norm.NormRenamed.{Undone, turned, undone-lifts, undone-sig}
 use Rattle.norm_laws.proofs.Orders.Aligned.{Joined, Aligned}
 use Rattle.sig_laws.proofs.Formed.Conditions.{row-field}
+use Rattle.explicit_laws.proofs.Moves.{rooted-renamed}
+use Rattle.sig_laws.proofs.Formed.RootNumbers.{rooted-of}
 
 mutual
   pub same-flip : {ctx other : List Kind} {s t : Sig} → SameSig ctx other s t → SameSig other ctx t s
@@ -73,12 +75,9 @@ below-all (suc a) b h = let e = h a (omega arith) in omega (arith, e)
 
 joined : (ctx ks : List Kind) (s : Sig) (other js : List Kind) (t : Sig) → EachRooted ctx ks s → EachRooted other js t → SameNumbers ctx ks s other js t → SameNumbers other js t ctx ks s → Joined ctx ks s other js t
 joined ctx ks s other js t e f n m =
-    let a = below-all (length ks) (length js) (λ i lt. let b = e i lt in (n i b.0 lt (root b.1)).0) in
-    let b = below-all (length js) (length ks) (λ i lt. let b = f i lt in (m i b.0 lt (root b.1)).0) in
-    (omega (arith, a, b), λ i lt. let b = e i lt in (b.0, root b.1, (n i b.0 lt (root b.1)).1))
-  where
-    root : {ctx ks : List Kind} {s : Sig} {i : ℕ} {p : SigPath} → RootPath ctx ks s i p → Rooted (extend ctx ks) s (own ks i) p
-    root (root_path b (root_of x a)) = x
+    let a = below-all (length ks) (length js) (λ i lt. let b = e i lt in (n i b.0 lt (rooted-of b.1)).0) in
+    let b = below-all (length js) (length ks) (λ i lt. let b = f i lt in (m i b.0 lt (rooted-of b.1)).0) in
+    (omega (arith, a, b), λ i lt. let b = e i lt in (b.0, rooted-of b.1, (n i b.0 lt (rooted-of b.1)).1))
 
 mixed-aligned : {ctx other ks js : List Kind} {s t : Sig} {x y : Abs} (e d : Effect) → e ≢ d → Aligned ctx other (Sig.Fun e ks s x) (Sig.Fun d js t y)
 mixed-aligned Pure Pure h = absurd (h refl)

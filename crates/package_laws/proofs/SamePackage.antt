@@ -1,5 +1,5 @@
 -- Signatures that match each other and have the same rooted paths have one norm.
-use Rattle.std.specs.Prelude.{ℕ, ◌<◌, List, [], ◌∷◌, ◌≡◌, ◌≢◌, ◌⊎◌, length, IsTrue}
+use Rattle.std.specs.Prelude.{ℕ, ◌<◌, List, [], ◌∷◌, ◌≡◌, ◌≢◌, ◌⊎◌, length}
 use mathlib.Core.Logic.{inl, inr}
 use Rattle.std.proofs.Common.{arith}
 use Rattle.std.proofs.Math.Path.{refl, sym, ◌∙◌, ap, ap₂, subst, subst₂, fun_ext}
@@ -7,7 +7,6 @@ use Rattle.omega_kinds.specs.Kind.{Kind}
 use Rattle.omega_kinds.specs.declared.effect.Effect.{Effect}
 use Rattle.omega_kinds.specs.declared.effect.Effect.TheVariants.{Pure, Impure}
 use Rattle.omega_kinds.specs.Name.{Name}
-use Rattle.omega_kinds.specs.LabelOrder.{name_before}
 use Rattle.omega_types.specs.Ty.{Ty}
 use Rattle.omega_types.specs.Conversion.{Conv}
 use Rattle.omega_types.specs.Conversion.Conv.{c_sym, c_trans}
@@ -18,7 +17,7 @@ use Rattle.signatures.specs.Signatures.Sig.{Sig, Abs, SigRow, HasField, here, th
 use Rattle.signatures.specs.Signatures.SigSubst.{rename_sig, rename_abs, rename_sig_row, substitute_sig, sig_at, raise_abs, abs_at_under}
 use Rattle.signatures.specs.Signatures.Alike.{ConvSig, NormalSigForm, NormalAbsForm, NormalSig, NormalAbs, NormalSigRow}
 use Rattle.signatures.specs.Explicit.SigPath.{SigPath, PartAt}
-use Rattle.signatures.specs.Explicit.RootPath.{Rooted, RootPath, root_path, root_of}
+use Rattle.signatures.specs.Explicit.RootPath.{Rooted}
 use Rattle.signatures.specs.Matching.Subtyping.{Sub, SubFields, SubResult, SubAbs, Match}
 use Rattle.signatures.specs.QuantifierOrder.{NewOrder, reordered, renumber, NormSig, Norm, NormRow}
 use Rattle.signatures.specs.Explicit.WellFormed.{BeforeAll, Rising, WellFormed, WellFormedRow, ExplicitResults, ExplicitResultsRow, Explicit, explicit, in_pure, in_impure, in_str}
@@ -26,22 +25,25 @@ use Rattle.sig_laws.proofs.Algebra.BinderLaws.{lifts-past, lifts-id}
 use Rattle.sig_laws.proofs.Algebra.SigAlgebra.{rename-rename_sig, rename-rename_abs, rename_sig-id, rename_abs-id}
 use Rattle.sig_laws.proofs.Algebra.AlikeLaws.{form-conv_sig, normal_sig-rename, normal_abs-rename, substitutes-convertible}
 use Rattle.sig_laws.proofs.Algebra.Own.{split_index}
-use Rattle.sig_laws.proofs.Algebra.Instances.{puts-substitutes, puts-convertible, past-substitutes, kinds-length}
-use Rattle.sig_laws.proofs.Formed.WellFormedLaws.{well_formed-kinds, explicit-kinds, well_formed-rename, explicit_results-rename, explicit-rename}
+use Rattle.sig_laws.proofs.Algebra.Instances.{past-substitutes}
+use Rattle.sig_laws.proofs.Formed.WellFormedLaws.{well_formed-kinds, explicit-kinds, well_formed-rename, explicit_results-rename, explicit-rename, before_all-field}
 use Rattle.package_laws.specs.SamePaths.{SameAbs, SameSig, SameNumbers}
 use Rattle.omega_kinds.proofs.NameLaws.{name-irreflexive, name-transitive}
 use Rattle.omega_types.specs.Normaliser.{kind_at}
 use Rattle.norm_laws.proofs.Orders.OrderUnique.{one-rooted, same-own}
-use Rattle.explicit_laws.proofs.Moves.{rooted-shows, shows-substitute}
 use Rattle.explicit_laws.proofs.Liftings.{lifts-below}
 use Rattle.norm_laws.proofs.Norm.NormRenamed.{Undone, undone-lifts, norm-renamed, norm_abs-renamed}
-use Rattle.norm_laws.proofs.Orders.Aligned.{Agree, Aligned, common, sig_at-under, shows-alike, aligned-instance, form-kinds, parts_agree, same-hidden, same-body, same-kinds, plain-form}
+use Rattle.norm_laws.proofs.Orders.Aligned.{Agree, Aligned, common, sig_at-under, aligned-instance, form-kinds, parts_agree, same-hidden, same-body, same-kinds, plain-form}
 use Rattle.package_laws.proofs.SameLaws.{same-flip, same_abs-flip, same-renamed, same_abs-renamed, own-renamed, same-aligned, field-renamed}
-use Rattle.package_laws.proofs.Shuffles.{Paired, paired-turned, shuffle, shuffle-below, shuffle-own, shuffle-past, past-same, shuffle-maps, undone-shuffle, reordered-same, renumbered_sig-same, renumbered_abs-same}
+use Rattle.norm_laws.proofs.Norm.Shuffles.{Paired, paired-turned, shuffle, shuffle-below, shuffle-own, shuffle-past, past-same, shuffle-maps, undone-shuffle, reordered-same, renumbered_sig-same, renumbered_abs-same}
 use Rattle.package_laws.proofs.Pairs.{Linked, Placed, Pairs, pairs, pair, placed-shuffle, placed_sig, placed_abs}
 use Rattle.norm_laws.proofs.Orders.OrderExists.{field-split}
 use Rattle.sig_laws.proofs.Formed.Conditions.{results-first, row-first}
 use Rattle.sig_laws.proofs.Algebra.PathLaws.{one-field}
+use Rattle.omega_types.proofs.BinderPuts.{puts-substitutes, puts-convertible, kinds-fit}
+use Rattle.sig_laws.proofs.Formed.WellFormedShape.{after-differs}
+use Rattle.sig_laws.proofs.Formed.Shows.{rooted-shows, shows-substitute, shows-alike}
+use Rattle.sig_laws.proofs.Formed.RootNumbers.{rooted-of}
 
 -- normal and well formed, and ordered explicit where a right side is
 
@@ -98,14 +100,11 @@ across_abs {ks} {js} {to} {from} p q t = rename-rename_abs (λ i. shuffle js ks 
 placed-by : (ctx ks js : List Kind) (s t r : Sig) (guess : List Ty) → OfKinds (extend ctx js) guess ks → NormalSigForm (extend ctx js) (sig_at guess (rename_sig (lifts ks (past js)) s)) r
     → ((p : SigPath) (bs cs : List Kind) (t' u : Ty) (k j : Kind) → PartAt t p bs (Sig.Typ t' k) → PartAt r p cs (Sig.Typ u j) → Agree (extend ctx js) bs cs t' u k j)
     → Placed ctx js t ctx ks s (puts guess (λ n. Ty.Var (past js n)))
-placed-by ctx ks js s t r guess o f h i j li lj l = common (h l.0) l.1 (shows-alike (shows-substitute (puts guess (λ n. Ty.Var (past js n))) (puts-substitutes ctx (λ n. Ty.Var (past js n)) o (past-substitutes js ctx)) (rooted-shows l.2))
-    (subst (λ z. ConvSig (extend ctx js) z r) (sig_at-under ks js guess s (kinds-length o)) (form-conv_sig f)))
+placed-by ctx ks js s t r guess o f h i j li lj l = common (h l.0) l.1 (shows-alike (shows-substitute (puts guess (λ n. Ty.Var (past js n))) (puts-substitutes o (past-substitutes js ctx)) (rooted-shows l.2))
+    (subst (λ z. ConvSig (extend ctx js) z r) (sig_at-under ks js guess s (kinds-fit o)) (form-conv_sig f)))
 
 root-of : {ctx ks : List Kind} {s : Sig} {i : ℕ} → Explicit ctx (Abs.Ex ks s) → i < length ks → (p : SigPath) × Rooted (extend ctx ks) s (own ks i) p
-root-of {ctx} {ks} {s} {i} (explicit w r e) lt = ((e i lt).0, root (e i lt).1)
-  where
-    root : {p : SigPath} → RootPath ctx ks s i p → Rooted (extend ctx ks) s (own ks i) p
-    root (root_path b (root_of x a)) = x
+root-of {ctx} {ks} {s} {i} (explicit w r e) lt = ((e i lt).0, rooted-of (e i lt).1)
 
 linked-right : (ctx ks js : List Kind) (s t : Sig) → SameAbs ctx ctx (Abs.Ex ks s) (Abs.Ex js t) → Explicit ctx (Abs.Ex js t) → (j : ℕ) → j < length js → (i : ℕ) × (i < length ks) × Linked ctx ks s ctx js t i j
 linked-right ctx ks js s t (SameAbs.ex f g a) e j lt = let x = root-of e lt in let w = g x.0 (j, lt, x.1) in (w.0, w.1, (x.0, w.2, x.1))
@@ -143,7 +142,7 @@ pair-step : (ctx second ks js : List Kind) (s t n m r : Sig) (q q' : ℕ → ℕ
 pair-step ctx second ks js s t n m r q q' guess ts {us} o nf f h u (Match.at {r = r2} {guess = guess2} {f = e2} o2 nf2 f2 sub2) same gs gt a b ih =
     go (pair ctx ks s ctx js t (extend second js) (puts guess (λ n. Ty.Var (past ks n))) (puts guess2 (λ n. Ty.Var (past js n)))
     (linked-right ctx ks js s t same gt.1) (linked-left ctx ks js s t same gs.1)
-    (puts-substitutes ctx (λ n. Ty.Var (past ks n)) o (past-substitutes ks ctx)) put back)
+    (puts-substitutes o (past-substitutes ks ctx)) put back)
   where
     put : Placed ctx ks s ctx js t (puts guess (λ n. Ty.Var (past ks n)))
     put = placed-by ctx js ks t s r guess o f h
@@ -175,8 +174,8 @@ pair-step ctx second ks js s t n m r q q' guess ts {us} o nf f h u (Match.at {r 
 
     go : Pairs ctx ks s ctx js t → Result ctx second ks js s t n m ts us
     go (pairs to from p l1 l2) = result to from p l1 (ih (rename_sig (shuffle ks js to) m) again)
-        (λ i k x. c_trans (c_sym (puts-convertible ctx (λ n. Ty.Var (past ks n)) (λ n. Ty.Var (past ks n)) nf (substitutes-convertible (past-substitutes ks ctx)) i k x)) (conv1 i k x))
-        (λ i k x. c_trans (c_sym (puts-convertible second (λ n. Ty.Var (past js n)) (λ n. Ty.Var (past js n)) nf2 (substitutes-convertible (past-substitutes js second)) i k x)) (conv2 i k x))
+        (λ i k x. c_trans (c_sym (puts-convertible nf (substitutes-convertible (past-substitutes ks ctx)) i k x)) (conv1 i k x))
+        (λ i k x. c_trans (c_sym (puts-convertible nf2 (substitutes-convertible (past-substitutes js second)) i k x)) (conv2 i k x))
       where
         conv1 : Convertible (extend ctx js) (extend ctx ks) (puts guess (λ n. Ty.Var (past ks n))) (λ n. Ty.Var (shuffle ks js to n))
         conv1 = placed-shuffle ctx ks js to from guess p o (λ j lt. put (to j) j (p.to_below j lt) lt (l1 j lt))
@@ -186,11 +185,11 @@ pair-step ctx second ks js s t n m r q q' guess ts {us} o nf f h u (Match.at {r 
 
         r-is : r ≡ rename_sig (shuffle ks js to) t
         r-is = placed_sig (puts guess (λ n. Ty.Var (past ks n))) (shuffle ks js to) conv1 (shuffle-maps p ctx) (body-good gt).0 (well_formed-kinds (body-good gt).1)
-            (subst (λ z. NormalSigForm (extend ctx ks) z r) (sig_at-under js ks guess t (kinds-length o)) f)
+            (subst (λ z. NormalSigForm (extend ctx ks) z r) (sig_at-under js ks guess t (kinds-fit o)) f)
 
         r2-is : r2 ≡ rename_sig (λ i. shuffle js ks from (lifts ks q i)) s
         r2-is = placed_sig (puts guess2 (λ n. Ty.Var (past js n))) (shuffle js ks from) conv2 (shuffle-maps (paired-turned p) second) (body-good good-s2).0 (well_formed-kinds (body-good good-s2).1)
-            (subst (λ z. NormalSigForm (extend second js) z r2) (sig_at-under ks js guess2 (rename_sig (lifts ks q) s) (kinds-length o2)) f2) ∙ rename-rename_sig (shuffle js ks from) (lifts ks q) s
+            (subst (λ z. NormalSigForm (extend second js) z r2) (sig_at-under ks js guess2 (rename_sig (lifts ks q) s) (kinds-fit o2)) f2) ∙ rename-rename_sig (shuffle js ks from) (lifts ks q) s
 
         v : Undone (extend ctx js) (extend ctx ks) (shuffle ks js to) (shuffle js ks from)
         v = undone-shuffle p ctx
@@ -243,13 +242,6 @@ pub rename-field : (r : ℕ → ℕ) {fs : SigRow} {l : Name} {s : Sig} → HasF
 rename-field r here = here
 rename-field r (there n h) = there n (rename-field r h)
 
-before-field : (m : Name) {l : Name} {q : Sig} {fs : SigRow} → BeforeAll m fs → HasField fs l q → IsTrue (name_before m l)
-before-field m h here = h.0
-before-field m h (there n g) = before-field m h.1 g
-
-after-differs : (m l : Name) {q : Sig} {fs : SigRow} → BeforeAll m fs → HasField fs l q → l ≢ m
-after-differs m l h g e = name-irreflexive m (subst (λ n. IsTrue (name_before m n)) e (before-field m h g))
-
 -- what is needed of the two rows: each field of the rest on the left has one of its name on the right, and back
 pub record RowReady (ctx : List Kind) (whole all fs gs : SigRow) (second : List Kind) (q r : ℕ → ℕ) : Type 0 where
   pub undone : Undone ctx second q r
@@ -269,7 +261,7 @@ first-name {whole = whole} {fs = fs} {gs = gs} {l = l} {m = m} {s = s} {t = t} {
     go : ((l ≡ m) × ((o.back l s here).0 ≡ t)) ⊎ HasField gs l (o.back l s here).0 → ((m ≡ l) × (s' ≡ s)) ⊎ HasField fs m s' → l ≡ m
     go (inl e) f = e.0
     go (inr h) (inl e) = sym e.0
-    go (inr h) (inr g) = absurd (name-irreflexive l (name-transitive l m l (before-field l bl g) (before-field m bm h)))
+    go (inr h) (inr g) = absurd (name-irreflexive l (name-transitive l m l (before_all-field l m bl g) (before_all-field m l bm h)))
 
 rest-ready : {ctx : List Kind} {whole all fs gs : SigRow} {l m : Name} {s t : Sig} {second : List Kind} {q r : ℕ → ℕ} → RowReady ctx whole all (SigRow.More l s fs) (SigRow.More m t gs) second q r → BeforeAll l fs → BeforeAll m gs → l ≡ m → RowReady ctx whole all fs gs second q r
 rest-ready {whole = whole} {all = all} {fs = fs} {gs = gs} {l = l} {m = m} {s = s} {t = t} {second = second} {q = q} o bl bm e = record {

@@ -52,9 +52,9 @@ pub fn named(alloc: Global, token: &Token) -> Result<SpanName, Mem>
     })
 }
 
-/// The name of these bytes, at this place. No source can spell it where the bytes are those of no identifier, as `%0`.
-/// `Err` is want of memory.
-pub fn hidden(alloc: Global, bytes: &[u8], span: Span) -> Result<SpanName, Mem>
+// The name of these bytes, at this place. No source can spell it where the bytes are those of no identifier, as `%0`.
+// `Err` is want of memory.
+pub(crate) fn hidden(alloc: Global, bytes: &[u8], span: Span) -> Result<SpanName, Mem>
     ensures { IfOk result (λ n. spelled n ≡ hidden_name bytes.now (place span)) }
 {
     Ok(SpanName {

@@ -4,6 +4,10 @@
 // name says, and otherwise misfits.
 #![tactic(auto)]
 
-pub mod part;
-pub mod refusal;
-pub mod stack;
+mod part;
+mod refusal;
+mod stack;
+
+pub use part::Part;
+pub use refusal::{BuildRefusal, Misfit};
+pub use stack::Stack;

@@ -1,7 +1,7 @@
 // What stands on the parser's stack. A list that grows is kept with its first item last.
 use fing_lexer::Token;
 use fing_syntax::{Arg, Bind, Decl, Exp, Mod, Op, SigEx, SpanName, TyEx};
-use parse_forms::part::{Abstraction, Ascription, KindPart, TypeTail, Where};
+use parse_forms::{Abstraction, Ascription, KindPart, TypeTail, Where};
 
 /// A token, or what a phrase of some class gives.
 #[derive(Drop)]

@@ -2,7 +2,7 @@
 ghost use Rattle.std.specs.Prelude.{◌≡◌, [], ◌∷◌, Some, None, reverse, map, option_map, IfOk, IfErr, OnOk, OnErr};
 ghost use Rattle.fing_syntax.specs.Leaves.{spelled};
 ghost use Rattle.fing_syntax.specs.View.{binds as binds_of, decls as decls_of, tys as tys_of, field_tys as field_tys_of, ops as ops_of, args as args_of, field_exps as field_exps_of};
-ghost use Rattle.parse_stack.specs.Item.{TokenItem, as_token, as_binds, as_bind, as_decls, as_decl, as_tail, as_kind, as_kind_arrow, as_mod, as_names, as_ty, as_ty_arrow, as_tys, as_field_tys, as_sig, as_pure, as_wheres, as_mods, as_ascriptions, as_exp, as_abstraction, as_ops, as_args, as_field_exps};
+ghost use Rattle.parse_stack.specs.Item.{as_token, as_binds, as_bind, as_decls, as_decl, as_tail, as_kind, as_kind_arrow, as_mod, as_names, as_ty, as_ty_arrow, as_tys, as_field_tys, as_sig, as_pure, as_wheres, as_mods, as_ascriptions, as_exp, as_abstraction, as_ops, as_args, as_field_exps};
 ghost use Rattle.parse_forms.specs.Part.{kind_in, tail_in, where_in, ascription_in, abstraction_in};
 ghost use Rattle.parse_stack.specs.Part.{part_in, held};
 ghost use Rattle.parse_stack.specs.Play.{uncons, top};
@@ -12,7 +12,7 @@ use crate::part::Part;
 use crate::refusal::{BuildRefusal, Misfit};
 use fing_lexer::Token;
 use fing_syntax::{Arg, Bind, Decl, Exp, Mod, Op, SigEx, SpanName, TyEx};
-use parse_forms::part::{Abstraction, Ascription, KindPart, TypeTail, Where};
+use parse_forms::{Abstraction, Ascription, KindPart, TypeTail, Where};
 use std::alloc::Global;
 
 // Lets a part go that is not what was asked for.

@@ -11,21 +11,25 @@ use Rattle.omega_types.proofs.Preservation.{normal-kind, maps-suc}
 use Rattle.omega_types.proofs.Hereditary.{eta-normal}
 use Rattle.omega_terms.specs.Term.{Term}
 use Rattle.omega_terms.specs.TermSubst.{ren_term, same_index}
-use Rattle.signatures.specs.Signatures.Sig.{Sig, SigRow}
+use Rattle.signatures.specs.Signatures.Sig.{Sig, Abs, SigRow}
 use Rattle.signatures.specs.Signatures.SigSubst.{rename_sig}
 use Rattle.signatures.specs.Env.{Env, TypeVar, Named, Value, TypeParam, kinds, find, past_type, past_term, type_param, type_vars, with_module, named_fields}
-use Rattle.sig_laws.specs.Good.{OkSig, OkRow, OkEnv, Found, Bound}
+use Rattle.sig_laws.specs.Good.{OkSig, OkRow, OkRight, OkEnv, Found, Bound}
 use Rattle.signatures.specs.Signatures.FieldOrder.{with_name, with_names}
 use Rattle.signatures.specs.Explicit.WellFormed.{WellFormed}
 use Rattle.sig_laws.proofs.Formed.WellFormedLaws.{well_formed-rename}
 use Rattle.sig_laws.proofs.Algebra.AlikeLaws.{normal_sig-rename}
-use Rattle.sig_laws.proofs.Formed.Conditions.{row-first}
+use Rattle.sig_laws.proofs.Formed.Conditions.{explicit-right, row-first}
 use Rattle.omega_kinds.proofs.NameLaws.{same_name-itself}
 use Rattle.sig_laws.proofs.Algebra.FormLaws.{kinds-type_vars}
 
 pub good-type_vars : (g : Env) (ks : List Kind) → OkEnv g → OkEnv (type_vars g ks)
 good-type_vars g [] h = h
 good-type_vars g (k ∷ ks) h = good-type_vars (TypeVar k ∷ g) ks (tt, h)
+
+-- the body of a right side, as what a name stands for
+pub body-ok : {ctx ks : List Kind} {s : Sig} → OkRight ctx (Abs.Ex ks s) → OkSig (extend ctx ks) s
+body-ok h = ((explicit-right h.0).0, h.1)
 
 pub good-module : (g : Env) (ks : List Kind) (x : Name) (s : Sig) → OkEnv g → OkSig (extend (kinds g) ks) s → OkEnv (with_module g ks x s)
 good-module g ks x s h w = (subst (λ ctx. OkSig ctx s) (sym (kinds-type_vars g ks)) w, good-type_vars g ks h)
@@ -39,37 +43,35 @@ good-type_fields g ks fs h w = good-fields (type_vars g ks) fs (good-type_vars g
 
 -- what is found
 
-abbrev AllGood : List Kind → Option (Sig × Term) → Type 0
-AllGood ctx r = (o : Sig × Term) → r ≡ Some o → OkSig ctx o.0
+-- what holds of each signature that a look-up may give
+abbrev pub Gives : (Sig → Type 0) → Option (Sig × Term) → Type 0
+Gives P r = (o : Sig × Term) → r ≡ Some o → P o.0
 
-pub some-same : {a b : Sig × Term} → Some a ≡ Some b → a ≡ b
+pub some-same : {A : Type 0} {a b : A} → Path (Option A) (Some a) (Some b) → a ≡ b
 some-same e = cc
 
-good-some : {ctx : List Kind} (a : Sig × Term) → OkSig ctx a.0 → AllGood ctx (Some a)
-good-some {ctx} a w = λ o e. subst (λ (o : Sig × Term). OkSig ctx o.0) (some-same e) w
+gives-some : (P : Sig → Type 0) (a : Sig × Term) → P a.0 → Gives P (Some a)
+gives-some P a w = λ o e. subst (λ (o : Sig × Term). P o.0) (some-same e) w
 
-good-past_type : (ctx : List Kind) (k : Kind) (r : Option (Sig × Term)) → AllGood ctx r → AllGood (k ∷ ctx) (past_type r)
-good-past_type ctx k None f = λ o e. cc
-good-past_type ctx k (Some p) f = good-some (rename_sig suc p.0, ren_term suc same_index p.1) (well_formed-rename suc (maps-suc k ctx) (f p refl).0, normal_sig-rename suc (maps-suc k ctx) p.0 (f p refl).1)
+pub gives-past_type : (P Q : Sig → Type 0) → ((s : Sig) → P s → Q (rename_sig suc s)) → (r : Option (Sig × Term)) → Gives P r → Gives Q (past_type r)
+gives-past_type P Q h None f = λ o e. cc
+gives-past_type P Q h (Some p) f = gives-some Q (rename_sig suc p.0, ren_term suc same_index p.1) (h p.0 (f p refl))
 
-good-past_term : (ctx : List Kind) (r : Option (Sig × Term)) → AllGood ctx r → AllGood ctx (past_term r)
-good-past_term ctx None f = λ o e. cc
-good-past_term ctx (Some p) f = good-some (p.0, ren_term same_index suc p.1) (f p refl)
+pub gives-past_term : (P : Sig → Type 0) (r : Option (Sig × Term)) → Gives P r → Gives P (past_term r)
+gives-past_term P None f = λ o e. cc
+gives-past_term P (Some p) f = gives-some P (p.0, ren_term same_index suc p.1) (f p refl)
 
-good-cond : (ctx : List Kind) (b : Bool) (p q : Option (Sig × Term)) → AllGood ctx p → AllGood ctx q → AllGood ctx (cond b p q)
-good-cond ctx true p q f g = f
-good-cond ctx false p q f g = g
+pub gives-either : (P : Sig → Type 0) (b : Bool) (a : Sig × Term) (r : Option (Sig × Term)) → P a.0 → Gives P r → Gives P (cond b (Some a) r)
+gives-either P true a r w f = gives-some P a w
+gives-either P false a r w f = f
 
-pub find-good : (g : Env) (x : Name) → OkEnv g → AllGood (kinds g) (find g x)
+pub find-good : (g : Env) (x : Name) → OkEnv g → Gives (OkSig (kinds g)) (find g x)
 find-good [] x h = λ o e. cc
-find-good (TypeVar k ∷ g) x h = good-past_type (kinds g) k (find g x) (find-good g x h.1)
-find-good (Named y s ∷ g) x h = good-cond (kinds g) (same_name x y) (Some (s, Term.Var zero)) (past_term (find g x)) (good-some (s, Term.Var zero) h.0) (good-past_term (kinds g) (find g x) (find-good g x h.1))
-find-good (Value y t ∷ g) x h = good-cond (kinds g) (same_name x y) _ (past_term (find g x)) (good-some _ (WellFormed.val (normal-kind h.0), h.0)) (good-past_term (kinds g) (find g x) (find-good g x h.1))
-find-good (TypeParam y ∷ []) x h = absurd h.0
-find-good (TypeParam y ∷ (Named z s ∷ g)) x h = absurd h.0
-find-good (TypeParam y ∷ (Value z t ∷ g)) x h = absurd h.0
-find-good (TypeParam y ∷ (TypeParam z ∷ g)) x h = absurd h.0
-find-good (TypeParam y ∷ (TypeVar k ∷ g)) x h = good-cond (k ∷ kinds g) (same_name x y) (Some (type_param k)) (find (TypeVar k ∷ g) x) (good-some (type_param k) (WellFormed.typ (normal-kind (eta-normal k (n_var here)).0), (eta-normal k (n_var here)).0)) (find-good (TypeVar k ∷ g) x h.1)
+find-good (TypeVar k ∷ g) x h = gives-past_type (OkSig (kinds g)) (OkSig (k ∷ kinds g)) (λ s w. (well_formed-rename suc (maps-suc k (kinds g)) w.0, normal_sig-rename suc (maps-suc k (kinds g)) s w.1)) (find g x) (find-good g x h.1)
+find-good (Named y s ∷ g) x h = gives-either (OkSig (kinds g)) (same_name x y) (s, Term.Var zero) (past_term (find g x)) h.0 (gives-past_term (OkSig (kinds g)) (find g x) (find-good g x h.1))
+find-good (Value y t ∷ g) x h = gives-either (OkSig (kinds g)) (same_name x y) _ (past_term (find g x)) (WellFormed.val (normal-kind h.0), h.0) (gives-past_term (OkSig (kinds g)) (find g x) (find-good g x h.1))
+find-good (TypeParam y ∷ (TypeVar k ∷ g)) x h = gives-either (OkSig (k ∷ kinds g)) (same_name x y) (type_param k) (find (TypeVar k ∷ g) x) (WellFormed.typ (normal-kind (eta-normal k (n_var here)).0), (eta-normal k (n_var here)).0) (find-good (TypeVar k ∷ g) x h.1)
+find-good (TypeParam y ∷ g) x h = absurd h.0
 
 -- names that are found
 

@@ -1,6 +1,6 @@
 -- Instances of terms, packs and what is made of them exist and are determined.
 use Rattle.omega_types.proofs.BinderPuts.{forms-kinds, vars-kinds, lifts-maps}
-use Rattle.std.specs.Prelude.{ℕ, List, [], ◌∷◌, ◌++◌, ◌≡◌, map}
+use Rattle.std.specs.Prelude.{ℕ, List, [], ◌∷◌, ◌++◌, ◌≡◌}
 use Rattle.std.proofs.Math.Path.{refl, sym, subst, ◌∙◌}
 use Rattle.std.proofs.lemmas.List.{append-nil}
 use Rattle.omega_kinds.specs.Kind.{Kind}
@@ -58,10 +58,6 @@ mutual
   instances-total to s (Instances.more {l = l} e f) h = let d = instance-total to s e h in let u = instances-total to s f h in (TermRow.More l d.0 u.0, Instances.more d.1 u.1)
 
 -- lists of types
-
-pub of_kinds-substitute : {from to : List Kind} {ts : List Ty} {ks : List Kind} (s : ℕ → Ty) → Substitutes from to s → OfKinds from ts ks → OfKinds to (map (substitute s) ts) ks
-of_kinds-substitute s h OfKinds.none = OfKinds.none
-of_kinds-substitute s h (OfKinds.next t ts) = OfKinds.next (kind-substitute s h t) (of_kinds-substitute s h ts)
 
 forms-view-more : {ctx : List Kind} {t : Ty} {ts : List Ty} {k : Kind} {ks : List Kind} {ms : List Ty} → NormalForms ctx (t ∷ ts) (k ∷ ks) ms → (n : Ty) × (ns : List Ty) × NormalForm ctx t k n × NormalForms ctx ts ks ns × (ms ≡ n ∷ ns)
 forms-view-more (NormalForms.next {n = n} {ns = ns} f fs) = (n, ns, f, fs, refl)

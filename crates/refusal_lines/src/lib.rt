@@ -6,7 +6,7 @@
 
 mod path;
 mod pieces;
-pub mod refusal;
+mod refusal;
 mod writing;
 
 pub use refusal::{ElabWhy, Refusal};

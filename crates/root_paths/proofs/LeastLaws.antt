@@ -3,7 +3,7 @@ use Rattle.std.specs.Prelude.{ℕ, suc, ◌+◌, ◌-◌, ◌<◌, ◌≤◌, �
 use Rattle.std.proofs.Common.{arith}
 use Rattle.std.proofs.lemmas.Bool.Decides.{nat_tests}
 use Rattle.std.proofs.Math.Logic.{inl, inr}
-use Rattle.std.proofs.Math.Path.{refl, sym, ◌∙◌, subst}
+use Rattle.std.proofs.Math.Path.{refl, sym, subst}
 use Rattle.omega_kinds.specs.Kind.{Kind}
 use Rattle.omega_types.specs.Ty.{Ty, Row}
 use Rattle.omega_types.specs.Mentions.{Mentions, Mentions_row, m_var, m_from, m_to, m_fields, m_all, m_ex, m_lam, m_operator, m_arg, m_part, m_rest}
@@ -106,7 +106,7 @@ mutual
       put x (inl m) = m_part m
       put x (inr m) = m_rest m
 
-past-from : (ks : List Kind) (from x : ℕ) → length ks + from + x ≡ past ks (from + x)
+pub past-from : (ks : List Kind) (from x : ℕ) → length ks + from + x ≡ past ks (from + x)
 past-from ks from x = let e = past-length ks (from + x) in omega (arith, e)
 
 -- as it is written outside binders

@@ -1,5 +1,5 @@
 -- Lists of paths that are found, one part of the walk after the other.
-use Rattle.std.specs.Prelude.{ℕ, zero, suc, ◌+◌, ◌-◌, ◌<◌, ◌≤◌, ◌≡◌, List, [], ◌∷◌, ◌++◌, length, map, reverse, Option, Some, None, nat_eq, true, false, Bool as Truth, slice_get}
+use Rattle.std.specs.Prelude.{ℕ, zero, suc, ◌-◌, ◌<◌, ◌≡◌, List, [], ◌∷◌, ◌++◌, length, map, reverse, Option, Some, None, nat_eq, true, false, Bool as Truth, slice_get}
 use Rattle.std.proofs.Common.{arith, set, get_or, append_assoc}
 use Rattle.std.proofs.lemmas.Bool.Decides.{nat_tests}
 use Rattle.std.proofs.lemmas.List.{get_or-reverse, length-reverse}
@@ -7,7 +7,6 @@ use Rattle.std.proofs.lemmas.Option.{slice_get_within, get_or_from_slice_get, sl
 use Rattle.std.proofs.Math.Path.{refl, sym, ap, ap₂, ◌∙◌}
 use Rattle.signatures.specs.Explicit.SigPath.{SigPath, Item}
 use Rattle.match_laws.specs.RootSearch.{after, or_else}
-use Rattle.root_paths.specs.Least.{lesser}
 use Rattle.root_paths.specs.Seek.{is_open, unless_barred, ends, behind, merged}
 
 abbrev pub Found : Type 0

@@ -1,5 +1,5 @@
 -- A normal type is found to be a variable, applied to the variables of some binders, exactly where it is its eta-long form.
-use Rattle.std.specs.Prelude.{ℕ, zero, suc, ◌+◌, ◌-◌, ◌<◌, ◌≤◌, ◌≡◌, ◌∷◌, [], List, Option, Some, None}
+use Rattle.std.specs.Prelude.{ℕ, zero, suc, ◌+◌, ◌-◌, ◌<◌, ◌≡◌, ◌∷◌, [], List, Option, Some, None}
 use Rattle.std.proofs.Common.{arith}
 use Rattle.std.proofs.lemmas.Bool.Decides.{nat_tests}
 use Rattle.std.proofs.Math.Path.{refl, sym, ap, ap₂, ◌∙◌, subst}
@@ -13,7 +13,6 @@ use Rattle.omega_types.specs.Conversion.Conv.{c_refl, c_trans, c_eta, c_lam, c_a
 use Rattle.omega_types.specs.Normality.{Normal, Neutral, n_var, n_apply}
 use Rattle.omega_types.specs.EtaLong.{eta}
 use Rattle.omega_types.specs.Normaliser.{normal}
-use Rattle.omega_types.specs.Binders.{applied}
 use Rattle.omega_types.proofs.Preservation.{conv-kinds, normal-kind}
 use Rattle.omega_types.proofs.Hereditary.{eta-normal}
 use Rattle.omega_types.proofs.Inverse.{same-normal}
@@ -68,7 +67,7 @@ mutual
 
 -- what is right is found
 
-lift-fixes : (r : ℕ → ℕ) (count : ℕ) → ((x : ℕ) → x < count → r x ≡ x) → (x : ℕ) → x < suc count → lift r x ≡ x
+pub lift-fixes : (r : ℕ → ℕ) (count : ℕ) → ((x : ℕ) → x < count → r x ≡ x) → (x : ℕ) → x < suc count → lift r x ≡ x
 lift-fixes r count h zero lt = refl
 lift-fixes r count h (suc x) lt = ap suc (h x (omega arith))
 

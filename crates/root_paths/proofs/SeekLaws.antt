@@ -1,5 +1,5 @@
 -- What the walk finds for a hidden type is what the search for it finds.
-use Rattle.std.specs.Prelude.{ℕ, zero, ◌+◌, ◌<◌, ◌≤◌, ◌≡◌, List, [], ◌∷◌, length, Option, Some, None, nat_eq, true, false, Bool as Truth}
+use Rattle.std.specs.Prelude.{ℕ, zero, ◌+◌, ◌<◌, ◌≡◌, List, [], ◌∷◌, length, Option, Some, None, nat_eq, true, false, Bool as Truth}
 use Rattle.std.proofs.Common.{arith}
 use Rattle.std.proofs.lemmas.Bool.Decides.{nat_tests}
 use Rattle.std.proofs.Math.Path.{refl, sym, ap, ap₂, ◌∙◌, subst}
@@ -19,7 +19,6 @@ use Rattle.signatures.specs.Signatures.SigMentions.{MentionsSig}
 use Rattle.signatures.specs.Explicit.SigPath.{SigPath, Item}
 use Rattle.signatures.specs.Explicit.WellFormed.{WellFormed, WellFormedRow}
 use Rattle.sig_laws.specs.Decide.{dec_ty, NoneUpTo, dec_none, dec_mentions_sig}
-use Rattle.sig_laws.proofs.Algebra.BinderLaws.{past-length}
 use Rattle.sig_laws.proofs.Algebra.EtaLaws.{applied-kinded}
 use Rattle.match_laws.specs.RootSearch.{kind_left, after, or_else, where_both, find_root, find_root_row, least_root}
 use Rattle.match_laws.proofs.LookUp.Roots.{own-kind, least_root-exists, least_root-gives, kind_left-over}
@@ -28,7 +27,7 @@ use Rattle.root_paths.specs.Least.{least_sig}
 use Rattle.root_paths.specs.Seek.{is_open, unless_barred, ends, seek, seek_row}
 use Rattle.root_paths.specs.Roots.{IsRoot}
 use Rattle.root_paths.proofs.RootedLaws.{rooted-conv, rooted-is, rooted-found}
-use Rattle.root_paths.proofs.LeastLaws.{IsLeast, least-sig, least-past_sig, open-none, none-open}
+use Rattle.root_paths.proofs.LeastLaws.{IsLeast, past-from, least-sig, least-past_sig, open-none, none-open}
 
 none-if : (o : Option SigPath) → ((p : SigPath) → o ≡ Some p → ⊥) → o ≡ None
 none-if None h = refl
@@ -79,9 +78,6 @@ barred-none bar own = go (is_open own bar) refl
 
 pub spread-past : (ks : List Kind) (own depth : ℕ) → spread (length ks + depth + own) zero (length ks + depth) ≡ applied ks (spread (depth + own) zero depth)
 spread-past ks own depth = ap (λ i. spread i zero (length ks + depth)) (omega arith) ∙ sym (spread-applied ks (depth + own) depth)
-
-pub past-depth : (ks : List Kind) (depth x : ℕ) → length ks + depth + x ≡ past ks (depth + x)
-past-depth ks depth x = let e = past-length ks (depth + x) in omega (arith, e)
 
 -- a variable with a root path has a kind
 
@@ -140,7 +136,7 @@ mutual
       inner e = subst (λ (o : Ty). HasKind (extend c ks) o (kind_left ks j)) (sym (spread-past ks own depth)) (applied-kind ks (subst (λ i. HasKind c (spread (depth + own) zero depth) i) e k))
 
       indexes : ◌≡◌ {A = ℕ → ℕ} (λ x. length ks + depth + x) (λ x. past ks (depth + x))
-      indexes = λ i x. past-depth ks depth x i
+      indexes = λ i x. past-from ks depth x i
 
       shapes : find_root (extend c ks) (spread (length ks + depth + own) zero (length ks + depth)) (kind_left ks j) own (λ x. length ks + depth + x) r ≡ find_root (extend c ks) (applied ks (spread (depth + own) zero depth)) (kind_left ks j) own (λ x. past ks (depth + x)) r
       shapes = ap₂ (λ o w. find_root (extend c ks) o (kind_left ks j) own w r) (spread-past ks own depth) indexes

@@ -2,7 +2,7 @@
 use Rattle.std.specs.Prelude.{ℕ, suc, ◌+◌, ◌-◌, ◌<◌, ◌≤◌, ◌≡◌, List, [], ◌∷◌, ◌++◌, length, map, reverse, take, drop, Option, Some, None, nat_eq, true, false, Bool as Truth, slice_get}
 use Rattle.std.proofs.Common.{arith, get_or, drop-cons}
 use Rattle.std.proofs.lemmas.Bool.Decides.{nat_tests}
-use Rattle.std.proofs.lemmas.List.{length-append, map-append, at_drop_all}
+use Rattle.std.proofs.lemmas.List.{length-append, length-map, map-append, at_drop_all}
 use Rattle.std.proofs.Math.Seq.{take-append_seam}
 use Rattle.std.proofs.Math.Path.{refl, sym, ap, ap₂, ◌∙◌, subst}
 use Rattle.omega_kinds.specs.Kind.{Kind}
@@ -120,16 +120,12 @@ result-step start entered left now step bar depth x body before found en ei el e
 
 -- the end
 
-length-nothing : (ks : List Kind) → length (map {A = Kind} {B = Option SigPath} (λ k. None) ks) ≡ length ks
-length-nothing [] = refl
-length-nothing (k ∷ ks) = ap suc (length-nothing ks)
-
 behind-start : (o : Option SigPath) → behind [] o ≡ o
 behind-start None = refl
 behind-start (Some p) = refl
 
 pub found-length : (f : ℕ → Option SigPath) (ks : List Kind) (found : Found) → found ≡ merged f (map (λ k. None) ks) → length found ≡ length ks
-found-length f ks found e = ap length e ∙ (length-merged f (map (λ k. None) ks) ∙ length-nothing ks)
+found-length f ks found e = ap length e ∙ (length-merged f (map (λ k. None) ks) ∙ length-map ks (λ k. None))
 
 pub roots-found : (x : Abs) (body : Sig) (found : Found) → body ≡ body_of x → found ≡ gone [] None (λ own. seek own 0 body) (map (λ k. None) (kinds_of x))
     → (ctx : List Kind) → WellFormedAbs ctx x → NormalAbs ctx x → AreRoots ctx x (reverse found)

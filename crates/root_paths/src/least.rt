@@ -4,7 +4,7 @@ ghost use Rattle.omega_types.specs.Fields.{row};
 ghost use Rattle.semantic_sigs.specs.Fields.{sig_row};
 ghost use Rattle.root_paths.specs.Least.{lesser as lesser_of, least_ty, least_row, least_sig, least_abs, least_sig_row};
 
-use crate::rooted::outside;
+use crate::variables::outside;
 use omega_types::{Ty, TyFields, TyNode};
 use semantic_sigs::{Abs, Sig, SigFields, SigNode};
 use type_normal::plain;
@@ -121,11 +121,8 @@ fn least_in_fields(fields: &TyFields, from: u64) -> Option<u64>
 pub(crate) fn lesser(a: Option<u64>, b: Option<u64>) -> Option<u64>
     ensures { result ≡ lesser_of a b }
 {
-    match a {
-        None => b,
-        Some(i) => match b {
-            None => a,
-            Some(j) => Some(i.min(j)),
-        },
+    match (a, b) {
+        (Some(i), Some(j)) => Some(i.min(j)),
+        _ => a.or(b),
     }
 }

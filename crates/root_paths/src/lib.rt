@@ -13,13 +13,14 @@ ghost use Rattle.root_paths.specs.Roots.{AreRoots};
 ghost use Rattle.root_paths.specs.Seek.{merged, seek};
 
 mod least;
-pub mod rooted;
+mod variables;
 mod walk;
 
 use crate::walk::Walk;
 use omega_kinds::Mem;
 use semantic_sigs::{Abs, Path};
 use std::alloc::Global;
+pub use variables::rooted;
 
 /// The least root path of each hidden type of an abstract signature, in their order, the outermost first; `None` exactly
 /// where a type has none. The paths lead into the body. The signature is well formed and its types are normal, in the

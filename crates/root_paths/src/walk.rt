@@ -8,7 +8,7 @@ ghost use Rattle.root_paths.specs.Rooted.{rooted as rooted_of};
 ghost use Rattle.root_paths.specs.Seek.{seek, seek_abs, seek_row, behind, merged, is_open as is_open_of, unless_barred, ends};
 
 use crate::least::{least_in_sig, lesser};
-use crate::rooted::rooted;
+use crate::variables::rooted;
 use omega_kinds::{Effect, Kinds, Mem};
 use omega_types::Ty;
 use semantic_sigs::{Abs, Item, Path, Sig, SigFields, SigNode};
@@ -103,13 +103,8 @@ impl Walk {
         ensures found { OnOk result (self.new.found.items ≡ merged (λ own. behind (map item_of self.old.steps.items) (unless_barred bar own (ends (rooted_of depth ty.now) own))) self.old.found.items) }
     {
         match rooted(ty, depth)? {
-            Some(own) => {
-                if is_open(own, bar) {
-                    return self.find(own as usize);
-                }
-                Ok(())
-            }
-            None => Ok(()),
+            Some(own) if is_open(own, bar) => self.find(own as usize),
+            _ => Ok(()),
         }
     }
 
@@ -128,10 +123,7 @@ impl Walk {
     fn lacks(&self, own: usize) -> bool
         ensures { IsTrue result ↔ slice_get self.now.found.items own ≡ Some None }
     {
-        match self.found.get(own) {
-            Some(path) => path.is_none(),
-            None => false,
-        }
+        matches!(self.found.get(own), Some(None))
     }
 
     // The steps that lead here, as a path.
@@ -150,10 +142,7 @@ impl Walk {
 fn is_open(own: u64, bar: Option<u64>) -> bool
     ensures { result ≡ is_open_of own bar }
 {
-    match bar {
-        Some(bar) => own < bar,
-        None => true,
-    }
+    bar.is_none_or(|bar| own < bar)
 }
 
 // The number of variables below those of a functor, `depth` being outside.

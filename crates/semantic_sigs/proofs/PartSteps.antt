@@ -3,7 +3,7 @@ use Rattle.std.proofs.Common.{◌≡◌, ℕ, zero, suc, ◌+◌, ◌<◌, ◌�
 use Rattle.std.proofs.Math.Seq.{drop-cons}
 use Rattle.omega_kinds.specs.Name.{Name}
 use Rattle.signatures.specs.Explicit.SigPath.{Item, PartAt}
-use Rattle.signatures.specs.Signatures.Sig.{Sig, SigRow, HasField, NoField, here, there}
+use Rattle.signatures.specs.Signatures.Sig.{Sig, SigRow, HasField, NoField}
 use Rattle.sig_laws.proofs.Algebra.PathLaws.{one-field, no-field}
 use Rattle.semantic_sigs.specs.Fields.{SigPairs, sig_row}
 
@@ -16,17 +16,6 @@ left-more xs i x h e = drop-cons xs i x h ∙ ap₂ (λ y m. y ∷ drop m xs) (s
 
 pub row-at : (xs : SigPairs) (i : ℕ) (d : Name × Sig) → i < length xs → sig_row (drop i xs) ≡ SigRow.More (get_or xs i d).0 (get_or xs i d).1 (sig_row (drop (i + 1) xs))
 row-at xs i d lt = ap sig_row (drop-cons xs i d lt) ∙ ap (λ n. SigRow.More (get_or xs i d).0 (get_or xs i d).1 (sig_row (drop n xs))) (sym (next-index i))
-
-pub found-here : (xs : SigPairs) (i : ℕ) (x : Name × Sig) (l : Name) → i < length xs → x ≡ get_or xs i x → l ≡ x.0 → ((s : Sig) → HasField (sig_row (drop i xs)) l s → HasField (sig_row xs) l s) → HasField (sig_row xs) l x.1
-found-here xs i x l lt ex el back =
-    back x.1 (subst (λ r. HasField r l x.1) (sym (row-at xs i x lt)) (subst (λ y. HasField (SigRow.More y.0 y.1 (sig_row (drop (i + 1) xs))) l x.1) ex (subst (λ m. HasField (SigRow.More x.0 x.1 (sig_row (drop (i + 1) xs))) m x.1) (sym el) here)))
-
-pub found-later : (xs : SigPairs) (i : ℕ) (x : Name × Sig) (l : Name) → i < length xs → x ≡ get_or xs i x → (l ≡ x.0 → ⊥)
-    → ((s : Sig) → HasField (sig_row (drop i xs)) l s → HasField (sig_row xs) l s) × (NoField l (sig_row (drop i xs)) → NoField l (sig_row xs))
-    → ((s : Sig) → HasField (sig_row (drop (i + 1) xs)) l s → HasField (sig_row xs) l s) × (NoField l (sig_row (drop (i + 1) xs)) → NoField l (sig_row xs))
-found-later xs i x l lt ex ne back =
-    let e : sig_row (drop i xs) ≡ SigRow.More x.0 x.1 (sig_row (drop (i + 1) xs)) = row-at xs i x lt ∙ ap (λ y. SigRow.More y.0 y.1 (sig_row (drop (i + 1) xs))) (sym ex) in
-    (λ s h. back.0 s (subst (λ r. HasField r l s) (sym e) (there ne h)), λ h. back.1 (subst (NoField l) (sym e) (ne, h)))
 
 abbrev pub steps : List Name → List Item
 steps = map Item.Part

@@ -1,21 +1,21 @@
 // Semantic signatures in code: shared trees, what elaboration makes of phrases, environments, and operations on them.
 // Stands on the crates of types and terms, and on signatures and sig_laws, whose definitions its contracts cite.
 // Proved: `raise_sig`, `raise_abs` and `lower_sig` rename as the definitions do, `instantiate` gives the normal form of a
-// signature at types, `sig_mentions` decides mentions, `part` follows a path, `encode` and `encode_sig` give the encoding,
-// and `find` gives exactly what an environment has for a name.
+// signature at types, `sig_mentions` decides mentions, `field` finds a part by its name and `part` by a path, `encode` and
+// `encode_sig` give the encoding, and `find` gives exactly what an environment has for a name.
 #![tactic(auto)]
 
-pub mod changing;
-pub mod encoding;
-pub mod env;
+mod changing;
+mod encoding;
+mod env;
 mod heads;
-pub mod made;
-pub mod mentioning;
-pub mod part_terms;
-pub mod parts;
-pub mod path;
-pub mod tree;
-pub mod witnesses;
+mod made;
+mod mentioning;
+mod part_terms;
+mod parts;
+mod path;
+mod tree;
+mod witnesses;
 
 pub use changing::{instantiate, lower_sig, put_types, raise_abs, raise_sig};
 pub use encoding::{encode, encode_sig};
@@ -23,7 +23,7 @@ pub use env::{Entry, Env};
 pub use made::{Kinded, Module, Typed, Why};
 pub use mentioning::sig_mentions;
 pub use part_terms::{type_term, value_term};
-pub use parts::{find_field, part};
+pub use parts::{field, find_field, part};
 pub use path::{Item, Path};
 pub use tree::{Abs, Sig, SigFields, SigNode};
 pub use witnesses::Witnesses;

@@ -1,5 +1,6 @@
 // The part of a signature at a path of names.
 ghost use Rattle.std.specs.Prelude.{◌≡◌, [], MatchOption, map};
+ghost use Rattle.omega_kinds.specs.LabelOrder.{name_before};
 ghost use Rattle.signatures.specs.Explicit.SigPath.{Part, PartAt};
 ghost use Rattle.signatures.specs.Signatures.Sig.{HasField, NoField, Sig as SigTree, SigRow, Str};
 ghost use Rattle.semantic_sigs.specs.Fields.{sig_row};
@@ -22,8 +23,9 @@ pub fn part<'a>(sig: &'a Sig, path: &[Name]) -> Option<&'a Sig>
     Some(here)
 }
 
-// The part of a structure under a name.
-fn field<'a>(sig: &'a Sig, name: &Name) -> Option<&'a Sig>
+/// The part of a structure under a name; `None` exactly where the signature is no structure that has one. Takes no
+/// memory.
+pub fn field<'a>(sig: &'a Sig, name: &Name) -> Option<&'a Sig>
     ensures { MatchOption result ((fields : SigRow) → sig.now ≡ Str fields → NoField name.now fields) (λ s. (fields : SigRow) × (sig.now ≡ Str fields) × HasField fields name.now s.now) }
 {
     match sig.node() {
@@ -32,14 +34,31 @@ fn field<'a>(sig: &'a Sig, name: &Name) -> Option<&'a Sig>
     }
 }
 
-/// The part under a name; `None` exactly where there is none. Takes no memory.
+/// The part under a name, by halving; `None` exactly where there is none. Takes no memory.
 pub fn find_field<'a>(fields: &'a SigFields, name: &Name) -> Option<&'a Sig>
     ensures { MatchOption result (NoField name.now (sig_row fields.now)) (λ s. HasField (sig_row fields.now) name.now s.now) }
 {
-    for field in fields.items() {
+    let items = fields.items();
+    let mut low = 0;
+    let mut high = items.len();
+    while low < high {
+        let middle = low + (high - low) / 2;
+        let field = &items[middle];
         if same_name(name, &field.0) {
             return Some(&field.1);
         }
+        if comes_before(name, &field.0) {
+            high = middle;
+        } else {
+            low = middle + 1;
+        }
     }
     None
+}
+
+// Whether a name is before another.
+fn comes_before(left: &Name, right: &Name) -> bool
+    ensures { result ≡ name_before left.now right.now }
+{
+    left.cmp(right).is_lt()
 }

@@ -1,11 +1,19 @@
 -- Paths of names, followed one name after the other.
-use Rattle.std.proofs.Common.{◌≡◌, ℕ, ◌+◌, ◌<◌, ◌≤◌, List, ◌∷◌, length, get_or, drop, sym, subst, drop_of_length-le}
+use Rattle.std.proofs.Common.{◌≡◌, ℕ, ◌+◌, ◌<◌, ◌≤◌, List, ◌∷◌, length, get_or, drop, refl, sym, subst, drop_of_length-le}
 use Rattle.omega_kinds.specs.Name.{Name}
 use Rattle.signatures.specs.Explicit.SigPath.{PartAt}
-use Rattle.signatures.specs.Signatures.Sig.{Sig}
+use Rattle.signatures.specs.Signatures.Sig.{Sig, SigRow, NoField}
 use Rattle.sig_rules.specs.Refinement.{Lacks, Leads, LeavesAt, here, there}
 use Rattle.semantic_sigs.proofs.PartSteps.{left-more}
 use Rattle.sig_calls.specs.Hidden.{IsAt}
+
+-- what is no structure with a name lacks it
+pub lacks : (s : Sig) (l : Name) → ((fs : SigRow) → s ≡ Sig.Str fs → NoField l fs) → Lacks s l
+lacks (Sig.Str fs) l n = n fs refl
+lacks (Sig.Val t) l n = tt
+lacks (Sig.Typ t k) l n = tt
+lacks (Sig.Meta x) l n = tt
+lacks (Sig.Fun f ks s x) l n = tt
 
 abbrev pub Leaves : Sig → List Name → Name → Type 0
 Leaves s names l = LeavesAt (λ m. m) s names l

@@ -11,15 +11,15 @@ ghost use Rattle.signatures.specs.Signatures.Alike.{NormalAbs};
 ghost use Rattle.signatures.specs.Signatures.Sig.{Ex, Typ};
 ghost use Rattle.signatures.specs.Signatures.SigSubst.{rename_sig};
 ghost use Rattle.semantic_sigs.specs.View.{kinds_of};
-ghost use Rattle.sig_rules.specs.Refinement.{Lacks, Leads, LeavesAt, Refined};
+ghost use Rattle.sig_rules.specs.Refinement.{Leads, LeavesAt, Refined};
 ghost use Rattle.sig_rules.specs.SigRules.{WhereRefuses};
 ghost use Rattle.sig_calls.specs.Plain.{plain_why};
-ghost use Rattle.sig_calls.specs.Hidden.{Fixed, IsAt, IsOwn, NotOwn, PutFirst};
+ghost use Rattle.sig_calls.specs.Hidden.{Fixed, IsOwn, NotOwn, PutFirst};
 
 use crate::hidden::{copied, joined, variable, with_own};
 use crate::refusal::SigRefusal;
 use omega_kinds::{Kind, Mem, Name, same_kind};
-use semantic_sigs::{Abs, Item, Kinded, Path, Sig, SigNode, find_field, instantiate, raise_sig};
+use semantic_sigs::{Abs, Item, Kinded, Path, Sig, SigNode, field, instantiate, raise_sig};
 use std::alloc::Global;
 use type_normal::{NormalTy, raise, same};
 
@@ -61,16 +61,6 @@ fn follow<'a>(sig: &'a Sig, path: &'a [Name]) -> Result<&'a Sig, &'a Name>
         }
     }
     Ok(here)
-}
-
-// The part of a structure under a name.
-fn field<'a>(sig: &'a Sig, name: &Name) -> Option<&'a Sig>
-    ensures { MatchOption result (Lacks sig.now name.now) (λ s. IsAt sig.now name.now s.now) }
-{
-    match sig.node() {
-        SigNode::Str(fields) => find_field(fields, name),
-        _ => None,
-    }
 }
 
 // The path of these names.

@@ -3,8 +3,10 @@ pub mod BinderLaws
 pub mod EtaLaws
 pub mod FormLaws
 pub mod Instances
+pub mod Names
 pub mod Own
 pub mod PathLaws
+pub mod Paths
 pub mod SigAlgebra
 pub mod SigMention
 pub mod SizeLaws

@@ -8,8 +8,22 @@ use Rattle.sig_laws.proofs.Algebra.SizeLaws.{size-substitute}
 use Rattle.sig_laws.proofs.Algebra.PathLaws.{part-substitute}
 use Rattle.sig_laws.proofs.Algebra.AlikeLaws.{form_sig-same, conv_sig-gives}
 use Rattle.sig_laws.proofs.Formed.WellFormedLaws.{root-substitute, well_formed-substitute, explicit_results-substitute, explicit-substitute, well_formed-conv, well_formed-kinds}
-use Rattle.sig_laws.proofs.Encoded.EncodingLaws.{enc-normal, enc-injective, enc-conv, conv-enc}
+use Rattle.sig_laws.proofs.Encoded.EncodingLaws.{enc-normal, enc-injective, enc-conv, conv-enc, enc-substitute}
 use Rattle.sig_laws.proofs.Algebra.EtaLaws.{operator_found}
+use Rattle.omega_types.specs.Ty.{Ty}
+use Rattle.omega_types.specs.Conversion.Conv.{c_refl, c_sym, c_arrow}
+use Rattle.omega_types.specs.Binders.{puts}
+use Rattle.omega_types.proofs.Preservation.{normal-kind, kind-substitute}
+use Rattle.omega_types.proofs.Hereditary.{normal-gives}
+use Rattle.omega_types.proofs.BinderPuts.{types-kinds, types-substitute}
+use Rattle.omega_terms.specs.Typing.{HasType}
+use Rattle.omega_terms.proofs.NormalTyping.{typed-sound}
+use Rattle.signatures.specs.Signatures.Encoding.{enc}
+use Rattle.sig_laws.specs.CoercionTypes.{SubIsTyped, SubAbsIsTyped, MatchIsTyped}
+use Rattle.sig_laws.proofs.Encoded.EncodingTyping.{good-normal}
+use Rattle.sig_laws.proofs.Encoded.CoercionTyping.{sub-typed, sub_abs-typed, match-typed}
+use Rattle.sig_laws.proofs.Formed.WellFormedShape.{well_formed-good, well_formed_abs-good}
+use Rattle.std.specs.Prelude.{[]}
 
 pub substitute_id : SubstituteId
 substitute_id s = substitute_sig-id s
@@ -55,3 +69,18 @@ conv_exactly ctx s t w v = (λ c. enc-conv w c, λ c. conv-enc w v c)
 
 pub found_operator : OperatorFound
 found_operator ctx ks t u k n m c = operator_found ks n m c
+
+pub sub_is_typed : SubIsTyped
+sub_is_typed ctx s t f w n v m a = typed-sound (sub-typed (well_formed-good w n) (well_formed-good v m) a)
+
+pub sub_abs_is_typed : SubAbsIsTyped
+sub_abs_is_typed ctx x y f w n v m a = typed-sound (sub_abs-typed (well_formed_abs-good w n) (well_formed_abs-good v m) a)
+
+pub match_is_typed : MatchIsTyped
+match_is_typed ctx ks s t ts f w n v m a =
+    let left = well_formed-good w n in
+    let right = well_formed-good v m in
+    let M = match-typed left right a in
+    let k = kind-substitute (puts ts Ty.Var) (types-substitute M.found) (normal-kind (good-normal right)) in
+    let T = λ (u : Ty). HasType ctx [] f (Ty.Arrow (enc s) u) in
+    (types-kinds M.found, subst T (sym (enc-substitute (puts ts Ty.Var) t)) (HasType.conv (typed-sound M.typed) (c_arrow (c_refl (normal-kind (good-normal left))) (c_sym (normal-gives k).1))))

@@ -24,7 +24,7 @@ use Rattle.signatures.specs.Signatures.SigSize.{size, size_abs}
 use Rattle.signatures.specs.Signatures.SigSubst.{raise_abs, abs_at_under}
 use Rattle.sig_laws.proofs.Algebra.SizeLaws.{size_abs-rename, field-size}
 use Rattle.sig_laws.proofs.Formed.Conditions.{explicit-abs}
-use Rattle.match_laws.specs.MatchClaims.{IsLeft, IsRightSig, IsRightAbs}
+use Rattle.match_laws.specs.MatchClaims.{IsRightSig}
 use Rattle.match_laws.proofs.LookUp.Good.{good-left_field}
 use Rattle.match_laws.proofs.OneMatch.Views.{match-view}
 use Rattle.sig_laws.proofs.Formed.WellFormedLaws.{explicit-body}
@@ -42,6 +42,7 @@ use Rattle.sig_match.proofs.Given.{holds-given, holds-map, holds-within}
 use Rattle.sig_match.proofs.LookSteps.{end-looks, part-sides, part-looks, left-lacks, right-lacks, put-right, res-looks, other-arg, other-meta, no-left_functor, no-right_functor, not-pure, refused-looks, matched-looks, result-sides, nothing-put}
 use Rattle.sig_match.proofs.NextSteps.{next-sides, next-some, next-none, first-none, first-more, first-all}
 use Rattle.sig_match.proofs.SubSteps.{clashed, Parts, parts-next, item-right, field-refused, field-later, fields-same, meta-there, meta-back, meta-same, param-sides, result_sides, effects-clash, param-no, outer-no, functor-same, abs-under, abs-same, abs-no, match-put, match-at, match-right, match-ok, match-no}
+use Rattle.sig_laws.specs.Good.{OkSig, OkRight}
 
 -- matching
 
@@ -66,12 +67,12 @@ match-in_no depth s x ts n e a p b = λ ctx l w v.
 -- all hidden variables
 
 abbrev pub EachFirst : ℕ → Sig → Abs → List Ty → Type 0
-EachFirst depth s x ts = (ctx : List Kind) → length ctx ≡ depth → IsLeft ctx s → IsRightAbs ctx x → FirstFound ctx s x ts
+EachFirst depth s x ts = (ctx : List Kind) → length ctx ≡ depth → OkSig ctx s → OkRight ctx x → FirstFound ctx s x ts
 
 abbrev pub EachRoots : Abs → List (Option SigPath) → Type 0
 EachRoots x roots = (ctx : List Kind) → WellFormedAbs ctx x → NormalAbs ctx x → AreRoots ctx x roots
 
-next-here : (ctx : List Kind) (s : Sig) (x : Abs) (ts : List Ty) (roots : List (Option SigPath)) (root : Option SigPath) (i : ℕ) → IsLeft ctx s → IsRightAbs ctx x → FirstFound ctx s x ts → EachRoots x roots → length roots ≡ length (kinds_of x) → i < length roots → root ≡ get_or roots i root → length ts ≡ i → NextSides ctx s x ts root
+next-here : (ctx : List Kind) (s : Sig) (x : Abs) (ts : List Ty) (roots : List (Option SigPath)) (root : Option SigPath) (i : ℕ) → OkSig ctx s → OkRight ctx x → FirstFound ctx s x ts → EachRoots x roots → length roots ≡ length (kinds_of x) → i < length roots → root ≡ get_or roots i root → length ts ≡ i → NextSides ctx s x ts root
 next-here ctx s (Abs.Ex ks r) ts roots root i w v g h n lt e l =
     let at : slice_get roots (length ts) ≡ Some root = ap (slice_get roots) l ∙ (slice_get-get_or roots i root lt ∙ ap Some (sym e)) in
     (w, v, g, omega (arith, n, lt, l), h ctx (explicit-abs v.0) v.1 (length ts) root at)
@@ -196,7 +197,7 @@ extend-length ctx js depth by under c eb eu = longer ctx js ∙ (ap₂ ◌+◌ (
 pub functor-may_match : (depth by under : ℕ) (e d : Effect) (ks js : List Kind) (a b : Sig) (x z : Abs) → by ≡ length js → under ≡ by + depth → MaySub depth (Sig.Fun e ks a x) (Sig.Fun d js b z) → MayMatch under b (raise_abs js (Abs.Ex ks a))
 functor-may_match depth by under e d ks js a b x z eb eu m = let q = param-sides m.2 m.3 in (extend m.0 js, extend-length m.0 js depth by under m.1 eb eu, q.0, q.1)
 
-match-normal : {ctx : List Kind} {s : Sig} (x : Abs) {ts : List Ty} {f : Term} → IsRightAbs ctx x → Match ctx s x ts f → AreNormal ctx ts (kinds_of x)
+match-normal : {ctx : List Kind} {s : Sig} (x : Abs) {ts : List Ty} {f : Term} → OkRight ctx x → Match ctx s x ts f → AreNormal ctx ts (kinds_of x)
 match-normal (Abs.Ex ks r) v m = types-forms (match-view (explicit-body v.0) m).1
 
 pub functor-may_put : (depth by under : ℕ) (e d : Effect) (ks js : List Kind) (a b : Sig) (x z : Abs) (m : Matched) → by ≡ length js → under ≡ by + depth → MaySub depth (Sig.Fun e ks a x) (Sig.Fun d js b z) → EachMatch under b (raise_abs js (Abs.Ex ks a)) (Ok m) → MayPutUnder by ks x m.types
@@ -204,7 +205,7 @@ functor-may_put depth by under e d ks js a b x z m eb eu k h =
     let q = param-sides k.2 k.3 in
     (k.0, js, sym eb, k.2.1.1, match-normal (raise_abs js (Abs.Ex ks a)) q.1 (h (extend k.0 js) (extend-length k.0 js depth by under k.1 eb eu) q.0 q.1))
 
-put-here : {ctx ks : List Kind} (js : List Kind) {by : ℕ} {e : Effect} {a b : Sig} {x y : Abs} {ts : List Ty} {f : Term} → by ≡ length js → IsLeft ctx (Sig.Fun e ks a x) → IsRightAbs (extend ctx js) (raise_abs js (Abs.Ex ks a)) → Match (extend ctx js) b (raise_abs js (Abs.Ex ks a)) ts f → EachPutUnder by ks x ts y → NormalAbsForm (extend ctx js) (abs_at_under js ts x) y
+put-here : {ctx ks : List Kind} (js : List Kind) {by : ℕ} {e : Effect} {a b : Sig} {x y : Abs} {ts : List Ty} {f : Term} → by ≡ length js → OkSig ctx (Sig.Fun e ks a x) → OkRight (extend ctx js) (raise_abs js (Abs.Ex ks a)) → Match (extend ctx js) b (raise_abs js (Abs.Ex ks a)) ts f → EachPutUnder by ks x ts y → NormalAbsForm (extend ctx js) (abs_at_under js ts x) y
 put-here {ctx} {ks} js {a = a} eb w u m p = p ctx js (sym eb) w.1.1 (match-normal (raise_abs js (Abs.Ex ks a)) u m)
 
 refusing : (P : MatchRefusal → Type 0) (o : Option MatchRefusal) → Refusing o → Holds P o → (q : MatchRefusal) × P q
@@ -213,7 +214,7 @@ refusing P (Some q) r h = (q, h)
 
 pub into-refused : (depth by under : ℕ) (s r : Sig) (p : SigPath) (ks js : List Kind) (a b : Sig) (x z : Abs) (e : CodeRefusal) → Refusing (plain_refusal e) → s ≡ Sig.Fun Pure ks a x → r ≡ Sig.Fun Pure js b z → by ≡ length js → under ≡ by + depth → EachMatch under b (raise_abs js (Abs.Ex ks a)) (Err e) → EachLookInto depth s p r None
 into-refused depth by under s r p ks js a b x z e re es er eb eu h = λ ctx c w v t f.
-    let w' = subst (IsLeft ctx) es w in
+    let w' = subst (OkSig ctx) es w in
     let v' = subst (IsRightSig ctx) er v in
     let g = param-sides w' v' in
     let k = refusing (RefusesMatch (extend ctx js) b (raise_abs js (Abs.Ex ks a))) (plain_refusal e) re (h (extend ctx js) (extend-length ctx js depth by under c eb eu) g.0 g.1) in
@@ -228,7 +229,7 @@ into-may_look depth by under ks js a b x z y m eb eu k h p =
 
 pub into-looks : (depth by under : ℕ) (s r : Sig) (p : SigPath) (ks js : List Kind) (a b : Sig) (x z y : Abs) (m : Matched) (o : Option Ty) → s ≡ Sig.Fun Pure ks a x → r ≡ Sig.Fun Pure js b z → by ≡ length js → under ≡ by + depth → EachMatch under b (raise_abs js (Abs.Ex ks a)) (Ok m) → EachPutUnder by ks x m.types y → EachLook under (body_of y) p [] (body_of z) [] o → EachLookInto depth s p r (lam_found js o)
 into-looks depth by under s r p ks js a b x z y m o es er eb eu h g k = λ ctx c w v.
-    let w' = subst (IsLeft ctx) es w in
+    let w' = subst (OkSig ctx) es w in
     let v' = subst (IsRightSig ctx) er v in
     let q = param-sides w' v' in
     let l = extend-length ctx js depth by under c eb eu in
@@ -239,7 +240,7 @@ into-looks depth by under s r p ks js a b x z y m o es er eb eu h g k = λ ctx c
     (matched-looks p o w' v' f n (k (extend ctx js) l sides (body_of z) (nothing-put (extend ctx js) (body_of z) sides.1.1))))
 
 pub may-functors : (depth : ℕ) (s r : Sig) (e d : Effect) (ks js : List Kind) (a b : Sig) (x z : Abs) → s ≡ Sig.Fun e ks a x → r ≡ Sig.Fun d js b z → MayLookInto depth s r → MaySub depth (Sig.Fun e ks a x) (Sig.Fun d js b z)
-may-functors depth s r e d ks js a b x z es er m = (m.0, m.1, subst (IsLeft m.0) es m.2, subst (IsRightSig m.0) er m.3)
+may-functors depth s r e d ks js a b x z es er m = (m.0, m.1, subst (OkSig m.0) es m.2, subst (IsRightSig m.0) er m.3)
 
 -- the left result
 
@@ -421,7 +422,7 @@ field-missing depth fs l r q g n eq gi = λ ctx c w v gs.
     (subst (λ o. Gives o (plain_refusal g)) (ap (inside (Item.Part l)) eq ∙ ap (λ d. Some (within (Item.Part l) (Clash d [] Missing))) (sym c)) gi) (RefusesFields.missing n)
 
 abbrev pub EachParts : ℕ → SigPairs → SigRow → ℕ → TermPairs → Type 0
-EachParts depth xs fs i parts = (ctx : List Kind) → length ctx ≡ depth → IsLeft ctx (Sig.Str fs) → IsRightSig ctx (Sig.Str (sig_row xs)) → Parts ctx fs (take i xs) parts × ((q : MatchRefusal) → RefusesFields ctx fs (sig_row (drop i xs)) q → RefusesFields ctx fs (sig_row xs) q)
+EachParts depth xs fs i parts = (ctx : List Kind) → length ctx ≡ depth → OkSig ctx (Sig.Str fs) → IsRightSig ctx (Sig.Str (sig_row xs)) → Parts ctx fs (take i xs) parts × ((q : MatchRefusal) → RefusesFields ctx fs (sig_row (drop i xs)) q → RefusesFields ctx fs (sig_row xs) q)
 
 pub parts-none : (depth : ℕ) (xs : SigPairs) (fs : SigRow) → EachParts depth xs fs 0 []
 parts-none depth [] fs = λ ctx c w v. (Parts.none, λ q r. r)
@@ -450,7 +451,7 @@ parts-same depth fs xs ps i from e le ef ee h = λ ctx c w v. fields-same ctx fs
 pub abs-may : (depth by under : ℕ) (x y raised : Abs) → by ≡ length (kinds_of x) → under ≡ by + depth → raised ≡ raise_abs (kinds_of x) y → MaySubAbs depth x y → MayMatch under (body_of x) raised
 abs-may depth by under x y raised eb eu er m =
     let q = abs-under x y m.2 m.3 in
-    (extend m.0 (kinds_of x), extend-length m.0 (kinds_of x) depth by under m.1 eb eu, q.0, subst (IsRightAbs (extend m.0 (kinds_of x))) (sym er) q.1)
+    (extend m.0 (kinds_of x), extend-length m.0 (kinds_of x) depth by under m.1 eb eu, q.0, subst (OkRight (extend m.0 (kinds_of x))) (sym er) q.1)
 
 pub abs-refused : (depth by under : ℕ) (x y raised : Abs) (q : CodeRefusal) → by ≡ length (kinds_of x) → under ≡ by + depth → raised ≡ raise_abs (kinds_of x) y → EachMatch under (body_of x) raised (Err q) → EachSubAbs depth x y (Err q)
 abs-refused depth by under x y raised q eb eu er k = λ ctx c w v.

@@ -4,7 +4,6 @@ use Rattle.omega_kinds.specs.Kind.{Kind}
 use Rattle.omega_terms.specs.Term.{Term}
 use Rattle.signatures.specs.Signatures.Sig.{Sig, Abs}
 use Rattle.signatures.specs.Matching.MatchRefusal.{MatchRefusal, RefusesMatch, RefusesSubAbs}
-use Rattle.match_laws.specs.MatchClaims.{IsLeft, IsLeftAbs, IsRightAbs}
 use Rattle.match_laws.proofs.OneMatch.Unique.{match-unique, abs-unique}
 use Rattle.match_laws.proofs.LookUp.Refused.{match-excluded, abs-excluded}
 use Rattle.match_laws.proofs.LookUp.OneRefusal.{match-one, abs-one}
@@ -13,19 +12,20 @@ use Rattle.sig_match.specs.declared.refusal.MatchRefusal.{MatchRefusal as CodeRe
 use Rattle.sig_match.specs.Refusals.{Holds, plain_refusal}
 use Rattle.sig_match.specs.Outcomes.{MatchGives, SubAbsGives}
 use Rattle.sig_match.specs.Exact.{NoMatch, OnlyMatch, NoSubAbs, OnlySubAbs}
+use Rattle.sig_laws.specs.Good.{OkSig, OkAbs, OkRight}
 
-no-match : (ctx : List Kind) (s : Sig) (x : Abs) (o : Option MatchRefusal) → IsLeft ctx s → IsRightAbs ctx x → Holds (RefusesMatch ctx s x) o → NoMatch ctx s x o
+no-match : (ctx : List Kind) (s : Sig) (x : Abs) (o : Option MatchRefusal) → OkSig ctx s → OkRight ctx x → Holds (RefusesMatch ctx s x) o → NoMatch ctx s x o
 no-match ctx s x None w v h = tt
 no-match ctx s x (Some q) w v h = (λ ts f m. match-excluded h w v ts f m, λ p r. sym (match-one h w v p r))
 
-pub only-match : (ctx : List Kind) (s : Sig) (x : Abs) (o : Result Matched CodeRefusal) → IsLeft ctx s → IsRightAbs ctx x → MatchGives ctx s x o → OnlyMatch ctx s x o
+pub only-match : (ctx : List Kind) (s : Sig) (x : Abs) (o : Result Matched CodeRefusal) → OkSig ctx s → OkRight ctx x → MatchGives ctx s x o → OnlyMatch ctx s x o
 only-match ctx s x (Ok m) w v h = (λ ts f k. let e = match-unique h w.0 v.0 ts f k in (sym e.0, sym e.1), λ q r. match-excluded r w v m.types m.coercion h)
 only-match ctx s x (Err e) w v h = no-match ctx s x (plain_refusal e) w v h
 
-no-sub_abs : (ctx : List Kind) (x y : Abs) (o : Option MatchRefusal) → IsLeftAbs ctx x → IsRightAbs ctx y → Holds (RefusesSubAbs ctx x y) o → NoSubAbs ctx x y o
+no-sub_abs : (ctx : List Kind) (x y : Abs) (o : Option MatchRefusal) → OkAbs ctx x → OkRight ctx y → Holds (RefusesSubAbs ctx x y) o → NoSubAbs ctx x y o
 no-sub_abs ctx x y None w v h = tt
 no-sub_abs ctx x y (Some q) w v h = (λ f d. abs-excluded h w v f d, λ p r. sym (abs-one h w v p r))
 
-pub only-sub_abs : (ctx : List Kind) (x y : Abs) (o : Result Term CodeRefusal) → IsLeftAbs ctx x → IsRightAbs ctx y → SubAbsGives ctx x y o → OnlySubAbs ctx x y o
+pub only-sub_abs : (ctx : List Kind) (x y : Abs) (o : Result Term CodeRefusal) → OkAbs ctx x → OkRight ctx y → SubAbsGives ctx x y o → OnlySubAbs ctx x y o
 only-sub_abs ctx x y (Ok g) w v h = (λ f d. sym (abs-unique h w.0 v.0 f d), λ q r. abs-excluded r w v g h)
 only-sub_abs ctx x y (Err e) w v h = no-sub_abs ctx x y (plain_refusal e) w v h

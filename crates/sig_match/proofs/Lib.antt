@@ -6,5 +6,4 @@ pub mod SubSteps
 pub mod Exact
 pub mod PutSteps
 pub mod CallSteps
-pub mod FindSteps
 pub mod MadeSteps

@@ -19,18 +19,19 @@ use Rattle.signatures.specs.Matching.LookUp.{Found}
 use Rattle.signatures.specs.Matching.MatchRefusal.{MatchRefusal, RefusesMatch}
 use Rattle.sig_laws.proofs.Algebra.AlikeLaws.{form_sig-unique, form_sig-normal, form-conv_sig, normal_sig-form}
 use Rattle.sig_laws.proofs.Algebra.Instances.{at-substitutes}
-use Rattle.sig_laws.proofs.Algebra.PathLaws.{field-substitute, field-alike, field-back}
+use Rattle.sig_laws.proofs.Algebra.PathLaws.{field-substitute, field-alike, field-back, one-field, no-field}
 use Rattle.sig_laws.proofs.Algebra.SigAlgebra.{substitute_sig-id}
 use Rattle.sig_laws.proofs.Formed.Conditions.{match-kinds}
 use Rattle.sig_laws.proofs.Formed.WellFormedLaws.{well_formed-conv, well_formed-substitute, explicit_results-conv, explicit_results-substitute}
-use Rattle.match_laws.specs.MatchClaims.{IsLeft, IsRightSig}
+use Rattle.match_laws.specs.MatchClaims.{IsRightSig}
 use Rattle.match_laws.proofs.OneMatch.Unique.{match-unique}
-use Rattle.match_laws.proofs.OneMatch.Views.{field-unique}
 use Rattle.match_laws.proofs.LookUp.Good.{good-param, good-left_result, good-right_param, good-right_result, good-pure, good-body, good-left_field, good-right_field}
 use Rattle.match_laws.proofs.LookUp.LookUpLaws.{found-view}
-use Rattle.match_laws.proofs.LookUp.Refused.{no-field, match-excluded}
+use Rattle.match_laws.proofs.LookUp.Refused.{match-excluded}
 use Rattle.sig_match.specs.Put.{AreNormal}
 use Rattle.sig_match.specs.Looking.{Ends, Looks, LookSides, lam_found}
+use Rattle.std.proofs.Math.Path.{refl}
+use Rattle.sig_laws.specs.Good.{OkSig}
 
 -- at the end of the path
 
@@ -66,16 +67,16 @@ str-back (Sig.Str gs) ts (AlikeSig.str a) h = let b = row-back a h in let c = fi
 str-back (Sig.Fun e ks s x) ts a h = elim a [ ]
 
 pub left-lacks : {ctx : List Kind} {l : Name} {p : SigPath} {n : Sig} {t : Ty} (s : Sig) → ((fs : SigRow) → s ≡ Sig.Str fs → NoField l fs) → Found ctx s (Item.Part l ∷ p) n t → ⊥
-left-lacks _ h (Found.field {fs = fs} hs hr f) = no-field hs (h fs refl)
+left-lacks _ h (Found.field {fs = fs} hs hr f) = no-field _ (h fs refl) hs
 
 pub right-lacks : {ctx : List Kind} {l : Name} {p : SigPath} {s : Sig} {t : Ty} (r n : Sig) (ts : List Ty) → ((gs : SigRow) → r ≡ Sig.Str gs → NoField l gs) → IsSigAt ctx r ts n → Found ctx s (Item.Part l ∷ p) n t → ⊥
-right-lacks r _ ts h a (Found.field hs hr f) = let b = str-back r ts a hr in no-field b.3 (h b.0 b.2)
+right-lacks r _ ts h a (Found.field hs hr f) = let b = str-back r ts a hr in no-field _ (h b.0 b.2) b.3
 
 pub part-sides : {ctx ks : List Kind} {fs gs : SigRow} {l : Name} {s r : Sig} (ts : List Ty) → HasField fs l s → HasField gs l r → LookSides ctx (Sig.Str fs) ks (Sig.Str gs) ts → LookSides ctx s ks r ts
 part-sides ts h g v = (good-left_field v.0 h, good-right_field v.1 g, v.2)
 
 part-found : (ctx : List Kind) (p : SigPath) {fs ns : SigRow} {l : Name} {s q : Sig} (o : Option Ty) → HasField fs l s → HasField ns l q → Looks ctx s p q o → Looks ctx (Sig.Str fs) (Item.Part l ∷ p) (Sig.Str ns) o
-part-found ctx p {q = q} None h g k = λ t f. let z = found-view f in k t (subst (λ x. Found ctx x p q t) (field-unique z.2 h) (subst (λ y. Found ctx z.0 p y t) (field-unique z.3 g) z.4))
+part-found ctx p {q = q} None h g k = λ t f. let z = found-view f in k t (subst (λ x. Found ctx x p q t) (one-field z.2 h refl) (subst (λ y. Found ctx z.0 p y t) (one-field z.3 g refl) z.4))
 part-found ctx p (Some t) h g k = Found.field h g k
 
 pub part-looks : (ctx : List Kind) (fs gs : SigRow) (l : Name) (s r : Sig) (p : SigPath) (n : Sig) (ts : List Ty) (o : Option Ty) → HasField fs l s → HasField gs l r → IsSigAt ctx (Sig.Str gs) ts n → ((q : Sig) → IsSigAt ctx r ts q → Looks ctx s p q o) → Looks ctx (Sig.Str fs) (Item.Part l ∷ p) n o
@@ -109,11 +110,11 @@ not-pure h (Found.result m n f) = h (refl, refl)
 
 -- the result of a functor that is refused, and one whose parameter matches
 
-pub refused-looks : {ctx ks js : List Kind} {a b : Sig} {x z : Abs} {p : SigPath} {q : MatchRefusal} {t : Ty} → IsLeft ctx (Sig.Fun Pure ks a x) → IsRightSig ctx (Sig.Fun Pure js b z) → RefusesMatch (extend ctx js) b (raise_abs js (Abs.Ex ks a)) q → Found ctx (Sig.Fun Pure ks a x) (Item.Res ∷ p) (Sig.Fun Pure js b z) t → ⊥
+pub refused-looks : {ctx ks js : List Kind} {a b : Sig} {x z : Abs} {p : SigPath} {q : MatchRefusal} {t : Ty} → OkSig ctx (Sig.Fun Pure ks a x) → IsRightSig ctx (Sig.Fun Pure js b z) → RefusesMatch (extend ctx js) b (raise_abs js (Abs.Ex ks a)) q → Found ctx (Sig.Fun Pure ks a x) (Item.Res ∷ p) (Sig.Fun Pure js b z) t → ⊥
 refused-looks {js = js} w v q (Found.result {ts = ts} {f = f} m n g) = match-excluded q (good-right_param v) (good-param js w) ts f m
 
 result-looks : {ctx ks js : List Kind} {a s b r y : Sig} (p : SigPath) {ts : List Ty} {g : Term} (o : Option Ty)
-    → IsLeft ctx (Sig.Fun Pure ks a (Abs.Ex [] s)) → IsRightSig ctx (Sig.Fun Pure js b (Abs.Ex [] r))
+    → OkSig ctx (Sig.Fun Pure ks a (Abs.Ex [] s)) → IsRightSig ctx (Sig.Fun Pure js b (Abs.Ex [] r))
     → Match (extend ctx js) b (raise_abs js (Abs.Ex ks a)) ts g → NormalSigForm (extend ctx js) (sig_at_under js ts s) y
     → Looks (extend ctx js) y p r o → Looks ctx (Sig.Fun Pure ks a (Abs.Ex [] s)) (Item.Res ∷ p) (Sig.Fun Pure js b (Abs.Ex [] r)) (lam_found js o)
 result-looks p (Some t) w v m n k = Found.result m n k
@@ -123,23 +124,23 @@ result-looks {ctx} {js = js} {s = s} {r = r} p None w v m n k = λ t f.
     k z.3 (subst (λ y. Found (extend ctx js) y p r z.3) (form_sig-unique (subst (λ us. NormalSigForm (extend ctx js) (sig_at_under js us s) z.2) (sym u.0) z.5) n) z.6)
 
 pub matched-looks : {ctx ks js : List Kind} {a b : Sig} {x z y : Abs} (p : SigPath) {ts : List Ty} {g : Term} (o : Option Ty)
-    → IsLeft ctx (Sig.Fun Pure ks a x) → IsRightSig ctx (Sig.Fun Pure js b z)
+    → OkSig ctx (Sig.Fun Pure ks a x) → IsRightSig ctx (Sig.Fun Pure js b z)
     → Match (extend ctx js) b (raise_abs js (Abs.Ex ks a)) ts g → NormalAbsForm (extend ctx js) (abs_at_under js ts x) y
     → Looks (extend ctx js) (body_of y) p (body_of z) o → Looks ctx (Sig.Fun Pure ks a x) (Item.Res ∷ p) (Sig.Fun Pure js b z) (lam_found js o)
 matched-looks {ctx} {ks} {js} {a} {b} {x} {z} {y} p {ts} {g} o w v m n k = go w.0 w v.0.0 v n k
   where
-    go : {x z y : Abs} → WellFormed ctx (Sig.Fun Pure ks a x) → IsLeft ctx (Sig.Fun Pure ks a x) → WellFormed ctx (Sig.Fun Pure js b z) → IsRightSig ctx (Sig.Fun Pure js b z) → NormalAbsForm (extend ctx js) (abs_at_under js ts x) y → Looks (extend ctx js) (body_of y) p (body_of z) o → Looks ctx (Sig.Fun Pure ks a x) (Item.Res ∷ p) (Sig.Fun Pure js b z) (lam_found js o)
+    go : {x z y : Abs} → WellFormed ctx (Sig.Fun Pure ks a x) → OkSig ctx (Sig.Fun Pure ks a x) → WellFormed ctx (Sig.Fun Pure js b z) → IsRightSig ctx (Sig.Fun Pure js b z) → NormalAbsForm (extend ctx js) (abs_at_under js ts x) y → Looks (extend ctx js) (body_of y) p (body_of z) o → Looks ctx (Sig.Fun Pure ks a x) (Item.Res ∷ p) (Sig.Fun Pure js b z) (lam_found js o)
     go (WellFormed.pure e u) w (WellFormed.pure d q) v (AlikeAbs.ex n) k = result-looks p o w v m n k
 
 -- what is looked up in a result
 
 pub result-sides : {ctx ks js : List Kind} {a b : Sig} {x z y : Abs} {ts : List Ty} {g : Term}
-    → IsLeft ctx (Sig.Fun Pure ks a x) → IsRightSig ctx (Sig.Fun Pure js b z)
+    → OkSig ctx (Sig.Fun Pure ks a x) → IsRightSig ctx (Sig.Fun Pure js b z)
     → Match (extend ctx js) b (raise_abs js (Abs.Ex ks a)) ts g → NormalAbsForm (extend ctx js) (abs_at_under js ts x) y
     → LookSides (extend ctx js) (body_of y) [] (body_of z) []
 result-sides {ctx} {ks} {js} {a} {b} {x} {z} {y} {ts} w v m n = go w.0 w v.0.0 v n
   where
-    go : {x z y : Abs} → WellFormed ctx (Sig.Fun Pure ks a x) → IsLeft ctx (Sig.Fun Pure ks a x) → WellFormed ctx (Sig.Fun Pure js b z) → IsRightSig ctx (Sig.Fun Pure js b z) → NormalAbsForm (extend ctx js) (abs_at_under js ts x) y → LookSides (extend ctx js) (body_of y) [] (body_of z) []
+    go : {x z y : Abs} → WellFormed ctx (Sig.Fun Pure ks a x) → OkSig ctx (Sig.Fun Pure ks a x) → WellFormed ctx (Sig.Fun Pure js b z) → IsRightSig ctx (Sig.Fun Pure js b z) → NormalAbsForm (extend ctx js) (abs_at_under js ts x) y → LookSides (extend ctx js) (body_of y) [] (body_of z) []
     go (WellFormed.pure e u) w (WellFormed.pure d q) v (AlikeAbs.ex n) = (good-body (good-left_result ctx js w (match-kinds m) (AlikeAbs.ex n)), good-pure (good-right_result v), NormalForms.none)
 
 pub nothing-put : (ctx : List Kind) (r : Sig) → NormalSig ctx r → IsSigAt ctx r [] r

@@ -13,9 +13,7 @@ use Rattle.signatures.specs.Matching.LookUp.{Found, PutFirst, FoundAt, found_at,
 use Rattle.signatures.specs.Matching.MatchRefusal.{NoRoot, RefusesMatch}
 use Rattle.sig_laws.specs.NormalSig.{normal_sig}
 use Rattle.sig_laws.proofs.Formed.Conditions.{explicit-right, explicit-roots}
-use Rattle.match_laws.specs.MatchClaims.{IsLeft, IsRightAbs}
 use Rattle.match_laws.proofs.LookUp.LookUpLaws.{found-agree}
-use Rattle.match_laws.proofs.LookUp.Roots.{least-unique}
 use Rattle.match_laws.proofs.LookUp.FoundKinds.{found_at-normal}
 use Rattle.match_laws.proofs.Function.LookSound.{at-form}
 use Rattle.match_laws.proofs.OneMatch.Agree.{root-agreed}
@@ -23,6 +21,8 @@ use Rattle.semantic_sigs.specs.View.{kinds_of, body_of}
 use Rattle.sig_match.specs.Put.{AreNormal, filled}
 use Rattle.sig_match.specs.Looking.{Looks, LookSides, FirstFound, NextSides}
 use Rattle.sig_match.proofs.Fill.{any-normal, after, filled-after, filled-all, split, filled-more}
+use Rattle.sig_laws.proofs.Algebra.Paths.{one_least}
+use Rattle.sig_laws.specs.Good.{OkSig, OkRight}
 
 root-of : {ctx ks : List Kind} {r : Sig} {n : ℕ} {p : SigPath} → LeastRoot ctx ks r n p → RootPath ctx ks r n p
 root-of (least x y) = x
@@ -31,7 +31,7 @@ pub next-sides : {ctx : List Kind} {s : Sig} (x : Abs) {ts : List Ty} (root : Op
 next-sides (Abs.Ex ks r) root n = (n.0, (explicit-right n.1.0, n.1.1), n.2.1)
 
 -- the right side at the types found and any others
-put-form : {ctx ks : List Kind} {r : Sig} (ts : List Ty) → IsRightAbs ctx (Abs.Ex ks r) → AreNormal ctx (filled ks ts) ks → IsSigAt ctx r (filled ks ts) (normal_sig ctx (sig_at (filled ks ts) r))
+put-form : {ctx ks : List Kind} {r : Sig} (ts : List Ty) → OkRight ctx (Abs.Ex ks r) → AreNormal ctx (filled ks ts) ks → IsSigAt ctx r (filled ks ts) (normal_sig ctx (sig_at (filled ks ts) r))
 put-form ts v a = at-form v (forms-kinds a)
 
 next-found : {ctx ks : List Kind} {s r n : Sig} {ts : List Ty} {p : SigPath} {t : Ty} → length ts < length ks → LeastRoot ctx ks r (length ts) p → AreNormal ctx (filled ks ts) ks → IsSigAt ctx r (filled ks ts) n → Found ctx s p n t → FoundAt ctx s ks r ts t
@@ -42,7 +42,7 @@ next-found {ctx} {ks} {r = r} {n = n} {ts = ts} lt root a f d =
 next-lost : {ctx ks : List Kind} {s r n : Sig} {ts : List Ty} {p : SigPath} {t : Ty} → length ts < length ks → LeastRoot ctx ks r (length ts) p → AreNormal ctx (filled ks ts) ks → IsSigAt ctx r (filled ks ts) n → ((t : Ty) → Found ctx s p n t → ⊥) → FoundAt ctx s ks r ts t → ⊥
 next-lost {ctx} {ks} {s} {r} {n} {ts} {p} {t} lt root a f never (found_at {p = q} {n = m} k (PutFirst.put others g h) d) =
     let z = root-agreed ts others (after ks ts) refl (filled-after ks ts lt) g (forms-kinds a) lt (root-of root) h f in
-    never t (found-agree z.5.2 (subst (λ x. Found ctx s x m t) (least-unique lt k root) d))
+    never t (found-agree z.5.2 (subst (λ x. Found ctx s x m t) (one_least k root) d))
 
 pub next-some : (ctx : List Kind) (s : Sig) (x : Abs) (ts : List Ty) (p : SigPath) (t : Ty) → NextSides ctx s x ts (Some p) → ((n : Sig) → IsSigAt ctx (body_of x) (filled (kinds_of x) ts) n → Looks ctx s p n (Some t)) → FoundAt ctx s (kinds_of x) (body_of x) ts t
 next-some ctx s (Abs.Ex ks r) ts p t v k = let f = put-form ts v.1 v.2.1 in next-found v.3 v.4 v.2.1 f (k _ f)
@@ -71,7 +71,7 @@ looked-more {ctx} {ks} {s} {r} before (u ∷ more) t (FoundAfter.next g gs) f = 
 pub first-none : (ctx : List Kind) (s : Sig) (x : Abs) → FirstFound ctx s x []
 first-none ctx s (Abs.Ex ks r) = (FoundAfter.none, any-normal ctx ks)
 
-pub first-more : (ctx : List Kind) (s : Sig) (x : Abs) (ts : List Ty) (t : Ty) → IsLeft ctx s → IsRightAbs ctx x → length ts < length (kinds_of x) → FirstFound ctx s x ts → FoundAt ctx s (kinds_of x) (body_of x) ts t → FirstFound ctx s x (ts ++ (t ∷ []))
+pub first-more : (ctx : List Kind) (s : Sig) (x : Abs) (ts : List Ty) (t : Ty) → OkSig ctx s → OkRight ctx x → length ts < length (kinds_of x) → FirstFound ctx s x ts → FoundAt ctx s (kinds_of x) (body_of x) ts t → FirstFound ctx s x (ts ++ (t ∷ []))
 first-more ctx s (Abs.Ex ks r) ts t w v lt k f =
     let z = split ks (length ts) lt in
     let n = found_at-normal ts z.0 z.1 z.2 w v z.3 z.4 f in

@@ -1,20 +1,21 @@
 -- Types put in, and signatures raised, as the code does it.
-use Rattle.std.proofs.Common.{◌≡◌, ℕ, zero, suc, ◌+◌, ◌-◌, ◌<◌, ◌≤◌, List, [], ◌∷◌, ◌++◌, length, get_or, take, map, slice_get, refl, sym, ap, ap₂, ◌∙◌, subst, arith}
+use Rattle.std.proofs.Common.{◌≡◌, ℕ, zero, suc, ◌+◌, ◌<◌, ◌≤◌, List, [], ◌∷◌, ◌++◌, length, get_or, take, map, slice_get, refl, sym, ap, ap₂, ◌∙◌, subst, arith}
+use Rattle.std.proofs.lemmas.List.{map-append}
 use Rattle.std.proofs.Math.Path.{fun_ext}
 use Rattle.omega_kinds.specs.Kind.{Kind}
 use Rattle.omega_kinds.specs.View.{kind_tree}
 use Rattle.omega_kinds.specs.declared.kind.Kind.{Kind as SharedKind}
-use Rattle.omega_types.specs.Binders.{extend, past, lifts, lam_over, puts, NormalForms}
+use Rattle.omega_types.specs.Binders.{extend, past, lifts, puts, NormalForms}
 use Rattle.omega_types.specs.Index.{bump}
 use Rattle.omega_types.specs.Ty.{Ty}
-use Rattle.omega_types.proofs.BinderLaws.{past-maps, lam-take}
+use Rattle.omega_types.proofs.BinderLaws.{past-maps}
 use Rattle.omega_types.proofs.BinderPuts.{puts-lifts, types-fit, forms-types}
 use Rattle.signatures.specs.Signatures.Alike.{AlikeSig, NormalAbs, NormalAbsForm, IsSigAt}
 use Rattle.signatures.specs.Signatures.Sig.{Sig, Abs}
 use Rattle.signatures.specs.Signatures.SigSize.{size, size_abs}
 use Rattle.signatures.specs.Signatures.SigSubst.{rename_abs, raise_abs, abs_at, abs_at_under, substitute_abs}
 use Rattle.sig_laws.proofs.Algebra.AlikeLaws.{normal_abs-rename}
-use Rattle.sig_laws.proofs.Algebra.BinderLaws.{past-length}
+use Rattle.sig_laws.proofs.Algebra.BinderLaws.{past-length, lam_over-append}
 use Rattle.sig_laws.proofs.Algebra.SigAlgebra.{substitute-rename_abs}
 use Rattle.sig_laws.proofs.Algebra.SizeLaws.{size-alike, size-substitute, size_abs-alike, size_abs-substitute}
 use Rattle.semantic_sigs.specs.View.{kinds_of, body_of}
@@ -23,13 +24,7 @@ use Rattle.sig_match.proofs.LookSteps.{nothing-put}
 
 -- a type as an operator, from the last kind to the first
 
-pub lam-next : (kinds : List SharedKind) (left : ℕ) (kind shared : SharedKind) (ty grown whole : Ty) → 0 < left → left ≤ length kinds → lam_over (map kind_tree (take left kinds)) ty ≡ whole → kind ≡ get_or kinds (left - 1) kind → kind_tree shared ≡ kind_tree kind → grown ≡ Ty.Lam (kind_tree shared) ty → lam_over (map kind_tree (take (left - 1) kinds)) grown ≡ whole
-lam-next kinds zero kind shared ty grown whole lt le e ek es en = absurd (omega (arith, lt))
-lam-next kinds (suc n) kind shared ty grown whole lt le e ek es en =
-    ap₂ (λ m u. lam_over (map kind_tree (take m kinds)) u) (less n) (en ∙ ap (λ k. Ty.Lam k ty) (es ∙ (ap kind_tree ek ∙ ap (λ m. kind_tree (get_or kinds m kind)) (less n)))) ∙ (sym (lam-take kinds n kind ty (omega (arith, le))) ∙ e)
-  where
-    less : (n : ℕ) → suc n - 1 ≡ n
-    less n = omega arith
+pub ruleset lam_steps = (lam_over-append, map-append)
 
 -- types for kinds, one more
 

@@ -23,7 +23,7 @@ use Rattle.signatures.specs.Matching.LookUp.{Looked}
 use Rattle.signatures.specs.Matching.MatchRefusal.{MatchRefusal, Why, Form, Effects, Types, Clash, clash, MayStandFor, RefusesMatch, RefusesSub, RefusesSubAbs, RefusesFields, RefusesResult}
 use Rattle.signatures.specs.Matching.Subtyping.{Sub, SubFields, SubResult, SubAbs, Match}
 use Rattle.sig_laws.proofs.Algebra.Instances.{kinds-length}
-use Rattle.match_laws.specs.MatchClaims.{IsLeft, IsLeftAbs, IsRightSig, IsRightAbs}
+use Rattle.match_laws.specs.MatchClaims.{IsRightSig}
 use Rattle.match_laws.proofs.LookUp.Good.{good-at, good-meta, explicit-left, good-rest, good-right_field, good-param, good-left_result, good-right_param, good-right_result, good-pure, good-impure, good-body, good-raised}
 use Rattle.match_laws.proofs.OneMatch.Views.{match-view}
 use Rattle.sig_laws.proofs.Formed.WellFormedLaws.{explicit-body}
@@ -39,6 +39,7 @@ use Rattle.term_shorthands.specs.Packed.{Fills}
 use Rattle.sig_match.specs.Refusals.{Gives, Holds, inside}
 use Rattle.sig_match.specs.Outcomes.{ResultSides, ResultGives, ResultHolds}
 use Rattle.sig_match.proofs.Given.{holds-given, holds-map, holds-within}
+use Rattle.sig_laws.specs.Good.{OkSig, OkAbs, OkRight}
 
 -- clashes
 
@@ -99,10 +100,10 @@ type-differs ctx t u k j r er n = subst (λ z. RefusesSub ctx (Sig.Typ t k) z (c
 
 -- signature parts
 
-pub meta-there : {ctx : List Kind} {x y : Abs} → IsLeft ctx (Sig.Meta x) → IsRightSig ctx (Sig.Meta y) → IsLeftAbs ctx x × IsRightAbs ctx y
+pub meta-there : {ctx : List Kind} {x y : Abs} → OkSig ctx (Sig.Meta x) → IsRightSig ctx (Sig.Meta y) → OkAbs ctx x × OkRight ctx y
 meta-there w v = (explicit-left (good-meta w), good-meta (v.0.0, v.1))
 
-pub meta-back : {ctx : List Kind} {x y : Abs} → IsLeft ctx (Sig.Meta x) → IsRightSig ctx (Sig.Meta y) → IsLeftAbs ctx y × IsRightAbs ctx x
+pub meta-back : {ctx : List Kind} {x y : Abs} → OkSig ctx (Sig.Meta x) → IsRightSig ctx (Sig.Meta y) → OkAbs ctx y × OkRight ctx x
 meta-back w v = (explicit-left (good-meta (v.0.0, v.1)), good-meta w)
 
 pub meta-same : (ctx : List Kind) (x y : Abs) (f g e : Term) (from to : Ty) → from ≡ enc (Sig.Meta x) → to ≡ enc_abs y → SubAbs ctx x y f → SubAbs ctx y x g → e ≡ meta_part from to → Sub ctx (Sig.Meta x) (Sig.Meta y) e
@@ -198,16 +199,16 @@ fields-same ctx fs xs ps i from e le ef ee r = subst (Sub ctx (Sig.Str fs) (Sig.
 
 -- functors
 
-pub param-sides : {ctx ks js : List Kind} {e d : Effect} {s t : Sig} {x z : Abs} → IsLeft ctx (Sig.Fun e ks s x) → IsRightSig ctx (Sig.Fun d js t z) → IsLeft (extend ctx js) t × IsRightAbs (extend ctx js) (raise_abs js (Abs.Ex ks s))
+pub param-sides : {ctx ks js : List Kind} {e d : Effect} {s t : Sig} {x z : Abs} → OkSig ctx (Sig.Fun e ks s x) → IsRightSig ctx (Sig.Fun d js t z) → OkSig (extend ctx js) t × OkRight (extend ctx js) (raise_abs js (Abs.Ex ks s))
 param-sides {js = js} w v = (good-right_param v, good-param js w)
 
 -- which sides the results have
-pub result_sides : {ctx ks js : List Kind} (e d : Effect) {s t : Sig} {x y z : Abs} {ts : List Ty} {f : Term} → ((e ≡ Impure) × (d ≡ Pure) → ⊥) → IsLeft ctx (Sig.Fun e ks s x) → IsRightSig ctx (Sig.Fun d js t z) → Match (extend ctx js) t (raise_abs js (Abs.Ex ks s)) ts f → NormalAbsForm (extend ctx js) (abs_at_under js ts x) y → ResultSides (extend ctx js) d y z
+pub result_sides : {ctx ks js : List Kind} (e d : Effect) {s t : Sig} {x y z : Abs} {ts : List Ty} {f : Term} → ((e ≡ Impure) × (d ≡ Pure) → ⊥) → OkSig ctx (Sig.Fun e ks s x) → IsRightSig ctx (Sig.Fun d js t z) → Match (extend ctx js) t (raise_abs js (Abs.Ex ks s)) ts f → NormalAbsForm (extend ctx js) (abs_at_under js ts x) y → ResultSides (extend ctx js) d y z
 result_sides {ctx} {ks} {js} e Impure h w v m n = (good-left_result ctx js w (match-kinds m) n, good-impure (good-right_result v))
 result_sides Impure Pure h w v m n = absurd (h (refl, refl))
 result_sides {ctx} {ks} {js} Pure Pure {s} {t} {x} {y} {z} {ts} h w v m n = go w.0 w v.0.0 v n
   where
-    go : {x y z : Abs} → WellFormed ctx (Sig.Fun Pure ks s x) → IsLeft ctx (Sig.Fun Pure ks s x) → WellFormed ctx (Sig.Fun Pure js t z) → IsRightSig ctx (Sig.Fun Pure js t z) → NormalAbsForm (extend ctx js) (abs_at_under js ts x) y → IsLeft (extend ctx js) (body_of y) × IsRightSig (extend ctx js) (body_of z)
+    go : {x y z : Abs} → WellFormed ctx (Sig.Fun Pure ks s x) → OkSig ctx (Sig.Fun Pure ks s x) → WellFormed ctx (Sig.Fun Pure js t z) → IsRightSig ctx (Sig.Fun Pure js t z) → NormalAbsForm (extend ctx js) (abs_at_under js ts x) y → OkSig (extend ctx js) (body_of y) × IsRightSig (extend ctx js) (body_of z)
     go (WellFormed.pure a b) w (WellFormed.pure c q) v (AlikeAbs.ex n) = (good-body (good-left_result ctx js w (match-kinds m) (AlikeAbs.ex n)), good-pure (good-right_result v))
 
 may : (e d : Effect) → ((e ≡ Impure) × (d ≡ Pure) → ⊥) → MayStandFor e d
@@ -215,7 +216,7 @@ may Impure Pure h = absurd (h (refl, refl))
 may Impure Impure h = tt
 may Pure d h = tt
 
-result-ok : {ctx ks js : List Kind} (e d : Effect) {s t : Sig} {x y z : Abs} (ts : List Ty) {g : Term} → ((e ≡ Impure) × (d ≡ Pure) → ⊥) → IsLeft ctx (Sig.Fun e ks s x) → IsRightSig ctx (Sig.Fun d js t z) → NormalAbsForm (extend ctx js) (abs_at_under js ts x) y → ResultGives (extend ctx js) d y z (Ok g) → SubResult (extend ctx js) e d y z g
+result-ok : {ctx ks js : List Kind} (e d : Effect) {s t : Sig} {x y z : Abs} (ts : List Ty) {g : Term} → ((e ≡ Impure) × (d ≡ Pure) → ⊥) → OkSig ctx (Sig.Fun e ks s x) → IsRightSig ctx (Sig.Fun d js t z) → NormalAbsForm (extend ctx js) (abs_at_under js ts x) y → ResultGives (extend ctx js) d y z (Ok g) → SubResult (extend ctx js) e d y z g
 result-ok e Impure ts h w v n k = SubResult.to_impure k
 result-ok Impure Pure ts h w v n k = absurd (h (refl, refl))
 result-ok {ctx} {ks} {js} Pure Pure {s} {t} {x} {y} {z} ts {g} h w v n k = go w.0 v.0.0 n k
@@ -223,7 +224,7 @@ result-ok {ctx} {ks} {js} Pure Pure {s} {t} {x} {y} {z} ts {g} h w v n k = go w.
     go : {x y z : Abs} → WellFormed ctx (Sig.Fun Pure ks s x) → WellFormed ctx (Sig.Fun Pure js t z) → NormalAbsForm (extend ctx js) (abs_at_under js ts x) y → Sub (extend ctx js) (body_of y) (body_of z) g → SubResult (extend ctx js) Pure Pure y z g
     go (WellFormed.pure a b) (WellFormed.pure c q) (AlikeAbs.ex n) k = SubResult.both_pure k
 
-result-no : {ctx ks js : List Kind} (e d : Effect) {s t : Sig} {x y z : Abs} (ts : List Ty) (o : Option MatchRefusal) → ((e ≡ Impure) × (d ≡ Pure) → ⊥) → IsLeft ctx (Sig.Fun e ks s x) → IsRightSig ctx (Sig.Fun d js t z) → NormalAbsForm (extend ctx js) (abs_at_under js ts x) y → ResultHolds (extend ctx js) d y z o → Holds (RefusesResult (extend ctx js) e d y z) o
+result-no : {ctx ks js : List Kind} (e d : Effect) {s t : Sig} {x y z : Abs} (ts : List Ty) (o : Option MatchRefusal) → ((e ≡ Impure) × (d ≡ Pure) → ⊥) → OkSig ctx (Sig.Fun e ks s x) → IsRightSig ctx (Sig.Fun d js t z) → NormalAbsForm (extend ctx js) (abs_at_under js ts x) y → ResultHolds (extend ctx js) d y z o → Holds (RefusesResult (extend ctx js) e d y z) o
 result-no e Impure ts o h w v n k = holds-map (RefusesSubAbs _ _ _) (RefusesResult _ e Impure _ _) o (λ q r. RefusesResult.to_impure r) k
 result-no Impure Pure ts o h w v n k = absurd (h (refl, refl))
 result-no {ctx} {ks} {js} Pure Pure {s} {t} {x} {y} {z} ts o h w v n k = go w.0 v.0.0 n k
@@ -238,23 +239,23 @@ effects-clash ctx ks js e d s t x z h = subst (λ a. RefusesSub ctx (Sig.Fun a k
 pub param-no : (ctx ks js : List Kind) (e d : Effect) (s t : Sig) (x z : Abs) (o given : Option MatchRefusal) → ((e ≡ Impure) × (d ≡ Pure) → ⊥) → Gives (inside Item.Arg o) given → Holds (RefusesMatch (extend ctx js) t (raise_abs js (Abs.Ex ks s))) o → Holds (RefusesSub ctx (Sig.Fun e ks s x) (Sig.Fun d js t z)) given
 param-no ctx ks js e d s t x z o given h g k = holds-within (RefusesMatch (extend ctx js) t (raise_abs js (Abs.Ex ks s))) (RefusesSub ctx (Sig.Fun e ks s x) (Sig.Fun d js t z)) Item.Arg o given g (λ q r. RefusesSub.params (may e d h) r) k
 
-pub outer-no : (ctx ks js : List Kind) (e d : Effect) (s t : Sig) (x y z : Abs) (ts : List Ty) (f : Term) (o given : Option MatchRefusal) → ((e ≡ Impure) × (d ≡ Pure) → ⊥) → IsLeft ctx (Sig.Fun e ks s x) → IsRightSig ctx (Sig.Fun d js t z) → Match (extend ctx js) t (raise_abs js (Abs.Ex ks s)) ts f → NormalAbsForm (extend ctx js) (abs_at_under js ts x) y → Gives (inside Item.Res o) given → ResultHolds (extend ctx js) d y z o → Holds (RefusesSub ctx (Sig.Fun e ks s x) (Sig.Fun d js t z)) given
+pub outer-no : (ctx ks js : List Kind) (e d : Effect) (s t : Sig) (x y z : Abs) (ts : List Ty) (f : Term) (o given : Option MatchRefusal) → ((e ≡ Impure) × (d ≡ Pure) → ⊥) → OkSig ctx (Sig.Fun e ks s x) → IsRightSig ctx (Sig.Fun d js t z) → Match (extend ctx js) t (raise_abs js (Abs.Ex ks s)) ts f → NormalAbsForm (extend ctx js) (abs_at_under js ts x) y → Gives (inside Item.Res o) given → ResultHolds (extend ctx js) d y z o → Holds (RefusesSub ctx (Sig.Fun e ks s x) (Sig.Fun d js t z)) given
 outer-no ctx ks js e d s t x y z ts f o given h w v m n g k =
     holds-within (RefusesResult (extend ctx js) e d y z) (RefusesSub ctx (Sig.Fun e ks s x) (Sig.Fun d js t z)) Item.Res o given g (λ q r. RefusesSub.results (may e d h) m n r) (result-no e d ts o h w v n k)
 
-pub functor-same : (ctx ks js : List Kind) (e d : Effect) (s t : Sig) (x y z : Abs) (ts : List Ty) (f g : Term) (from : Ty) (c : Term) → ((e ≡ Impure) × (d ≡ Pure) → ⊥) → IsLeft ctx (Sig.Fun e ks s x) → IsRightSig ctx (Sig.Fun d js t z) → Match (extend ctx js) t (raise_abs js (Abs.Ex ks s)) ts f → NormalAbsForm (extend ctx js) (abs_at_under js ts x) y → ResultGives (extend ctx js) d y z (Ok g) → from ≡ enc (Sig.Fun e ks s x) → c ≡ functor_part from e d js (enc t) ts f g → Sub ctx (Sig.Fun e ks s x) (Sig.Fun d js t z) c
+pub functor-same : (ctx ks js : List Kind) (e d : Effect) (s t : Sig) (x y z : Abs) (ts : List Ty) (f g : Term) (from : Ty) (c : Term) → ((e ≡ Impure) × (d ≡ Pure) → ⊥) → OkSig ctx (Sig.Fun e ks s x) → IsRightSig ctx (Sig.Fun d js t z) → Match (extend ctx js) t (raise_abs js (Abs.Ex ks s)) ts f → NormalAbsForm (extend ctx js) (abs_at_under js ts x) y → ResultGives (extend ctx js) d y z (Ok g) → from ≡ enc (Sig.Fun e ks s x) → c ≡ functor_part from e d js (enc t) ts f g → Sub ctx (Sig.Fun e ks s x) (Sig.Fun d js t z) c
 functor-same ctx ks js e d s t x y z ts f g from c h w v m n k ef ec =
     subst (Sub ctx (Sig.Fun e ks s x) (Sig.Fun d js t z)) (sym (ec ∙ ap (λ u. functor_part u e d js (enc t) ts f g) ef)) (Sub.fun m n (result-ok e d ts h w v n k))
 
 -- signatures that may hide types
 
-pub encoded-fills : {ctx : List Kind} {s : Sig} (y : Abs) {ts : List Ty} {f : Term} → IsRightAbs ctx y → Match ctx s y ts f → Fills ctx ts (enc_abs y)
+pub encoded-fills : {ctx : List Kind} {s : Sig} (y : Abs) {ts : List Ty} {f : Term} → OkRight ctx y → Match ctx s y ts f → Fills ctx ts (enc_abs y)
 encoded-fills (Abs.Ex ks r) v m = (ks, enc r, refl, enc_abs-normal v.0 v.1, types-forms (match-view (explicit-body v.0) m).1)
 
-pub abs-under : {ctx : List Kind} (x y : Abs) → IsLeftAbs ctx x → IsRightAbs ctx y → IsLeft (extend ctx (kinds_of x)) (body_of x) × IsRightAbs (extend ctx (kinds_of x)) (raise_abs (kinds_of x) y)
+pub abs-under : {ctx : List Kind} (x y : Abs) → OkAbs ctx x → OkRight ctx y → OkSig (extend ctx (kinds_of x)) (body_of x) × OkRight (extend ctx (kinds_of x)) (raise_abs (kinds_of x) y)
 abs-under (Abs.Ex ks s) y w v = (good-body w, good-raised ks v)
 
-pub abs-same : (ctx : List Kind) (x y : Abs) (ts : List Ty) (f c : Term) → IsRightAbs ctx y → IsRightAbs (extend ctx (kinds_of x)) (raise_abs (kinds_of x) y) → Match (extend ctx (kinds_of x)) (body_of x) (raise_abs (kinds_of x) y) ts f → IsAbsCoercion x ts f (enc_abs (raise_abs (kinds_of x) y)) c → SubAbs ctx x y c
+pub abs-same : (ctx : List Kind) (x y : Abs) (ts : List Ty) (f c : Term) → OkRight ctx y → OkRight (extend ctx (kinds_of x)) (raise_abs (kinds_of x) y) → Match (extend ctx (kinds_of x)) (body_of x) (raise_abs (kinds_of x) y) ts f → IsAbsCoercion x ts f (enc_abs (raise_abs (kinds_of x) y)) c → SubAbs ctx x y c
 abs-same ctx (Abs.Ex [] s) y ts f c v u m k =
     let e : raise_abs [] y ≡ y = rename_abs-id y in
     let n = subst (λ z. Match ctx s z ts f) e m in
@@ -268,13 +269,13 @@ abs-no ctx (Abs.Ex (k ∷ ks) s) y o h = holds-map (RefusesMatch (extend ctx (k 
 
 -- matching, when all types are found
 
-pub match-put : (depth : ℕ) (s : Sig) (x : Abs) {ctx : List Kind} {ts : List Ty} → IsRightAbs ctx x → AreNormal ctx ts (kinds_of x) → MayPut (kinds_of x) (body_of x) ts
+pub match-put : (depth : ℕ) (s : Sig) (x : Abs) {ctx : List Kind} {ts : List Ty} → OkRight ctx x → AreNormal ctx ts (kinds_of x) → MayPut (kinds_of x) (body_of x) ts
 match-put depth s (Abs.Ex ks r) {ctx} v a = (ctx, v.1, a)
 
-pub match-at : (ctx : List Kind) (x : Abs) (ts : List Ty) (n : Sig) → IsRightAbs ctx x → AreNormal ctx ts (kinds_of x) → EachPut (kinds_of x) (body_of x) ts n → IsSigAt ctx (body_of x) ts n
+pub match-at : (ctx : List Kind) (x : Abs) (ts : List Ty) (n : Sig) → OkRight ctx x → AreNormal ctx ts (kinds_of x) → EachPut (kinds_of x) (body_of x) ts n → IsSigAt ctx (body_of x) ts n
 match-at ctx (Abs.Ex ks r) ts n v a k = k ctx v.1 a
 
-pub match-right : (ctx : List Kind) (x : Abs) (ts : List Ty) (n : Sig) → IsRightAbs ctx x → AreNormal ctx ts (kinds_of x) → IsSigAt ctx (body_of x) ts n → IsRightSig ctx n
+pub match-right : (ctx : List Kind) (x : Abs) (ts : List Ty) (n : Sig) → OkRight ctx x → AreNormal ctx ts (kinds_of x) → IsSigAt ctx (body_of x) ts n → IsRightSig ctx n
 match-right ctx (Abs.Ex ks r) ts n v a f = good-at v (forms-kinds a) f
 
 pub match-ok : (ctx : List Kind) (s : Sig) (x : Abs) (ts : List Ty) (n : Sig) (f : Term) → AreNormal ctx ts (kinds_of x) → IsSigAt ctx (body_of x) ts n → Sub ctx s n f → Match ctx s x ts f

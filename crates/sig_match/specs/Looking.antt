@@ -10,7 +10,7 @@ use Rattle.signatures.specs.Signatures.Alike.{IsSigAt}
 use Rattle.signatures.specs.Explicit.SigPath.{SigPath, Item}
 use Rattle.signatures.specs.Matching.LookUp.{Found, FoundAt, Looked}
 use Rattle.signatures.specs.Matching.MatchRefusal.{MatchRefusal, RefusesMatch}
-use Rattle.match_laws.specs.MatchClaims.{IsLeft, IsRightSig, IsRightAbs}
+use Rattle.match_laws.specs.MatchClaims.{IsRightSig}
 use Rattle.semantic_sigs.specs.View.{kinds_of, body_of}
 use Rattle.sig_match.specs.declared.refusal.Matched.{Matched}
 use Rattle.sig_match.specs.declared.refusal.MatchRefusal.{MatchRefusal as CodeRefusal}
@@ -18,6 +18,7 @@ use Rattle.sig_match.specs.Refusals.{Holds, plain_refusal}
 use Rattle.sig_match.specs.Outcomes.{EachMatch}
 use Rattle.sig_match.specs.Put.{AreNormal, filled, EachPutUnder}
 use Rattle.root_paths.specs.Roots.{IsRoot}
+use Rattle.sig_laws.specs.Good.{OkSig, OkRight}
 
 -- what a left type part has, where the right one has its kind
 abbrev pub Ends : Sig → Sig → Option Ty → Type 0
@@ -31,7 +32,7 @@ Looks ctx s p r (Some t) = Found ctx s p r t
 
 -- the right side stands under hidden types, and normal types of their kinds may be put in for them
 abbrev pub LookSides : List Kind → Sig → List Kind → Sig → List Ty → Type 0
-LookSides ctx s ks r ts = IsLeft ctx s × IsRightSig (extend ctx ks) r × AreNormal ctx (filled ks ts) ks
+LookSides ctx s ks r ts = OkSig ctx s × IsRightSig (extend ctx ks) r × AreNormal ctx (filled ks ts) ks
 
 abbrev pub MayLook : ℕ → Sig → List Kind → Sig → List Ty → Type 0
 MayLook depth s ks r ts = (ctx : List Kind) × (length ctx ≡ depth) × LookSides ctx s ks r ts
@@ -41,10 +42,10 @@ EachLook depth s p ks r ts o = (ctx : List Kind) → length ctx ≡ depth → Lo
 
 -- the same through the result of a functor, with no hidden types left
 abbrev pub MayLookInto : ℕ → Sig → Sig → Type 0
-MayLookInto depth s r = (ctx : List Kind) × (length ctx ≡ depth) × IsLeft ctx s × IsRightSig ctx r
+MayLookInto depth s r = (ctx : List Kind) × (length ctx ≡ depth) × OkSig ctx s × IsRightSig ctx r
 
 abbrev pub EachLookInto : ℕ → Sig → SigPath → Sig → Option Ty → Type 0
-EachLookInto depth s p r o = (ctx : List Kind) → length ctx ≡ depth → IsLeft ctx s → IsRightSig ctx r → Looks ctx s (Item.Res ∷ p) r o
+EachLookInto depth s p r o = (ctx : List Kind) → length ctx ≡ depth → OkSig ctx s → IsRightSig ctx r → Looks ctx s (Item.Res ∷ p) r o
 
 -- a type that is found, as an operator over the functor's variables
 abbrev pub lam_found : List Kind → Option Ty → Option Ty
@@ -72,7 +73,7 @@ FirstFound ctx s x ts = Looked ctx s (kinds_of x) (body_of x) ts × AreNormal ct
 
 -- the next hidden variable, with its least root path
 abbrev pub NextSides : List Kind → Sig → Abs → List Ty → Option SigPath → Type 0
-NextSides ctx s x ts root = IsLeft ctx s × IsRightAbs ctx x × FirstFound ctx s x ts × (length ts < length (kinds_of x)) × IsRoot ctx (kinds_of x) (body_of x) (length ts) root
+NextSides ctx s x ts root = OkSig ctx s × OkRight ctx x × FirstFound ctx s x ts × (length ts < length (kinds_of x)) × IsRoot ctx (kinds_of x) (body_of x) (length ts) root
 
 abbrev pub MayLookNext : ℕ → Sig → Abs → List Ty → Option SigPath → Type 0
 MayLookNext depth s x ts root = (ctx : List Kind) × (length ctx ≡ depth) × NextSides ctx s x ts root
@@ -90,4 +91,4 @@ AllGives ctx s x (Ok ts) = Looked ctx s (kinds_of x) (body_of x) ts × AreNormal
 AllGives ctx s x (Err e) = Holds (RefusesMatch ctx s x) (plain_refusal e)
 
 abbrev pub EachLookAll : ℕ → Sig → Abs → Result (List Ty) CodeRefusal → Type 0
-EachLookAll depth s x o = (ctx : List Kind) → length ctx ≡ depth → IsLeft ctx s → IsRightAbs ctx x → AllGives ctx s x o
+EachLookAll depth s x o = (ctx : List Kind) → length ctx ≡ depth → OkSig ctx s → OkRight ctx x → AllGives ctx s x o

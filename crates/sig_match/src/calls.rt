@@ -1,7 +1,7 @@
 // The public calls.
 ghost use Rattle.std.specs.Prelude.{◌≡◌, length};
 ghost use Rattle.signatures.specs.Env.{kinds as kinds_in};
-ghost use Rattle.match_laws.specs.MatchClaims.{IsLeft, IsLeftAbs, IsRightAbs};
+ghost use Rattle.sig_laws.specs.Good.{OkSig, OkAbs, OkRight};
 ghost use Rattle.sig_match.specs.Exact.{OnlyMatch, OnlySubAbs};
 ghost use Rattle.sig_match.specs.Outcomes.{MatchGives, SubAbsGives};
 
@@ -24,8 +24,8 @@ use std::alloc::Global;
 /// Rossberg, Russo and Dreyer, "F-ing modules", sections 4, Signature matching, and 5, Decidability; here through results
 /// of pure functors too.
 pub fn match_sig(alloc: Global, env: &Env, left: &Sig, right: &Abs) -> Result<Matched, MatchRefusal>
-    requires left { IsLeft (kinds_in env.now) left.now }
-    requires right { IsRightAbs (kinds_in env.now) right.now }
+    requires left { OkSig (kinds_in env.now) left.now }
+    requires right { OkRight (kinds_in env.now) right.now }
     ensures gives { MatchGives (kinds_in env.now) left.now right.now result }
     ensures only { OnlyMatch (kinds_in env.now) left.now right.now result }
 {
@@ -38,8 +38,8 @@ pub fn match_sig(alloc: Global, env: &Env, left: &Sig, right: &Abs) -> Result<Ma
 ///
 /// Rossberg, Russo and Dreyer, "F-ing modules", section 4, Signature matching.
 pub fn sub_abs(alloc: Global, env: &Env, left: &Abs, right: &Abs) -> Result<Term, MatchRefusal>
-    requires left { IsLeftAbs (kinds_in env.now) left.now }
-    requires right { IsRightAbs (kinds_in env.now) right.now }
+    requires left { OkAbs (kinds_in env.now) left.now }
+    requires right { OkRight (kinds_in env.now) right.now }
     ensures gives { SubAbsGives (kinds_in env.now) left.now right.now result }
     ensures only { OnlySubAbs (kinds_in env.now) left.now right.now result }
 {

@@ -1,15 +1,14 @@
 // The form of a signature, with its parts.
 ghost use Rattle.std.specs.Prelude.{◌≡◌, ◌↔◌, IsTrue, MatchOption, List};
 ghost use Rattle.omega_kinds.specs.Kind.{Kind as KindTree};
-ghost use Rattle.omega_kinds.specs.LabelOrder.{name_before};
 ghost use Rattle.omega_kinds.specs.View.{kind_tree};
 ghost use Rattle.omega_kinds.specs.declared.effect.Effect.{Effect as EffectTree};
 ghost use Rattle.omega_kinds.specs.declared.effect.Effect.TheVariants.{Pure, Impure};
 ghost use Rattle.omega_types.specs.Ty.{Ty as TyTree};
-ghost use Rattle.signatures.specs.Signatures.Sig.{Abs as AbsTree, Fun, HasField, Meta, NoField, Sig as SigTree, SigRow, Str, Typ, Val};
+ghost use Rattle.signatures.specs.Signatures.Sig.{Abs as AbsTree, Fun, Meta, Sig as SigTree, SigRow, Str, Typ, Val};
 ghost use Rattle.semantic_sigs.specs.Fields.{sig_row};
 
-use omega_kinds::{Effect, Kind, Kinds, Name, same_name};
+use omega_kinds::{Effect, Kind, Kinds};
 use semantic_sigs::{Abs, Sig, SigFields, SigNode};
 use type_normal::NormalTy;
 
@@ -86,57 +85,12 @@ pub(crate) fn as_functor(sig: &Sig) -> Option<Functor<'_>>
 pub(crate) fn both_pure(left: Effect, right: Effect) -> bool
     ensures { IsTrue result ↔ ((left ≡ Pure) × (right ≡ Pure)) }
 {
-    match (left, right) {
-        (Effect::Pure, Effect::Pure) => true,
-        (Effect::Impure, _) | (_, Effect::Impure) => false,
-    }
+    matches!((left, right), (Effect::Pure, Effect::Pure))
 }
 
 /// Whether an impure functor would stand for a pure one.
 pub(crate) fn impure_for_pure(left: Effect, right: Effect) -> bool
     ensures { IsTrue result ↔ ((left ≡ Impure) × (right ≡ Pure)) }
 {
-    match (left, right) {
-        (Effect::Impure, Effect::Pure) => true,
-        (Effect::Pure, _) | (_, Effect::Impure) => false,
-    }
-}
-
-/// The part of a structure under a name; `None` exactly where there is none.
-pub(crate) fn field<'a>(sig: &'a Sig, name: &Name) -> Option<&'a Sig>
-    ensures { MatchOption result ((fs : SigRow) → sig.now ≡ Str fs → NoField name.now fs) (λ s. (fs : SigRow) × (sig.now ≡ Str fs) × HasField fs name.now s.now) }
-{
-    match structure(sig) {
-        Some(fields) => find(fields, name),
-        None => None,
-    }
-}
-
-/// The part under a name, by halving; `None` exactly where there is none.
-pub(crate) fn find<'a>(fields: &'a SigFields, name: &Name) -> Option<&'a Sig>
-    ensures { MatchOption result (NoField name.now (sig_row fields.now)) (λ s. HasField (sig_row fields.now) name.now s.now) }
-{
-    let items = fields.items();
-    let mut low = 0;
-    let mut high = items.len();
-    while low < high {
-        let middle = low + (high - low) / 2;
-        let field = &items[middle];
-        if same_name(name, &field.0) {
-            return Some(&field.1);
-        }
-        if comes_before(name, &field.0) {
-            high = middle;
-        } else {
-            low = middle + 1;
-        }
-    }
-    None
-}
-
-// Whether a name is before another.
-fn comes_before(left: &Name, right: &Name) -> bool
-    ensures { result ≡ name_before left.now right.now }
-{
-    left.cmp(right).is_lt()
+    matches!((left, right), (Effect::Impure, Effect::Pure))
 }

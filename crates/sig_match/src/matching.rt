@@ -16,8 +16,7 @@ ghost use Rattle.sig_match.specs.Outcomes.{EachField, EachMatch, EachResult, Eac
 
 use crate::coercing::{abs_coercion, functor_coercion};
 use crate::forms::{
-    Functor, as_functor, both_pure, field, find, impure_for_pure, sig_part, structure, type_part,
-    value_part,
+    Functor, as_functor, both_pure, impure_for_pure, sig_part, structure, type_part, value_part,
 };
 use crate::made::{Made, keep, key_of, known};
 use crate::putting::{at_found, at_types, count, lam_found, raised_param, result_at, sum};
@@ -29,7 +28,8 @@ use omega_terms::{Term, TermFields};
 use omega_types::Ty;
 use root_paths::roots;
 use semantic_sigs::{
-    Abs, Item, Path, Sig, SigFields, SigNode, Why, Witnesses, encode, encode_sig, raise_abs,
+    Abs, Item, Path, Sig, SigFields, SigNode, Why, Witnesses, encode, encode_sig, field,
+    find_field, raise_abs,
 };
 use std::alloc::Global;
 use type_normal::{NormalTy, same};
@@ -484,7 +484,7 @@ fn sub_field(
     requires made { AllHold made.now }
     ensures { EachField depth (sig_row left.now) name.now right.now result }
 {
-    let Some(left) = find(left, name) else {
+    let Some(left) = find_field(left, name) else {
         let missing = clash(alloc, depth, Why::Missing);
         return Err(within_part(alloc, name, missing));
     };

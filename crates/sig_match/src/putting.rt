@@ -21,10 +21,7 @@ use type_normal::{NormalTy, as_normal, plain};
 pub(crate) fn sum(a: u64, b: u64) -> Result<u64, Mem>
     ensures { IfOk result (λ n. n ≡ a + b) }
 {
-    match a.checked_add(b) {
-        Some(n) => Ok(n),
-        None => Err(Mem),
-    }
+    a.checked_add(b).ok_or(Mem)
 }
 
 /// How many variables a list of kinds is for.
@@ -49,15 +46,13 @@ pub(crate) fn lam_found(
 }
 
 // A type as an operator over these kinds, the first outermost.
+#[tactic(auto, using(crate::proofs::PutSteps::lam_steps))]
 fn lam_over(alloc: Global, kinds: &Kinds, body: NormalTy) -> Result<NormalTy, Mem>
     ensures { IfOk result (λ t. t ≡ lam_over_of kinds.now body) }
 {
-    let kinds = kinds.items();
     let mut ty = plain(&body).share()?;
-    let mut left = kinds.len();
-    while left > 0 {
-        left -= 1;
-        ty = Ty::make(alloc, TyNode::Lam(kinds[left].share()?, ty))?;
+    for kind in kinds.items().iter().rev() {
+        ty = Ty::make(alloc, TyNode::Lam(kind.share()?, ty))?;
     }
     Ok(as_normal(ty))
 }

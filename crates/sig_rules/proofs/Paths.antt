@@ -15,7 +15,7 @@ use Rattle.sig_laws.proofs.Algebra.BinderLaws.{past-length}
 use Rattle.sig_rules.specs.Refinement.{Leads, LeavesAt, here, there, own_part}
 use Rattle.signatures.specs.Verdict.{Verdict, holds, refuses, Perhaps, one, none}
 use Rattle.sig_laws.proofs.Formed.Forms.{field-at, sig_dec}
-use Rattle.match_laws.proofs.LookUp.Refused.{no-field as not-field}
+use Rattle.sig_laws.proofs.Algebra.PathLaws.{no-field as not-field}
 
 no-field : (fs : SigRow) (l : Name) → ((t : Sig) → HasField fs l t → ⊥) → NoField l fs
 no-field SigRow.End l n = tt
@@ -42,6 +42,11 @@ module _ {A : Type 0} (name : A → Name) where
   lack-end : {s : Sig} {y : A} → LeavesAt name s [] y → ⊥
   lack-end h = elim h [ ]
 
+  -- a path leaves what is no structure at once
+  at-first : {s : Sig} {x y : A} {path : List A} → ((fs : SigRow) → s ≡ Sig.Str fs → ⊥) → LeavesAt name s (x ∷ path) y → y ≡ x
+  at-first n (here l) = refl
+  at-first n (there {fs = fs} h l) = absurd (n fs refl)
+
   abbrev LeadsOrLacks : Sig → List A → Type 0
   LeadsOrLacks s path = Verdict (λ q. Leads s (map name path) q) (λ x. LeavesAt name s path x)
 
@@ -57,7 +62,7 @@ module _ {A : Type 0} (name : A → Name) where
       below q p = let w = leads-field p in subst (λ s. Leads s (map name path) q) (only w.0 w.1) w.2
 
       lack_below : (y : A) → LeavesAt name (Sig.Str fs) (x ∷ path) y → LeavesAt name t path y
-      lack_below y (here n) = absurd (not-field h n)
+      lack_below y (here n) = absurd (not-field _ n h)
       lack_below y (there {t = s} g l) = subst (λ s. LeavesAt name s path y) (only s g) l
 
       go : LeadsOrLacks t path → LeadsOrLacks (Sig.Str fs) (x ∷ path)
@@ -67,22 +72,8 @@ module _ {A : Type 0} (name : A → Name) where
   pub leads : (s : Sig) (path : List A) → LeadsOrLacks s path
   leads s [] = holds s PartAt.end (λ q p. leads-end p) (λ x h. lack-end h)
   leads (Sig.Str fs) (x ∷ path) = leads-more fs x path (field-at fs (name x)) (λ t. leads t path)
-  leads (Sig.Val t) (x ∷ path) = refuses x (here tt) same (λ q p. elim p [ ])
-    where
-      same : (y : A) → LeavesAt name (Sig.Val t) (x ∷ path) y → y ≡ x
-      same y (here n) = refl
-  leads (Sig.Typ t k) (x ∷ path) = refuses x (here tt) same (λ q p. elim p [ ])
-    where
-      same : (y : A) → LeavesAt name (Sig.Typ t k) (x ∷ path) y → y ≡ x
-      same y (here n) = refl
-  leads (Sig.Meta z) (x ∷ path) = refuses x (here tt) same (λ q p. elim p [ ])
-    where
-      same : (y : A) → LeavesAt name (Sig.Meta z) (x ∷ path) y → y ≡ x
-      same y (here n) = refl
-  leads (Sig.Fun e ks s z) (x ∷ path) = refuses x (here tt) same (λ q p. past-functor p e ks s z refl (name x) (map Item.Part (map name path)) refl)
-    where
-      same : (y : A) → LeavesAt name (Sig.Fun e ks s z) (x ∷ path) y → y ≡ x
-      same y (here n) = refl
+  leads (Sig.Fun e ks s z) (x ∷ path) = refuses x (here tt) (λ y l. at-first (λ fs i. cc) l) (λ q p. past-functor p e ks s z refl (name x) (map Item.Part (map name path)) refl)
+  leads s (x ∷ path) = refuses x (here tt) (λ y l. at-first (λ fs e. cc) l) (λ q p. elim p [ ])
 
 -- the variable that a part shows: the head of an eta-long variable
 

@@ -9,27 +9,27 @@ use Rattle.signatures.specs.Env.{Env, kinds}
 use Rattle.signatures.specs.Signatures.Sig.{Sig, Abs}
 use Rattle.signatures.specs.Explicit.WellFormed.{WellFormed, WellFormedRow, WellFormedAbs, explicit, in_str, in_more, in_typ, in_end}
 use Rattle.match_laws.specs.Examples.{with_int, with_nothing, hides_t}
-use Rattle.match_laws.specs.MatchClaims.{IsLeft, IsLeftAbs, IsRightAbs}
 use Rattle.match_laws.proofs.ExampleProofs.{body_t, roots_t}
+use Rattle.sig_laws.specs.Good.{OkSig, OkAbs, OkRight}
 
 well_t : WellFormed (Kind.Star ∷ []) body_t
 well_t = WellFormed.str (tt, tt) (WellFormedRow.more (WellFormed.typ (k_var here)) WellFormedRow.end)
 
-right : IsRightAbs [] hides_t
+right : OkRight [] hides_t
 right = (explicit well_t (in_str (in_more in_typ in_end)) roots_t, (n_neutral (n_var here), tt))
 
-left : IsLeftAbs [] hides_t
+left : OkAbs [] hides_t
 left = (WellFormedAbs.abs well_t, (n_neutral (n_var here), tt))
 
 -- in the empty environment
-pub right_t : (g : Env) (x : Abs) → g ≡ [] → x ≡ hides_t → IsRightAbs (kinds g) x
-right_t g x e f = subst (λ h. IsRightAbs (kinds h) x) (sym e) (subst (λ y. IsRightAbs [] y) (sym f) right)
+pub right_t : (g : Env) (x : Abs) → g ≡ [] → x ≡ hides_t → OkRight (kinds g) x
+right_t g x e f = subst (λ h. OkRight (kinds h) x) (sym e) (subst (λ y. OkRight [] y) (sym f) right)
 
-pub left_t : (g : Env) (x : Abs) → g ≡ [] → x ≡ hides_t → IsLeftAbs (kinds g) x
-left_t g x e f = subst (λ h. IsLeftAbs (kinds h) x) (sym e) (subst (λ y. IsLeftAbs [] y) (sym f) left)
+pub left_t : (g : Env) (x : Abs) → g ≡ [] → x ≡ hides_t → OkAbs (kinds g) x
+left_t g x e f = subst (λ h. OkAbs (kinds h) x) (sym e) (subst (λ y. OkAbs [] y) (sym f) left)
 
-pub left_int : (g : Env) (s : Sig) → g ≡ [] → s ≡ with_int → IsLeft (kinds g) s
-left_int g s e f = subst (λ h. IsLeft (kinds h) s) (sym e) (subst (λ r. IsLeft [] r) (sym f) (WellFormed.str (tt, tt) (WellFormedRow.more (WellFormed.typ k_int) WellFormedRow.end), (n_int, tt)))
+pub left_int : (g : Env) (s : Sig) → g ≡ [] → s ≡ with_int → OkSig (kinds g) s
+left_int g s e f = subst (λ h. OkSig (kinds h) s) (sym e) (subst (λ r. OkSig [] r) (sym f) (WellFormed.str (tt, tt) (WellFormedRow.more (WellFormed.typ k_int) WellFormedRow.end), (n_int, tt)))
 
-pub left_nothing : (g : Env) (s : Sig) → g ≡ [] → s ≡ with_nothing → IsLeft (kinds g) s
-left_nothing g s e f = subst (λ h. IsLeft (kinds h) s) (sym e) (subst (λ r. IsLeft [] r) (sym f) (WellFormed.str tt WellFormedRow.end, tt))
+pub left_nothing : (g : Env) (s : Sig) → g ≡ [] → s ≡ with_nothing → OkSig (kinds g) s
+left_nothing g s e f = subst (λ h. OkSig (kinds h) s) (sym e) (subst (λ r. OkSig [] r) (sym f) (WellFormed.str tt WellFormedRow.end, tt))

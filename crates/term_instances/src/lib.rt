@@ -3,6 +3,6 @@
 // Proved: `instance` gives the instance of the term that the definitions speak of.
 #![tactic(auto)]
 
-pub mod instances;
+mod instances;
 
 pub use instances::instance;

@@ -8,7 +8,7 @@ use Rattle.omega_types.specs.Ty.{Ty}
 use Rattle.omega_terms.specs.Term.{Term}
 use Rattle.signatures.specs.Signatures.Sig.{Abs, Module}
 use Rattle.signatures.specs.Env.{Env}
-use Rattle.fing_syntax.specs.Phrase.{Span, Mod, Bind, BindAt, BindVal, BindTy, BindModule, BindSignature, BindInclude, Binds, SigEx, Decl, Decls, TyEx, TyExs, FieldTyExs, Exp, OpExps, Args, FieldExps}
+use Rattle.fing_syntax.specs.Phrase.{Span, Mod, Bind, BindAt, BindInclude, Binds, SigEx, Decl, Decls, TyEx, TyExs, FieldTyExs, Exp, OpExps, Args, FieldExps}
 use Rattle.core_rules.specs.TypeRules.{FieldTy, ArrowGives, AppliedGives}
 use Rattle.core_rules.specs.ExpRules.{FieldExp, FunctionGives, CallGives, InstanceGives, GetGives, IfGives, OperationGives, FixGives}
 use Rattle.elab_rules.specs.Judgments.Meaning.{TyMeans, ArgTysMean, FieldTysMean, ExpMeans, OpsMean, ArgsMean, FieldExpsMean, SigMeans, DeclMeans, DeclsMean, ModMeans, BindMeans, BindsMean}
@@ -106,11 +106,8 @@ bind-runs (BindMeans.bind_module p) = (_, p, refl)
 
 binds-runs : {g : Env} {before : List Name} {bs : Binds} {M : Module} → BindsMean g before bs M → Runs (binds_steps g before bs) M
 binds-runs (BindsMean.no_binds c) = (_, c, refl)
-binds-runs (BindsMean.next_bind {b = BindAt at (BindVal x a)} p q s) = (_, p, (_, q, (_, s, refl)))
-binds-runs (BindsMean.next_bind {b = BindAt at (BindTy x a)} p q s) = (_, p, (_, q, (_, s, refl)))
-binds-runs (BindsMean.next_bind {b = BindAt at (BindModule x a)} p q s) = (_, p, (_, q, (_, s, refl)))
-binds-runs (BindsMean.next_bind {b = BindAt at (BindSignature x a)} p q s) = (_, p, (_, q, (_, s, refl)))
 binds-runs (BindsMean.next_bind {b = BindAt at (BindInclude m)} p q s) = elim p [ ]
+binds-runs (BindsMean.next_bind {b = BindAt at _} p q s) = (_, p, (_, q, (_, s, refl)))
 binds-runs (BindsMean.next_include p q s) = (_, p, (_, refl, (_, q, (_, s, refl))))
 
 pub means-runs : (g : Env) (a : Task) (o : Result a) → Means g a o → Runs (steps g a) o

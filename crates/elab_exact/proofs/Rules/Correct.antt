@@ -136,10 +136,7 @@ after_include-sound g before at m bs (made f (Abs.Ex ks s) ts e) p = λ fs i M q
 binds-sound : (g : Env) (before : List Name) (bs : Binds) → Sound (binds_steps g before bs) (BindsMean g before bs)
 binds-sound g before NoBinds = λ o c. BindsMean.no_binds c
 binds-sound g before (MoreBinds (BindAt at (BindInclude m)) bs) = after_include-sound g before at m bs
-binds-sound g before (MoreBinds (BindAt at (BindVal x a)) bs) = λ o p. after_bind-sound g before _ bs o.0 o.1 p
-binds-sound g before (MoreBinds (BindAt at (BindTy x a)) bs) = λ o p. after_bind-sound g before _ bs o.0 o.1 p
-binds-sound g before (MoreBinds (BindAt at (BindModule x m)) bs) = λ o p. after_bind-sound g before _ bs o.0 o.1 p
-binds-sound g before (MoreBinds (BindAt at (BindSignature x a)) bs) = λ o p. after_bind-sound g before _ bs o.0 o.1 p
+binds-sound g before (MoreBinds (BindAt at _) bs) = λ o p. after_bind-sound g before _ bs o.0 o.1 p
 
 pub steps-sound : (g : Env) (a : Task) → Sound (steps g a) (Means g a)
 steps-sound g (a_type a) = type-sound g a

@@ -9,7 +9,7 @@ use Rattle.elab_rules.specs.Judgments.Meaning.OpsMean.{next_op, no_ops}
 use Rattle.elab_rules.specs.Judgments.Meaning.TyMeans.{ty_all, ty_apply, ty_arrow, ty_lam, ty_pack, ty_path}
 use Rattle.elab_rules.specs.Operators.{omega_op}
 use Rattle.elab_rules.specs.Refusals.Task.{binds as binds_task}
-use Rattle.elaboration.proofs.ArgSteps.{applied-normal, args-at, called-normal, env-in, exp-normal, instance-normal, none-below, normal-in, operands-at, type-normal, type_args-at}
+use Rattle.elaboration.proofs.ArgSteps.{applied-normal, args-at, called-normal, env-in, exp-normal, instance-normal, normal-in, operands-at, type-normal, type_args-at}
 use Rattle.elaboration.proofs.BaseSteps.{bool-means, bool_exp-means, int-means, int_exp-means, text-means, text_exp-means}
 use Rattle.elaboration.proofs.FieldSteps.{ExpsLeft, TypesLeft, exps-later, exps-next, exps-none, record-means, record-parts, record-rule, record_type-means, record_type-parts, record_type-rule, types-later, types-next, types-none}
 use Rattle.elaboration.proofs.FixSteps.{entered, fix-env-in, left, value-env-in}
@@ -22,6 +22,7 @@ use Rattle.elaboration.proofs.Refuse.Modules.{bind_module-module, bind_signature
 use Rattle.elaboration.proofs.Refuse.Signatures.{decl_include-rule, decl_include-sig, decl_is-type, decl_module-sig, decl_signature-sig, decl_val-rule, decl_val-type, decls-first, sig_decls-list, sig_fun-param, sig_path-module, sig_path-use, sig_refine-sig, sig_refine-type}
 use Rattle.elaboration.proofs.Refuse.Types.{ty_all-body, ty_all-rule, ty_apply-args, ty_apply-operator, ty_arg-later, ty_arg-no_operator, ty_arg-rule, ty_arg-type, ty_arrow-from, ty_arrow-rule, ty_arrow-to, ty_field-again, ty_field-type, ty_lam-body, ty_pack-sig, ty_path-module, ty_path-use}
 use Rattle.elaboration.proofs.SigLaws.{abstract-means, decl-body, decl-in, decls-mean, fields-env, left-decl, left-under, lifted-means, module-in, no-row, param-in, refused-row, row-means, row-size, sig-in}
+use Rattle.elaboration.proofs.Slices.{empty}
 use Rattle.elaboration.proofs.UseSteps.{found-in, pack-means, pack-unmatched}
 use Rattle.elaboration.specs.Answered.{RefusedAs}
 use Rattle.fing_syntax.specs.Leaves.{op_of, place, spelled}
@@ -114,7 +115,7 @@ types::ty-returns-in-Text-clause-given t c = text-means _ c.phrase.inside.span c
 -- arguments
 
 pub types::ty_args-returns-in-empty-clause-given : goal.types::ty_args-returns-in-empty-clause-given
-types::ty_args-returns-in-empty-clause-given t c = subst (λ xs. ArgTysMean c.args.env.now c.args.operator.ty (kind_tree c.args.operator.kind) (tys xs) c.args.operator.ty (kind_tree c.args.operator.kind)) (sym (none-below c.args.args.now c.in-empty.len_below)) no_args
+types::ty_args-returns-in-empty-clause-given t c = subst (λ xs. ArgTysMean c.args.env.now c.args.operator.ty (kind_tree c.args.operator.kind) (tys xs) c.args.operator.ty (kind_tree c.args.operator.kind)) (sym (empty c.args.args.now c.in-empty.len_below)) no_args
 
 pub types::ty_arg-returns-in_err-expect_operator-clause-refused : goal.types::ty_arg-returns-in_err-expect_operator-clause-refused
 types::ty_arg-returns-in_err-expect_operator-clause-refused t c = exit _ c.from_residual.result c.in_err-expect_operator.field-0.0 c.from_residual.ensures.1 (ty_arg-no_operator c.in_err-expect_operator.ensures.refused)
@@ -154,7 +155,7 @@ pub types::ty_record-returns-clause-given : goal.types::ty_record-returns-clause
 types::ty_record-returns-clause-given t c = ok-map _ c.fields_rule.ensures.given (λ o p. record_type-means c.new-parts.result.items c.ty_fields.new.done.items c.new-parts.ensures.items c.in_ok-ty_fields.ensures.given p)
 
 pub types::ty_fields-returns-in-empty-clause-given : goal.types::ty_fields-returns-in-empty-clause-given
-types::ty_fields-returns-in-empty-clause-given t c = subst (λ fs. TypesLeft c.args.env.now c.args.done.now.items (field_tys fs) c.args.done.now.items) (sym (none-below c.args.fields.now c.in-empty.len_below)) (types-none _ _)
+types::ty_fields-returns-in-empty-clause-given t c = subst (λ fs. TypesLeft c.args.env.now c.args.done.now.items (field_tys fs) c.args.done.now.items) (sym (empty c.args.fields.now c.in-empty.len_below)) (types-none _ _)
 
 pub types::ty_field-returns-in_err-expect_new-clause-refused : goal.types::ty_field-returns-in_err-expect_new-clause-refused
 types::ty_field-returns-in_err-expect_new-clause-refused t c = exit _ c.from_residual.result c.in_err-expect_new.field-0.0 c.from_residual.ensures.1 (ty_field-again {x = spelled c.args.first.now.0} (rw c.deref.ensures.value at c.in_err-expect_new.ensures.refused))
@@ -319,7 +320,7 @@ expressions::exp_get-returns-clause-given t c = ok-at _ c.get_rule.ensures.given
 -- operands
 
 pub expressions::operands-returns-in-empty-clause-given : goal.expressions::operands-returns-in-empty-clause-given
-expressions::operands-returns-in-empty-clause-given t c = subst (λ xs. OpsMean c.args.env.now c.args.left.ty c.args.left.term (ops xs) c.args.left.ty c.args.left.term) (sym (none-below c.args.rest.now c.in-empty.len_below)) no_ops
+expressions::operands-returns-in-empty-clause-given t c = subst (λ xs. OpsMean c.args.env.now c.args.left.ty c.args.left.term (ops xs) c.args.left.ty c.args.left.term) (sym (empty c.args.rest.now c.in-empty.len_below)) no_ops
 
 pub expressions::operand-returns-in_err-expect_int-clause-refused : goal.expressions::operand-returns-in_err-expect_int-clause-refused
 expressions::operand-returns-in_err-expect_int-clause-refused t c = exit _ c.from_residual.result c.in_err-expect_int.field-0.0 c.from_residual.ensures.1 (operand-left c.in_err-expect_int.ensures.refused)
@@ -344,7 +345,7 @@ expressions::operand-returns-clause-given t c =
 -- arguments that are left
 
 pub expressions::arguments-returns-in-empty-clause-given : goal.expressions::arguments-returns-in-empty-clause-given
-expressions::arguments-returns-in-empty-clause-given t c = subst (λ xs. ArgsMean c.args.env.now c.args.function.ty c.args.function.term (args xs) c.args.function.ty c.args.function.term) (sym (none-below c.args.args.now c.in-empty.len_below)) no_arg
+expressions::arguments-returns-in-empty-clause-given t c = subst (λ xs. ArgsMean c.args.env.now c.args.function.ty c.args.function.term (args xs) c.args.function.ty c.args.function.term) (sym (empty c.args.args.now c.in-empty.len_below)) no_arg
 
 pub expressions::value_argument-returns-in_err-expect_arrow-clause-refused : goal.expressions::value_argument-returns-in_err-expect_arrow-clause-refused
 expressions::value_argument-returns-in_err-expect_arrow-clause-refused t c = exit _ c.from_residual.result c.in_err-expect_arrow.field-0.0 c.from_residual.ensures.1 (arg-no_arrow c.in_err-expect_arrow.ensures.refused)
@@ -397,7 +398,7 @@ expressions::type_argument-returns-clause-given t c =
 -- fields
 
 pub expressions::exp_fields-returns-in-empty-clause-given : goal.expressions::exp_fields-returns-in-empty-clause-given
-expressions::exp_fields-returns-in-empty-clause-given t c = subst (λ fs. ExpsLeft c.args.env.now c.args.done.now.items (field_exps fs) c.args.done.now.items) (sym (none-below c.args.fields.now c.in-empty.len_below)) (exps-none _ _)
+expressions::exp_fields-returns-in-empty-clause-given t c = subst (λ fs. ExpsLeft c.args.env.now c.args.done.now.items (field_exps fs) c.args.done.now.items) (sym (empty c.args.fields.now c.in-empty.len_below)) (exps-none _ _)
 
 pub expressions::exp_field-returns-in_err-expect_new-clause-refused : goal.expressions::exp_field-returns-in_err-expect_new-clause-refused
 expressions::exp_field-returns-in_err-expect_new-clause-refused t c = exit _ c.from_residual.result c.in_err-expect_new.field-0.0 c.from_residual.ensures.1 (exp_field-again {x = spelled c.args.first.now.0} (rw c.deref.ensures.value at c.in_err-expect_new.ensures.refused))

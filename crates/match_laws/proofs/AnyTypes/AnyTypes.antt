@@ -18,18 +18,18 @@ use Rattle.signatures.specs.Explicit.WellFormed.{WellFormed, WellFormedRow, Well
 use Rattle.signatures.specs.Signatures.Encoding.{enc}
 use Rattle.signatures.specs.Matching.Subtyping.{Sub, SubFields, SubResult, SubAbs, Match}
 use Rattle.sig_laws.proofs.Algebra.AlikeLaws.{conv_sig-sym, conv_abs-sym, form-conv_sig, form-conv_abs, conv-form_sig, conv-form_abs, conv_sig-gives, conv_abs-gives, form_abs-same, form_sig-normal, form_abs-normal, normal_abs-rename, normal_abs-form, conv_sig-substitute, conv_abs-substitute, substitutes-convertible}
-use Rattle.sig_laws.proofs.Algebra.Instances.{normals_of, puts-convertible, past-substitutes, at-substitutes, under-at-substitutes}
+use Rattle.sig_laws.proofs.Algebra.Instances.{normals_of, past-substitutes, at-substitutes, under-at-substitutes}
 use Rattle.sig_laws.proofs.Formed.WellFormedLaws.{well_formed-kinds, well_formed_abs-kinds, well_formed-conv, well_formed-substitute, explicit-kinds, explicit-conv, explicit_results-substitute, well_formed_abs-substitute, explicit-body}
 use Rattle.match_laws.specs.AnyTypes.{IsSub, AreSubs, IsSubResult, IsSubAbs, Matches, MatchesExactly, MatchSigFinds, MatchSigMatches}
 use Rattle.match_laws.specs.MatchFunction.{Outcome}
 use Rattle.sig_laws.proofs.Formed.Conditions.{IsRight, RightResult, right-functor, left-functor, explicit-right, abs-body, explicit-abs, meta-explicit, str-fields, str-results, row-first, results-first, row-field, param-raised, abs-raised}
-use Rattle.match_laws.proofs.LookUp.Good.{GoodLeft, GoodAbs}
 use Rattle.match_laws.proofs.Function.LookSound.{match_ok}
 use Rattle.match_laws.proofs.Function.FunctionSound.{AbsOk, abs_ok, plain-ok, hidden-ok}
 use Rattle.match_laws.proofs.Theorems.{match_sig_gives}
 use Rattle.match_laws.proofs.AnyTypes.AnyTypesConv.{conv_abs-raise, matches-kinds, sub-conv, match-conv, any-match}
 use Rattle.omega_types.proofs.BinderLaws.{past-maps}
-use Rattle.omega_types.proofs.BinderPuts.{forms-given, forms-types, types-forms, types-kinds, vars-substitutes}
+use Rattle.omega_types.proofs.BinderPuts.{forms-given, forms-types, types-forms, types-kinds, puts-convertible, vars-convertible}
+use Rattle.sig_laws.specs.Good.{OkSig, OkRight}
 
 -- normal forms of raised signatures
 
@@ -38,7 +38,7 @@ raise-normal {x} ctx js c =
     let f = conv_abs-gives c in
     sym (form_abs-same (conv-form_abs (conv_abs-raise ctx js (form-conv_abs f)) (normal_abs-form (extend ctx js) (raise_abs js (normal_abs ctx x)) (normal_abs-rename (past js) (past-maps js ctx) (normal_abs ctx x) (form_abs-normal f)))))
 
-pub good-normal_abs : {ctx : List Kind} {x : Abs} → Explicit ctx x → GoodAbs ctx (normal_abs ctx x)
+pub good-normal_abs : {ctx : List Kind} {x : Abs} → Explicit ctx x → OkRight ctx (normal_abs ctx x)
 good-normal_abs v = let f = conv_abs-gives (explicit-kinds v) in (explicit-conv v (form-conv_abs f), form_abs-normal f)
 
 -- the types of a match may be replaced by their normal forms, and the right side by its
@@ -46,13 +46,13 @@ good-normal_abs v = let f = conv_abs-gives (explicit-kinds v) in (explicit-conv 
 at-normal : {ctx ks : List Kind} {t : Sig} {ts ns : List Ty} → ConvSig (extend ctx ks) t t → NormalForms ctx ts ks ns → OfKinds ctx ts ks → NormalSigForm ctx (sig_at ns (normal_sig (extend ctx ks) t)) (normal_sig ctx (sig_at ts t))
 at-normal {ctx} {ks} {t} {ts} {ns} c fs h =
     let n = form-conv_sig (conv_sig-gives c) in
-    let e = conv_sig-substitute (puts ts Ty.Var) (puts ns Ty.Var) (puts-convertible ctx Ty.Var Ty.Var fs (substitutes-convertible (vars-substitutes ctx))) n in
+    let e = conv_sig-substitute (puts ts Ty.Var) (puts ns Ty.Var) (puts-convertible fs (vars-convertible ctx)) n in
     conv-form_sig (conv_sig-sym e) (conv_sig-gives e)
 
 at_under-normal : {ks : List Kind} {x : Abs} {ts ns : List Ty} (ctx js : List Kind) → ConvAbs (extend ctx ks) x x → NormalForms (extend ctx js) ts ks ns → NormalAbsForm (extend ctx js) (abs_at_under js ns (normal_abs (extend ctx ks) x)) (normal_abs (extend ctx js) (abs_at_under js ts x))
 at_under-normal {ks} {x} {ts} {ns} ctx js c fs =
     let n = form-conv_abs (conv_abs-gives c) in
-    let e = conv_abs-substitute (puts ts (λ i. Ty.Var (past js i))) (puts ns (λ i. Ty.Var (past js i))) (puts-convertible ctx (λ i. Ty.Var (past js i)) (λ i. Ty.Var (past js i)) fs (substitutes-convertible (past-substitutes js ctx))) n in
+    let e = conv_abs-substitute (puts ts (λ i. Ty.Var (past js i))) (puts ns (λ i. Ty.Var (past js i))) (puts-convertible fs (substitutes-convertible (past-substitutes js ctx))) n in
     conv-form_abs (conv_abs-sym e) (conv_abs-gives e)
 
 field-normal : (ctx : List Kind) {fs : SigRow} {l : Name} {s : Sig} → HasField fs l s → HasField (normal_sig_row ctx fs) l (normal_sig ctx s)
@@ -103,7 +103,7 @@ mutual
       let p = to-match m fs.1 (abs-body w) (abs-raised (k ∷ ks) v) in
       let e = raise-normal ctx (k ∷ ks) (explicit-kinds v) in (
         _,
-        abs-of (hidden-ok k ks (normal_abs ctx (Abs.Ex js r)) (subst (GoodAbs (extend ctx (k ∷ ks))) e (good-normal_abs (abs-raised (k ∷ ks) v)))
+        abs-of (hidden-ok k ks (normal_abs ctx (Abs.Ex js r)) (subst (OkRight (extend ctx (k ∷ ks))) e (good-normal_abs (abs-raised (k ∷ ks) v)))
             (match_ok (subst (λ y. Match (extend ctx (k ∷ ks)) (normal_sig (extend ctx (k ∷ ks)) s) y fs.0 p.0) e p.1))),
       )
 
@@ -122,12 +122,12 @@ from-normal {ctx} {ks} {s} {t} w v m =
 
 of-forms : {ctx ks : List Kind} {s t : Sig} {ts ns : List Ty} → ConvSig ctx s s → ConvSig (extend ctx ks) t t → NormalForms ctx ts ks ns → Matches ctx s (Abs.Ex ks t) ns → Matches ctx s (Abs.Ex ks t) ts
 of-forms {ctx} {ts = ts} {ns = ns} c e fs (Matches.at h d) = Matches.at (forms-given fs)
-    (sub-conv d c (conv_sig-sym (conv_sig-substitute (puts ts Ty.Var) (puts ns Ty.Var) (puts-convertible ctx Ty.Var Ty.Var fs (substitutes-convertible (vars-substitutes ctx))) e)))
+    (sub-conv d c (conv_sig-sym (conv_sig-substitute (puts ts Ty.Var) (puts ns Ty.Var) (puts-convertible fs (vars-convertible ctx)) e)))
 
 pub matches_exactly : MatchesExactly
 matches_exactly ctx ks s t ts ns w v fs = (λ m. to-match m fs w v, λ q. of-forms (well_formed-kinds w) (explicit-body v) fs (from-normal w v q.1))
 
-pub good-normal_sig : {ctx : List Kind} {s : Sig} → WellFormed ctx s → GoodLeft ctx (normal_sig ctx s)
+pub good-normal_sig : {ctx : List Kind} {s : Sig} → WellFormed ctx s → OkSig ctx (normal_sig ctx s)
 good-normal_sig w = let f = conv_sig-gives (well_formed-kinds w) in (well_formed-conv w (form-conv_sig f), form_sig-normal f)
 
 pub match_sig_finds : MatchSigFinds

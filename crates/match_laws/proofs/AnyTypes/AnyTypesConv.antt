@@ -11,23 +11,22 @@ use Rattle.signatures.specs.Signatures.Sig.{Sig, Abs, SigRow, here}
 use Rattle.signatures.specs.Signatures.SigSubst.{raise_abs, sig_at, abs_at_under}
 use Rattle.signatures.specs.Signatures.Alike.{AlikeRow, val, typ, meta, str, fun, ex, end, more, ConvBetween, ConvSig, ConvAbs}
 use Rattle.signatures.specs.Matching.Subtyping.{Sub, SubFields, SubResult, SubAbs, Match}
-use Rattle.sig_laws.proofs.Algebra.SigAlgebra.{substitute-vars_abs}
 use Rattle.sig_laws.proofs.Algebra.AlikeLaws.{conv_sig-sym, conv_abs-sym, form-conv_sig, form-conv_abs, conv_sig-substitute, conv_abs-substitute, substitutes-convertible}
 use Rattle.sig_laws.proofs.Algebra.Instances.{guess-form, at-substitutes, under-at-substitutes}
 use Rattle.sig_laws.proofs.Algebra.PathLaws.{field-alike}
-use Rattle.sig_laws.proofs.Formed.WellFormedLaws.{well_formed-kinds, explicit-kinds, maps-substitutes, explicit-body}
+use Rattle.sig_laws.proofs.Formed.WellFormedLaws.{well_formed-kinds, explicit-kinds, explicit-body, conv_abs-rename}
 use Rattle.match_laws.specs.AnyTypes.{IsSub, AreSubs, IsSubResult, IsSubAbs, Matches}
-use Rattle.match_laws.proofs.OneMatch.Agree.{carry}
 use Rattle.sig_laws.proofs.Formed.Conditions.{RightResult, match-kinds}
-use Rattle.match_laws.proofs.LookUp.Good.{GoodLeft, GoodRight, GoodAbs, GoodLeftAbs, GoodResult, good-param, good-left_result, good-right_param, good-right_result, good-pure, good-impure, good-body, good-at, good-raised, good-left_field, good-right_field, good-meta, good-rest, explicit-left}
+use Rattle.match_laws.proofs.LookUp.Good.{GoodResult, good-param, good-left_result, good-right_param, good-right_result, good-pure, good-impure, good-body, good-at, good-raised, good-left_field, good-right_field, good-meta, good-rest, explicit-left}
 use Rattle.omega_types.proofs.BinderLaws.{past-maps}
 use Rattle.omega_types.proofs.BinderPuts.{forms-types, types-kinds}
+use Rattle.sig_laws.specs.Good.{OkSig, OkAbs, OkRight}
+use Rattle.match_laws.specs.MatchClaims.{IsRightSig}
 
 -- conversion under renaming
 
 pub conv_abs-raise : {x y : Abs} (ctx js : List Kind) → ConvAbs ctx x y → ConvAbs (extend ctx js) (raise_abs js x) (raise_abs js y)
-conv_abs-raise {x} {y} ctx js c = carry (ConvAbs (extend ctx js)) (substitute-vars_abs (past js) x) (substitute-vars_abs (past js) y)
-    (conv_abs-substitute (λ i. Ty.Var (past js i)) (λ i. Ty.Var (past js i)) (substitutes-convertible (maps-substitutes (past-maps js ctx))) c)
+conv_abs-raise ctx js c = conv_abs-rename (past js) (past-maps js ctx) c
 
 pub conv-at : {ctx ks : List Kind} {t u : Sig} {ts : List Ty} → OfKinds ctx ts ks → ConvSig (extend ctx ks) t u → ConvSig ctx (sig_at ts t) (sig_at ts u)
 conv-at {ts = ts} h c = conv_sig-substitute (puts ts Ty.Var) (puts ts Ty.Var) (substitutes-convertible (at-substitutes h)) c
@@ -71,7 +70,7 @@ right-kinds (RightResult.pure w v) = ex (well_formed-kinds w)
 right-kinds (RightResult.impure x) = explicit-kinds x
 
 mutual
-  pub any-sub : {ctx : List Kind} {s r : Sig} {f : Term} → Sub ctx s r f → GoodLeft ctx s → GoodRight ctx r → IsSub ctx s r
+  pub any-sub : {ctx : List Kind} {s r : Sig} {f : Term} → Sub ctx s r f → OkSig ctx s → IsRightSig ctx r → IsSub ctx s r
   any-sub Sub.val w v = IsSub.val (c_refl (normal-kind w.1))
   any-sub Sub.typ w v = IsSub.typ (c_refl (normal-kind w.1))
   any-sub (Sub.meta a b) w v =
@@ -82,19 +81,19 @@ mutual
   any-sub (Sub.fun {ctx = ctx} {js = js} m n r) w v = IsSub.fun (any-match m (good-right_param v) (good-param js w))
       (result-conv (any-result r (good-left_result ctx js w (match-kinds m) n) (good-right_result v)) (conv_abs-sym (form-conv_abs n)) (right-kinds (good-right_result v).0))
 
-  pub any-fields : {ctx : List Kind} {fs gs : SigRow} {f : TermRow} → SubFields ctx fs gs f → GoodLeft ctx (Sig.Str fs) → GoodRight ctx (Sig.Str gs) → AreSubs ctx fs gs
+  pub any-fields : {ctx : List Kind} {fs gs : SigRow} {f : TermRow} → SubFields ctx fs gs f → OkSig ctx (Sig.Str fs) → IsRightSig ctx (Sig.Str gs) → AreSubs ctx fs gs
   any-fields SubFields.end w v = AreSubs.end
   any-fields (SubFields.more h a rest) w v = AreSubs.more h (any-sub a (good-left_field w h) (good-right_field v here)) (any-fields rest w (good-rest v))
 
-  pub any-result : {ctx : List Kind} {e d : Effect} {x z : Abs} {f : Term} → SubResult ctx e d x z f → GoodLeftAbs ctx x → GoodResult ctx d z → IsSubResult ctx e d x z
+  pub any-result : {ctx : List Kind} {e d : Effect} {x z : Abs} {f : Term} → SubResult ctx e d x z f → OkAbs ctx x → GoodResult ctx d z → IsSubResult ctx e d x z
   any-result (SubResult.both_pure a) w v = IsSubResult.both_pure (any-sub a (good-body w) (good-pure v))
   any-result (SubResult.to_impure a) w v = IsSubResult.to_impure (any-abs a w (good-impure v))
 
-  pub any-abs : {ctx : List Kind} {x y : Abs} {f : Term} → SubAbs ctx x y f → GoodLeftAbs ctx x → GoodAbs ctx y → IsSubAbs ctx x y
+  pub any-abs : {ctx : List Kind} {x y : Abs} {f : Term} → SubAbs ctx x y f → OkAbs ctx x → OkRight ctx y → IsSubAbs ctx x y
   any-abs (SubAbs.plain m p) w v = IsSubAbs.plain (any-match m (good-body w) v)
   any-abs (SubAbs.hidden {ks = ks} {k = k} m p) w v = IsSubAbs.hidden (any-match m (good-body w) (good-raised (k ∷ ks) v))
 
-  pub any-match : {ctx : List Kind} {s : Sig} {x : Abs} {ts : List Ty} {f : Term} → Match ctx s x ts f → GoodLeft ctx s → GoodAbs ctx x → Matches ctx s x ts
+  pub any-match : {ctx : List Kind} {s : Sig} {x : Abs} {ts : List Ty} {f : Term} → Match ctx s x ts f → OkSig ctx s → OkRight ctx x → Matches ctx s x ts
   any-match (Match.at o forms n a) w v =
       let c = explicit-body v.0 in
       let h = types-kinds (forms-types forms) in

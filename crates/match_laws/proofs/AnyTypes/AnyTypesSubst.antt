@@ -1,9 +1,9 @@
 -- Matching on any types is closed under substitution.
-use Rattle.std.specs.Prelude.{ℕ, zero, suc, ◌<◌, List, [], ◌∷◌, ◌≡◌, ◌⊎◌, length}
+use Rattle.std.specs.Prelude.{ℕ, zero, ◌<◌, List, [], ◌∷◌, ◌≡◌, ◌⊎◌, length}
 use Rattle.std.proofs.Math.Logic.{inl, inr}
 use Rattle.std.proofs.Common.{arith}
 use Rattle.std.proofs.Math.Decide.{dec_lt}
-use Rattle.std.proofs.Math.Path.{refl, sym, ◌∙◌, ap, subst, fun_ext}
+use Rattle.std.proofs.Math.Path.{sym, ◌∙◌, ap, subst, fun_ext}
 use Rattle.omega_kinds.specs.Kind.{Kind}
 use Rattle.omega_kinds.specs.declared.effect.Effect.{Effect}
 use Rattle.omega_types.specs.Ty.{Ty}
@@ -13,14 +13,15 @@ use Rattle.omega_types.proofs.Algebra.{substitute-rename, substitute-vars}
 use Rattle.omega_types.proofs.Preservation.{Substitutes, conv-substitute, kind-substitute}
 use Rattle.signatures.specs.Signatures.Sig.{Sig, Abs, SigRow}
 use Rattle.signatures.specs.Signatures.SigSubst.{substitute_sig, substitute_abs, substitute_sig_row, raise_abs, sig_at, abs_at_under}
-use Rattle.sig_laws.proofs.Algebra.BinderLaws.{unders-past, past-length, puts-past, all_substituted, substitute-puts}
+use Rattle.sig_laws.proofs.Algebra.BinderLaws.{unders-past, past-length, puts-past, all_substituted}
 use Rattle.sig_laws.proofs.Algebra.SigAlgebra.{substitute-rename_abs, rename-substitute_abs, substitute-substitute_sig, substitute-substitute_abs}
 use Rattle.sig_laws.proofs.Algebra.Instances.{kinds-length}
 use Rattle.sig_laws.proofs.Algebra.Own.{split_index, unders-below}
 use Rattle.sig_laws.proofs.Algebra.PathLaws.{field-substitute}
 use Rattle.match_laws.specs.AnyTypes.{IsSub, AreSubs, IsSubResult, IsSubAbs, Matches, MatchesSubstitute}
 use Rattle.match_laws.proofs.AnyTypes.AnyTypesConv.{matches-kinds}
-use Rattle.omega_types.proofs.BinderPuts.{unders-substitutes}
+use Rattle.omega_types.proofs.BinderPuts.{unders-substitutes, substitute-puts}
+use Rattle.std.proofs.lemmas.List.{length-map}
 
 -- substitution past binders
 
@@ -36,10 +37,6 @@ puts-inside (t ∷ ts) s q i h = go (puts-inside ts (front t s) (front t q) i) (
     go f (yes g) = f g
     go f (no n) = puts-past ts (front t s) zero i (omega (arith, h, n)) ∙ sym (puts-past ts (front t q) zero i (omega (arith, h, n)))
 
-length-substituted : (f : ℕ → Ty) (ts : List Ty) → length (all_substituted f ts) ≡ length ts
-length-substituted f [] = refl
-length-substituted f (t ∷ ts) = ap suc (length-substituted f ts)
-
 -- substituting after the types are put in, or before
 puts-substituted : (ks js : List Kind) (ts : List Ty) (f : ℕ → Ty) → length ts ≡ length ks
     → Path (ℕ → Ty) (λ i. substitute (unders js f) (puts ts (λ i. Ty.Var (past js i)) i)) (λ i. substitute (puts (all_substituted (unders js f) ts) (λ i. Ty.Var (past js i))) (unders ks f i))
@@ -47,11 +44,11 @@ puts-substituted ks js ts f e = substitute-puts (unders js f) ts (λ i. Ty.Var (
   where
     each : (i : ℕ) → (i < length ks) ⊎ ((j : ℕ) × (i ≡ past ks j)) → puts (all_substituted (unders js f) ts) (λ i. unders js f (past js i)) i ≡ substitute (puts (all_substituted (unders js f) ts) (λ i. Ty.Var (past js i))) (unders ks f i)
     each i (inl h) =
-        let l = length-substituted (unders js f) ts in
+        let l = length-map ts (substitute (unders js f)) in
         puts-inside (all_substituted (unders js f) ts) (λ i. unders js f (past js i)) (λ i. Ty.Var (past js i)) i (omega (arith, h, l, e)) ∙
         sym (ap (substitute (puts (all_substituted (unders js f) ts) (λ i. Ty.Var (past js i)))) (unders-below ks f i h))
     each i (inr (j, g)) =
-        let l = length-substituted (unders js f) ts in
+        let l = length-map ts (substitute (unders js f)) in
         let p = past-length ks j in
         (puts-past (all_substituted (unders js f) ts) (λ i. unders js f (past js i)) j i (omega (arith, g, l, p, e)) ∙ unders-past js f j) ∙
         sym (ap (λ u. substitute (puts (all_substituted (unders js f) ts) (λ i. Ty.Var (past js i))) u) (ap (unders ks f) g ∙ unders-past ks f j) ∙

@@ -15,11 +15,11 @@ use Rattle.sig_laws.proofs.Algebra.AlikeLaws.{conv_abs-sym, form-conv_abs, form_
 use Rattle.sig_laws.proofs.Formed.WellFormedLaws.{well_formed_abs-kinds, well_formed_abs-conv, explicit-kinds}
 use Rattle.signatures.specs.Matching.MatchRefusal.{MatchRefusal, RefusesMatch}
 use Rattle.match_laws.specs.MatchFunction.{MatchOutcome, match_sig}
-use Rattle.match_laws.proofs.LookUp.Good.{GoodLeftAbs}
 use Rattle.match_laws.proofs.Theorems.{match_or_refusal, match_sig_gives, sub_abs_gives}
 use Rattle.match_laws.specs.AnyTypes.{Matches, MatchSigRefuses, SubAbsFinds}
 use Rattle.match_laws.proofs.AnyTypes.AnyTypesConv.{any-abs, abs-conv}
 use Rattle.match_laws.proofs.AnyTypes.AnyTypes.{good-normal_abs, good-normal_sig, match_sig_finds, match_sig_matches, to-abs}
+use Rattle.sig_laws.specs.Good.{OkAbs}
 
 abbrev number_of : MatchOutcome → ℕ
 number_of (MatchOutcome.matched ts f) = 0
@@ -38,7 +38,7 @@ match_sig_refuses ctx ks s t w v = (never, give)
         go (inl m) = absurd (n m.0 (match_sig_matches ctx ks s t m.0 m.1 w v (((match_sig_gives ctx (normal_sig ctx s) (Abs.Ex ks (normal_sig (extend ctx ks) t)) (good-normal_sig w) (good-normal_abs v)).0 m.0 m.1).1 m.2)))
         go (inr r) = (r.0, ((match_sig_gives ctx (normal_sig ctx s) (Abs.Ex ks (normal_sig (extend ctx ks) t)) (good-normal_sig w) (good-normal_abs v)).1 r.0).1 r.1)
 
-good-left_abs : {ctx : List Kind} {x : Abs} → WellFormedAbs ctx x → GoodLeftAbs ctx (normal_abs ctx x)
+good-left_abs : {ctx : List Kind} {x : Abs} → WellFormedAbs ctx x → OkAbs ctx (normal_abs ctx x)
 good-left_abs w = let f = conv_abs-gives (well_formed_abs-kinds w) in (well_formed_abs-conv w (form-conv_abs f), form_abs-normal f)
 
 pub sub_abs_finds : SubAbsFinds

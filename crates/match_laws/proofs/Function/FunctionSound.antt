@@ -22,7 +22,7 @@ use Rattle.signatures.specs.Explicit.WellFormed.{WellFormed}
 use Rattle.signatures.specs.Matching.Subtyping.{Sub, SubFields, SubResult, SubAbs, Match}
 use Rattle.sig_laws.proofs.Algebra.AlikeLaws.{conv_abs-gives, conv_abs-substitute, substitutes-convertible}
 use Rattle.sig_laws.proofs.Encoded.EncodingLaws.{enc_abs-normal, enc_abs-rename}
-use Rattle.omega_types.proofs.BinderPuts.{NormalTypes, types-forms, types-kinds}
+use Rattle.omega_types.proofs.BinderPuts.{NormalTypes, types-forms, types-kinds, fits-length, types-fit}
 use Rattle.sig_laws.proofs.Algebra.Instances.{under-at-substitutes}
 use Rattle.sig_laws.proofs.Algebra.SizeLaws.{size-substitute, size_abs-substitute, size_abs-rename, size-alike, size_abs-alike, field-size}
 use Rattle.sig_laws.proofs.Formed.WellFormedLaws.{well_formed_abs-kinds, explicit-body}
@@ -32,9 +32,11 @@ use Rattle.sig_laws.specs.Decide.{dec_ty}
 use Rattle.match_laws.specs.MatchFunction.{Outcome, FieldsOutcome, MatchOutcome, Lookings, SubFn, AbsFn, Fns, with_types, compare_all, match_step, pack_up, plain_up, hidden_up, abs_step, where_same, where_both_same, both_ways, part_then, field_then, fields_step, fields_up, result_up, param_up, sub_step, fns, sub_sig, sub_abs, match_sig}
 use Rattle.match_laws.proofs.OneMatch.Views.{match-view}
 use Rattle.sig_laws.proofs.Formed.Conditions.{left-functor, match-kinds}
-use Rattle.match_laws.proofs.LookUp.Good.{GoodLeft, GoodRight, GoodAbs, GoodLeftAbs, good-param, good-left_result, good-right_param, good-right_result, good-pure, good-impure, good-body, good-at, good-raised, good-left_field, good-right_field, good-meta, good-rest, explicit-left}
+use Rattle.match_laws.proofs.LookUp.Good.{good-param, good-left_result, good-right_param, good-right_result, good-pure, good-impure, good-body, good-at, good-raised, good-left_field, good-right_field, good-meta, good-rest, explicit-left}
 use Rattle.match_laws.proofs.Function.PackUp.{pack_up-packs}
 use Rattle.match_laws.proofs.Function.LookSound.{FieldOk, has, lacks, find_field-ok, MatchOk, match_ok, refusal_ok, MatchSound, at-form, LookingsOk, found_ok, stop_ok, look_all-ok}
+use Rattle.sig_laws.specs.Good.{OkSig, OkAbs, OkRight}
+use Rattle.match_laws.specs.MatchClaims.{IsRightSig}
 
 -- what an outcome is to be
 
@@ -55,10 +57,10 @@ data ResultOk (ctx : List Kind) (e d : Effect) (x z : Abs) : Outcome → Type 0 
   result_no : {q : MatchRefusal} → RefusesResult ctx e d x z q → ResultOk ctx e d x z (Outcome.refused q)
 
 abbrev pub SubSound : SubFn → ℕ → Type 0
-SubSound f n = (ctx : List Kind) (s r : Sig) → size s + size r < n → GoodLeft ctx s → GoodRight ctx r → SubOk ctx s r (f ctx s r)
+SubSound f n = (ctx : List Kind) (s r : Sig) → size s + size r < n → OkSig ctx s → IsRightSig ctx r → SubOk ctx s r (f ctx s r)
 
 abbrev pub AbsSound : AbsFn → ℕ → Type 0
-AbsSound f n = (ctx : List Kind) (x y : Abs) → size_abs x + size_abs y < n → GoodLeftAbs ctx x → GoodAbs ctx y → AbsOk ctx x y (f ctx x y)
+AbsSound f n = (ctx : List Kind) (x y : Abs) → size_abs x + size_abs y < n → OkAbs ctx x → OkRight ctx y → AbsOk ctx x y (f ctx x y)
 
 abbrev pub FnsSound : Fns → ℕ → Type 0
 FnsSound F n = SubSound F.0 n × AbsSound F.1 n × MatchSound F.2 n
@@ -69,15 +71,11 @@ with_types-ok : {ctx ks : List Kind} {s r n : Sig} {ts : List Ty} {o : Outcome} 
 with_types-ok l n f e (sub_ok d) = match_ok (Match.at (types-kinds n) (types-forms n) f d)
 with_types-ok l n f e (sub_no q) = refusal_ok (RefusesMatch.inside l e f q)
 
-compare_all-ok : {ctx ks : List Kind} {s r : Sig} {o : Lookings} (f : SubFn) (n : ℕ) → SubSound f n → size s + size r < n → GoodLeft ctx s → GoodAbs ctx (Abs.Ex ks r) → LookingsOk ctx s ks r [] o → MatchOk ctx s (Abs.Ex ks r) (compare_all f ctx s r o)
+compare_all-ok : {ctx ks : List Kind} {s r : Sig} {o : Lookings} (f : SubFn) (n : ℕ) → SubSound f n → size s + size r < n → OkSig ctx s → OkRight ctx (Abs.Ex ks r) → LookingsOk ctx s ks r [] o → MatchOk ctx s (Abs.Ex ks r) (compare_all f ctx s r o)
 compare_all-ok {ctx} {ks} {s} {r} f n h lt w v (found_ok {ts = ts} {rest = rest} e l b) =
     let nf = at-form v (types-kinds b) in
     let sz = sym (size-alike nf) ∙ size-substitute (puts ts Ty.Var) r in
-    with_types-ok (subst (Looked ctx s ks r) (sym e) l) b nf (types-length b) (h ctx s (normal_sig ctx (sig_at ts r)) (omega (arith, lt, sz)) w (good-at v (types-kinds b) nf))
-  where
-    types-length : {ts : List Ty} {js : List Kind} → NormalTypes ctx ts js → length ts ≡ length js
-    types-length NormalTypes.none = refl
-    types-length (NormalTypes.next m ms) = ap suc (types-length ms)
+    with_types-ok (subst (Looked ctx s ks r) (sym e) l) b nf (fits-length (types-fit b)) (h ctx s (normal_sig ctx (sig_at ts r)) (omega (arith, lt, sz)) w (good-at v (types-kinds b) nf))
 compare_all-ok {ctx} {ks} {s} {r} f n h lt w v (stop_ok {ts = ts} {p = p} e l g small root stop) =
     refusal_ok (subst (λ z. RefusesMatch ctx s (Abs.Ex ks r) (NoRoot z p)) (sym g) (RefusesMatch.no_root (subst (Looked ctx s ks r) (sym e) l) small root stop))
 
@@ -86,17 +84,17 @@ match_step-ok F n h ctx s (Abs.Ex ks r) lt w v = compare_all-ok F.0 n h.0 (omega
 
 -- subtyping of abstract signatures
 
-encoded-normal : {ctx ks : List Kind} {r : Sig} → GoodAbs ctx (Abs.Ex ks r) → Normal ctx (ex_over ks (enc r)) Kind.Star
+encoded-normal : {ctx ks : List Kind} {r : Sig} → OkRight ctx (Abs.Ex ks r) → Normal ctx (ex_over ks (enc r)) Kind.Star
 encoded-normal v = enc_abs-normal v.0 v.1
 
-pub plain-ok : {ctx : List Kind} {s : Sig} (y : Abs) {o : MatchOutcome} → GoodAbs ctx y → MatchOk ctx s y o → AbsOk ctx (Abs.Ex [] s) y (plain_up (enc s) (enc_abs y) o)
+pub plain-ok : {ctx : List Kind} {s : Sig} (y : Abs) {o : MatchOutcome} → OkRight ctx y → MatchOk ctx s y o → AbsOk ctx (Abs.Ex [] s) y (plain_up (enc s) (enc_abs y) o)
 plain-ok (Abs.Ex ks r) v (match_ok {ts = ts} {f = f} m) = abs_ok (SubAbs.plain m (MatchPart.made (pack_up-packs (Term.Call f (Term.Var zero)) (enc r) (types-of v m) (encoded-normal v))))
   where
-    types-of : {ctx : List Kind} {s : Sig} → GoodAbs ctx (Abs.Ex ks r) → Match ctx s (Abs.Ex ks r) ts f → NormalTypes ctx ts ks
+    types-of : {ctx : List Kind} {s : Sig} → OkRight ctx (Abs.Ex ks r) → Match ctx s (Abs.Ex ks r) ts f → NormalTypes ctx ts ks
     types-of v m = (match-view (explicit-body v.0) m).1
 plain-ok (Abs.Ex ks r) v (refusal_ok q) = abs_no (RefusesSubAbs.plain q)
 
-pub hidden-ok : {ctx : List Kind} {s : Sig} (k : Kind) (ks : List Kind) (y : Abs) {o : MatchOutcome} → GoodAbs (extend ctx (k ∷ ks)) (raise_abs (k ∷ ks) y) → MatchOk (extend ctx (k ∷ ks)) s (raise_abs (k ∷ ks) y) o → AbsOk ctx (Abs.Ex (k ∷ ks) s) y (hidden_up (enc_abs (Abs.Ex (k ∷ ks) s)) (k ∷ ks) (raise (k ∷ ks) (enc_abs y)) o)
+pub hidden-ok : {ctx : List Kind} {s : Sig} (k : Kind) (ks : List Kind) (y : Abs) {o : MatchOutcome} → OkRight (extend ctx (k ∷ ks)) (raise_abs (k ∷ ks) y) → MatchOk (extend ctx (k ∷ ks)) s (raise_abs (k ∷ ks) y) o → AbsOk ctx (Abs.Ex (k ∷ ks) s) y (hidden_up (enc_abs (Abs.Ex (k ∷ ks) s)) (k ∷ ks) (raise (k ∷ ks) (enc_abs y)) o)
 hidden-ok {ctx} {s} k ks (Abs.Ex js r) v (match_ok {ts = ts} {f = f} m) =
     let p = pack_up-packs (Term.Call f (Term.Var zero)) _ (match-view (explicit-body v.0) m).1 (encoded-normal v) in
     abs_ok (SubAbs.hidden m (AbsPart.made (subst (λ u. Packs (extend ctx (k ∷ ks)) ts (Term.Call f (Term.Var zero)) u (pack_up ts (Term.Call f (Term.Var zero)) u)) (enc_abs-rename (past (k ∷ ks)) (Abs.Ex js r)) p)))
@@ -136,7 +134,7 @@ field_then-ok : {ctx : List Kind} {fs gs : SigRow} {l : Name} {t : Sig} {a : Opt
 field_then-ok f (lacks n) k c = fields_no (RefusesFields.missing n)
 field_then-ok f (has {s = s} h) k c = part_then-ok h (k s h) c
 
-fields_step-ok : (f : SubFn) (n : ℕ) → SubSound f n → (ctx : List Kind) (fs gs : SigRow) → size_row fs + size_row gs < n → GoodLeft ctx (Sig.Str fs) → GoodRight ctx (Sig.Str gs) → FieldsOk ctx fs gs (fields_step f ctx fs gs)
+fields_step-ok : (f : SubFn) (n : ℕ) → SubSound f n → (ctx : List Kind) (fs gs : SigRow) → size_row fs + size_row gs < n → OkSig ctx (Sig.Str fs) → IsRightSig ctx (Sig.Str gs) → FieldsOk ctx fs gs (fields_step f ctx fs gs)
 fields_step-ok f n h ctx fs SigRow.End lt w v = fields_ok SubFields.end
 fields_step-ok f n h ctx fs (SigRow.More l t gs) lt w v =
     field_then-ok f (find_field-ok l fs) (λ s g. let e = field-size g in h ctx s t (omega (arith, lt, e)) (good-left_field w g) (good-right_field v here)) (fields_step-ok f n h ctx fs gs (omega arith) w (good-rest v))
@@ -164,12 +162,12 @@ param_up-ok k a (refusal_ok q) h = sub_no (RefusesSub.params a q)
 param_up-ok k a (match_ok {ts = ts} {f = f} m) h = h ts f m
 
 -- the left result at the types of the parameter's match
-left-form : {ctx ks : List Kind} (js : List Kind) {e : Effect} {s t : Sig} {x : Abs} {ts : List Ty} {g : Term} → GoodLeft ctx (Sig.Fun e ks s x) → Match (extend ctx js) t (raise_abs js (Abs.Ex ks s)) ts g → NormalAbsForm (extend ctx js) (abs_at_under js ts x) (normal_abs (extend ctx js) (abs_at_under js ts x))
+left-form : {ctx ks : List Kind} (js : List Kind) {e : Effect} {s t : Sig} {x : Abs} {ts : List Ty} {g : Term} → OkSig ctx (Sig.Fun e ks s x) → Match (extend ctx js) t (raise_abs js (Abs.Ex ks s)) ts g → NormalAbsForm (extend ctx js) (abs_at_under js ts x) (normal_abs (extend ctx js) (abs_at_under js ts x))
 left-form {ctx} {ks} js {e} {s} {t} {x} {ts} w m =
     let f = puts ts (λ i. Ty.Var (past js i)) in
     conv_abs-gives (conv_abs-substitute f f (substitutes-convertible (under-at-substitutes ctx js (match-kinds m))) (well_formed_abs-kinds (left-functor w.0).1))
 
-to_impure-step : (F : Fns) (n : ℕ) → FnsSound F n → (ctx : List Kind) (e : Effect) (ks js : List Kind) (s t : Sig) (x z : Abs) → (size s + size_abs x) + (size t + size_abs z) < n → MayStandFor e Impure → GoodLeft ctx (Sig.Fun e ks s x) → GoodRight ctx (Sig.Fun Impure js t z)
+to_impure-step : (F : Fns) (n : ℕ) → FnsSound F n → (ctx : List Kind) (e : Effect) (ks js : List Kind) (s t : Sig) (x z : Abs) → (size s + size_abs x) + (size t + size_abs z) < n → MayStandFor e Impure → OkSig ctx (Sig.Fun e ks s x) → IsRightSig ctx (Sig.Fun Impure js t z)
     → SubOk ctx (Sig.Fun e ks s x) (Sig.Fun Impure js t z)
     (param_up (λ ts f. result_up (λ g. functor_part (enc (Sig.Fun e ks s x)) e Impure js (enc t) ts f g) (F.1 (extend ctx js) (normal_abs (extend ctx js) (abs_at_under js ts x)) z))
     (F.2 (extend ctx js) t (raise_abs js (Abs.Ex ks s))))
@@ -180,7 +178,7 @@ to_impure-step F n h ctx e ks js s t (Abs.Ex is c) z lt a w v =
     let g = sym (size_abs-alike nf) ∙ size_abs-substitute (puts ts (λ i. Ty.Var (past js i))) (Abs.Ex is c) in
     result_up-ok a m nf (to_impure-ok (h.1 (extend ctx js) (normal_abs (extend ctx js) (abs_at_under js ts (Abs.Ex is c))) z (omega (arith, lt, g)) (good-left_result ctx js w (match-kinds m) nf) (good-impure (good-right_result v)))))
 
-both_pure-step : (F : Fns) (n : ℕ) → FnsSound F n → (ctx : List Kind) (ks js : List Kind) (s t a b : Sig) → (size s + suc (size a)) + (size t + suc (size b)) < n → GoodLeft ctx (Sig.Fun Pure ks s (Abs.Ex [] a)) → GoodRight ctx (Sig.Fun Pure js t (Abs.Ex [] b))
+both_pure-step : (F : Fns) (n : ℕ) → FnsSound F n → (ctx : List Kind) (ks js : List Kind) (s t a b : Sig) → (size s + suc (size a)) + (size t + suc (size b)) < n → OkSig ctx (Sig.Fun Pure ks s (Abs.Ex [] a)) → IsRightSig ctx (Sig.Fun Pure js t (Abs.Ex [] b))
     → SubOk ctx (Sig.Fun Pure ks s (Abs.Ex [] a)) (Sig.Fun Pure js t (Abs.Ex [] b))
     (param_up (λ ts f. result_up (λ g. functor_part (enc (Sig.Fun Pure ks s (Abs.Ex [] a))) Pure Pure js (enc t) ts f g) (F.0 (extend ctx js) (normal_sig (extend ctx js) (sig_at_under js ts a)) b))
     (F.2 (extend ctx js) t (raise_abs js (Abs.Ex ks s))))
@@ -226,11 +224,11 @@ pub fns-ok : (n : ℕ) → FnsSound (fns n) n
 fns-ok zero = (λ ctx s r lt w v. absurd (omega (arith, lt)), λ ctx x y lt w v. absurd (omega (arith, lt)), λ ctx s x lt w v. absurd (omega (arith, lt)))
 fns-ok (suc n) = let h = fns-ok n in (sub_step-ok (fns n) n h, abs_step-ok (fns n) n h, match_step-ok (fns n) n h)
 
-pub sub_sig-ok : (ctx : List Kind) (s r : Sig) → GoodLeft ctx s → GoodRight ctx r → SubOk ctx s r (sub_sig ctx s r)
+pub sub_sig-ok : (ctx : List Kind) (s r : Sig) → OkSig ctx s → IsRightSig ctx r → SubOk ctx s r (sub_sig ctx s r)
 sub_sig-ok ctx s r w v = (fns-ok (suc (size s + size r))).0 ctx s r (omega arith) w v
 
-pub sub_abs-ok : (ctx : List Kind) (x y : Abs) → GoodLeftAbs ctx x → GoodAbs ctx y → AbsOk ctx x y (sub_abs ctx x y)
+pub sub_abs-ok : (ctx : List Kind) (x y : Abs) → OkAbs ctx x → OkRight ctx y → AbsOk ctx x y (sub_abs ctx x y)
 sub_abs-ok ctx x y w v = (fns-ok (suc (size_abs x + size_abs y))).1 ctx x y (omega arith) w v
 
-pub match_sig-ok : (ctx : List Kind) (s : Sig) (x : Abs) → GoodLeft ctx s → GoodAbs ctx x → MatchOk ctx s x (match_sig ctx s x)
+pub match_sig-ok : (ctx : List Kind) (s : Sig) (x : Abs) → OkSig ctx s → OkRight ctx x → MatchOk ctx s x (match_sig ctx s x)
 match_sig-ok ctx s x w v = (fns-ok (suc (size s + size_abs x))).2 ctx s x (omega arith) w v

@@ -1,8 +1,8 @@
 -- The functions that look up find what there is to find.
 use Rattle.std.specs.Prelude.{ℕ, ◌+◌, ◌<◌, List, [], ◌∷◌, ◌++◌, ◌≡◌, Option, Some, None, length}
 use Rattle.std.proofs.Common.{arith}
-use Rattle.std.proofs.Math.Path.{refl, sym, ◌∙◌, ap, subst}
-use Rattle.std.proofs.lemmas.List.{length-append}
+use Rattle.std.proofs.Math.Path.{refl, sym, ◌∙◌, ap, subst, subst₂}
+use Rattle.std.proofs.lemmas.List.{length-append, append-nil}
 use Rattle.omega_kinds.specs.Kind.{Kind, Kind-discrete}
 use Rattle.omega_kinds.specs.declared.effect.Effect.TheVariants.{Pure}
 use Rattle.omega_kinds.specs.Name.{Name}
@@ -16,10 +16,10 @@ use Rattle.signatures.specs.Signatures.SigSize.{size, size_abs}
 use Rattle.sig_laws.specs.NormalSig.{normal_sig}
 use Rattle.signatures.specs.Signatures.Alike.{NormalSigForm, ex}
 use Rattle.signatures.specs.Explicit.SigPath.{SigPath, Item}
-use Rattle.signatures.specs.Explicit.RootPath.{RootPath, LeastRoot, least}
+use Rattle.signatures.specs.Explicit.RootPath.{LeastRoot}
 use Rattle.signatures.specs.Matching.Subtyping.{Match}
 use Rattle.sig_laws.proofs.Algebra.AlikeLaws.{form_sig-same, conv_sig-gives, conv_sig-substitute, substitutes-convertible}
-use Rattle.omega_types.proofs.BinderPuts.{NormalTypes, types-append, types-kinds}
+use Rattle.omega_types.proofs.BinderPuts.{NormalTypes, types-append, types-kinds, fits-length, types-fit}
 use Rattle.omega_types.proofs.BinderPuts.NormalTypes.{none, next}
 use Rattle.sig_laws.proofs.Algebra.Instances.{at-substitutes, under-at-substitutes}
 use Rattle.sig_laws.proofs.Algebra.SizeLaws.{size-substitute, size_abs-rename, size-alike, field-size}
@@ -28,15 +28,19 @@ use Rattle.signatures.specs.Matching.LookUp.{Found, PutFirst, FoundAt, found_at,
 use Rattle.signatures.specs.Matching.MatchRefusal.{MatchRefusal, RefusesMatch}
 use Rattle.omega_kinds.proofs.NameLaws.{dec_name}
 use Rattle.match_laws.specs.MatchFunction.{MatchOutcome, Lookings, all_found, stopped_at, MatchFn, this_or, find_field, any_type, any_types, look_end, look_field, lam_found, look_result, look, go_on, look_along, look_all}
-use Rattle.match_laws.proofs.OneMatch.Agree.{carry, root-agreed}
-use Rattle.match_laws.proofs.OneMatch.Views.{field-unique}
+use Rattle.match_laws.proofs.OneMatch.Agree.{root-agreed}
 use Rattle.sig_laws.proofs.Formed.Conditions.{explicit-right, explicit-roots, left-functor, abs-body, match-kinds}
 use Rattle.match_laws.proofs.OneMatch.Unique.{append-one, match-unique}
-use Rattle.match_laws.proofs.LookUp.Roots.{least_root-exists, least-unique}
-use Rattle.match_laws.proofs.LookUp.Good.{GoodLeft, GoodRight, GoodAbs, good-param, good-left_result, good-right_param, good-right_result, good-pure, good-body, good-at, good-left_field, good-right_field}
-use Rattle.match_laws.proofs.LookUp.LookUpLaws.{found-view, found-agree, append-nothing}
-use Rattle.match_laws.proofs.LookUp.FoundKinds.{found_at-normal, normal_types-more, normal_types-length, kinds-one, kinds-nothing}
-use Rattle.match_laws.proofs.LookUp.Refused.{no-field, match-excluded}
+use Rattle.match_laws.proofs.LookUp.Roots.{least_root-exists}
+use Rattle.match_laws.proofs.LookUp.Good.{good-param, good-left_result, good-right_param, good-right_result, good-pure, good-body, good-at, good-left_field, good-right_field}
+use Rattle.match_laws.proofs.LookUp.LookUpLaws.{found-view, found-agree}
+use Rattle.match_laws.proofs.LookUp.FoundKinds.{found_at-normal}
+use Rattle.match_laws.proofs.LookUp.Refused.{match-excluded}
+use Rattle.sig_laws.proofs.Algebra.PathLaws.{one-field, no-field}
+use Rattle.sig_laws.proofs.Algebra.Paths.{one_least}
+use Rattle.sig_laws.specs.Good.{OkSig, OkRight}
+use Rattle.match_laws.specs.MatchClaims.{IsRightSig}
+use Rattle.sig_laws.proofs.Formed.RootNumbers.{root-of}
 
 -- fields
 
@@ -63,7 +67,7 @@ pub data MatchOk (ctx : List Kind) (s : Sig) (x : Abs) : MatchOutcome → Type 0
   refusal_ok : {q : MatchRefusal} → RefusesMatch ctx s x q → MatchOk ctx s x (MatchOutcome.refused q)
 
 abbrev pub MatchSound : MatchFn → ℕ → Type 0
-MatchSound m n = (ctx : List Kind) (s : Sig) (x : Abs) → size s + size_abs x < n → GoodLeft ctx s → GoodAbs ctx x → MatchOk ctx s x (m ctx s x)
+MatchSound m n = (ctx : List Kind) (s : Sig) (x : Abs) → size s + size_abs x < n → OkSig ctx s → OkRight ctx x → MatchOk ctx s x (m ctx s x)
 
 -- looking up along a path
 
@@ -82,17 +86,17 @@ look_field-ok {ctx} {fs} {gs} {l} {p} f (has {s = s} h) (has {s = r} g) k = go (
   where
     go : {o : Option Ty} → LookOk ctx s p r o → LookOk ctx (Sig.Str fs) (Item.Part l ∷ p) (Sig.Str gs) o
     go (look_found d) = look_found (Found.field h g d)
-    go (look_none n) = look_none (λ t d. let q = found-view d in n t (carry (λ x y. Found ctx x p y t) (field-unique q.2 h) (field-unique q.3 g) q.4))
-look_field-ok f (has h) (lacks n) k = look_none (λ t d. no-field (found-view d).3 n)
-look_field-ok f (lacks n) q k = look_none (λ t d. no-field (found-view d).2 n)
+    go (look_none n) = look_none (λ t d. let q = found-view d in n t (subst₂ (λ x y. Found ctx x p y t) (one-field q.2 h refl) (one-field q.3 g refl) q.4))
+look_field-ok f (has h) (lacks n) k = look_none (λ t d. no-field _ n (found-view d).3)
+look_field-ok f (lacks n) q k = look_none (λ t d. no-field _ n (found-view d).2)
 
-pub result-form : {ctx ks : List Kind} (js : List Kind) {a s b : Sig} {ts : List Ty} {g : Term} → GoodLeft ctx (Sig.Fun Pure ks a (Abs.Ex [] s)) → Match (extend ctx js) b (raise_abs js (Abs.Ex ks a)) ts g → NormalSigForm (extend ctx js) (sig_at_under js ts s) (normal_sig (extend ctx js) (sig_at_under js ts s))
+pub result-form : {ctx ks : List Kind} (js : List Kind) {a s b : Sig} {ts : List Ty} {g : Term} → OkSig ctx (Sig.Fun Pure ks a (Abs.Ex [] s)) → Match (extend ctx js) b (raise_abs js (Abs.Ex ks a)) ts g → NormalSigForm (extend ctx js) (sig_at_under js ts s) (normal_sig (extend ctx js) (sig_at_under js ts s))
 result-form {ctx} {ks} js {a} {s} {b} {ts} w m =
     let f = puts ts (λ i. Ty.Var (past js i)) in
     conv_sig-gives (conv_sig-substitute f f (substitutes-convertible (under-at-substitutes ctx js (match-kinds m))) (well_formed-kinds (abs-body (left-functor w.0).1)))
 
 look_result-ok : {ctx ks js : List Kind} {a s b r : Sig} {p : SigPath} {o : MatchOutcome} (f : List Ty → Option Ty)
-    → GoodLeft ctx (Sig.Fun Pure ks a (Abs.Ex [] s)) → GoodRight ctx (Sig.Fun Pure js b (Abs.Ex [] r))
+    → OkSig ctx (Sig.Fun Pure ks a (Abs.Ex [] s)) → IsRightSig ctx (Sig.Fun Pure js b (Abs.Ex [] r))
     → MatchOk (extend ctx js) b (raise_abs js (Abs.Ex ks a)) o
     → ((ts : List Ty) (g : Term) → Match (extend ctx js) b (raise_abs js (Abs.Ex ks a)) ts g → LookOk (extend ctx js) (normal_sig (extend ctx js) (sig_at_under js ts s)) p r (f ts))
     → LookOk ctx (Sig.Fun Pure ks a (Abs.Ex [] s)) (Item.Res ∷ p) (Sig.Fun Pure js b (Abs.Ex [] r)) (look_result js o f)
@@ -114,7 +118,7 @@ look_result-ok {ctx} {ks} {js} {a} {s} {b} {r} {p} f w v (match_ok {ts = ts} {f 
             let e = form_sig-same (subst (λ us. NormalSigForm (extend ctx js) (sig_at_under js us s) z.2) (sym u.0) z.5) in
             n z.3 (subst (λ y. Found (extend ctx js) y p r z.3) e z.6)
 
-pub look-ok : (m : MatchFn) (n : ℕ) → MatchSound m n → (ctx : List Kind) (s : Sig) (p : SigPath) (r : Sig) → size s + size r < n → GoodLeft ctx s → GoodRight ctx r → LookOk ctx s p r (look m ctx s p r)
+pub look-ok : (m : MatchFn) (n : ℕ) → MatchSound m n → (ctx : List Kind) (s : Sig) (p : SigPath) (r : Sig) → size s + size r < n → OkSig ctx s → IsRightSig ctx r → LookOk ctx s p r (look m ctx s p r)
 look-ok m n h ctx (Sig.Typ t k) [] (Sig.Typ u j) lt w v = look_end-ok (Kind-discrete k j)
 look-ok m n h ctx (Sig.Str fs) (Item.Part l ∷ p) (Sig.Str gs) lt w v =
     look_field-ok (λ s r. look m ctx s p r) (find_field-ok l fs) (find_field-ok l gs)
@@ -138,7 +142,7 @@ any_types-normal : (ctx ks : List Kind) → NormalTypes ctx (any_types ks) ks
 any_types-normal ctx [] = none
 any_types-normal ctx (k ∷ ks) = next (any_type-normal ctx k) (any_types-normal ctx ks)
 
-pub at-form : {ctx ks : List Kind} {r : Sig} {ts : List Ty} → GoodAbs ctx (Abs.Ex ks r) → OfKinds ctx ts ks → NormalSigForm ctx (sig_at ts r) (normal_sig ctx (sig_at ts r))
+pub at-form : {ctx ks : List Kind} {r : Sig} {ts : List Ty} → OkRight ctx (Abs.Ex ks r) → OfKinds ctx ts ks → NormalSigForm ctx (sig_at ts r) (normal_sig ctx (sig_at ts r))
 at-form {ctx} {ks} {r} {ts} v h = let f = puts ts Ty.Var in conv_sig-gives (conv_sig-substitute f f (substitutes-convertible (at-substitutes h)) (explicit-body v.0))
 
 pub data LookingsOk (ctx : List Kind) (s : Sig) (ks : List Kind) (r : Sig) (before : List Ty) : Lookings → Type 0 where
@@ -151,37 +155,34 @@ lookings-more {before = before} {t = t} f (found_ok {rest = rest} e g n) = found
 lookings-more {before = before} {t = t} f (stop_ok {rest = rest} e g l lt root stop) = stop_ok (e ∙ sym (append-one before rest t)) (FoundAfter.next f g) l lt root stop
 
 go_on-ok : {ctx : List Kind} {s : Sig} {ks : List Kind} {r : Sig} {before : List Ty} {p : SigPath} {n : Sig} {o : Option Ty} (rest : List Ty) (f : Ty → Lookings)
-    → GoodLeft ctx s → GoodAbs ctx (Abs.Ex ks r) → length before < length ks
+    → OkSig ctx s → OkRight ctx (Abs.Ex ks r) → length before < length ks
     → LeastRoot ctx ks r (length before) p → OfKinds ctx (before ++ rest) ks → NormalSigForm ctx (sig_at (before ++ rest) r) n
     → LookOk ctx s p n o
     → ((t : Ty) → FoundAt ctx s ks r before t → LookingsOk ctx s ks r (before ++ (t ∷ [])) (f t))
     → LookingsOk ctx s ks r before (go_on (length before) p o f)
 go_on-ok rest f w v lt root h nf (look_found {t = t} d) k = let g = found_at root (PutFirst.put rest h nf) d in lookings-more g (k t g)
-go_on-ok {ctx} {s} {ks} {r} {before} {p} {n} rest f w v lt root h nf (look_none never) k = stop_ok (append-nothing before) FoundAfter.none refl lt root stop
+go_on-ok {ctx} {s} {ks} {r} {before} {p} {n} rest f w v lt root h nf (look_none never) k = stop_ok (sym (append-nil before)) FoundAfter.none refl lt root stop
   where
-    root-of : {p : SigPath} → LeastRoot ctx ks r (length before) p → RootPath ctx ks r (length before) p
-    root-of (least x y) = x
-
     stop : (t : Ty) → FoundAt ctx s ks r before t → ⊥
     stop t (found_at {p = q} {n = m} k2 (PutFirst.put others g nq) d) =
         let z = root-agreed before others rest refl refl g h lt (root-of root) nq nf in
-        never t (found-agree z.5.2 (subst (λ x. Found ctx s x m t) (least-unique lt k2 root) d))
+        never t (found-agree z.5.2 (subst (λ x. Found ctx s x m t) (one_least k2 root) d))
 
 pub look_all-ok : (m : MatchFn) (n : ℕ) → MatchSound m n → (ctx : List Kind) (s : Sig) (ks : List Kind) (r : Sig) (before : List Ty) (first left : List Kind)
-    → size s + size r < n → GoodLeft ctx s → GoodAbs ctx (Abs.Ex ks r) → ks ≡ first ++ left → NormalTypes ctx before first
+    → size s + size r < n → OkSig ctx s → OkRight ctx (Abs.Ex ks r) → ks ≡ first ++ left → NormalTypes ctx before first
     → LookingsOk ctx s ks r before (look_all m ctx s ks r before left)
-look_all-ok m n h ctx s ks r before first [] lt w v e b = found_ok (append-nothing before) FoundAfter.none (subst (NormalTypes ctx before) (sym (e ∙ kinds-nothing first)) b)
+look_all-ok m n h ctx s ks r before first [] lt w v e b = found_ok (sym (append-nil before)) FoundAfter.none (subst (NormalTypes ctx before) (sym (e ∙ append-nil first)) b)
 look_all-ok m n h ctx s ks r before first (k ∷ more) lt w v e b =
     let x = types-kinds (subst (NormalTypes ctx (before ++ any_types (k ∷ more))) (sym e) (types-append b (any_types-normal ctx (k ∷ more)))) in
     let nf = at-form v x in
-    let below = small (normal_types-length b) in
+    let below = small (fits-length (types-fit b)) in
     let root = least_root-exists (explicit-right v.0).0 v.1 below (explicit-roots v.0 (length before) below) in
     let sz = sym (size-alike nf) ∙ size-substitute (puts (before ++ any_types (k ∷ more)) Ty.Var) r in
     subst (λ o. LookingsOk ctx s ks r before (look_along (length before) o (λ p. look m ctx s p (normal_sig ctx (sig_at (before ++ any_types (k ∷ more)) r))) (λ t. look_all m ctx s ks r (before ++ (t ∷ [])) more))) (sym root.1)
     (go_on-ok (any_types (k ∷ more)) (λ t. look_all m ctx s ks r (before ++ (t ∷ [])) more) w v below root.2 x nf
     (look-ok m n h ctx s root.0 (normal_sig ctx (sig_at (before ++ any_types (k ∷ more)) r)) (omega (arith, lt, sz)) w (good-at v x nf))
-    (λ t g. look_all-ok m n h ctx s ks r (before ++ (t ∷ [])) (first ++ (k ∷ [])) more lt w v (e ∙ kinds-one first more k)
-    (normal_types-more b (found_at-normal before first k more w v e (normal_types-length b) g))))
+    (λ t g. look_all-ok m n h ctx s ks r (before ++ (t ∷ [])) (first ++ (k ∷ [])) more lt w v (e ∙ append-one first more k)
+    (types-append b (next (found_at-normal before first k more w v e (fits-length (types-fit b)) g) none))))
   where
     small : length before ≡ length first → length before < length ks
     small l = let a = ap length e ∙ length-append first (k ∷ more) in omega (arith, l, a)

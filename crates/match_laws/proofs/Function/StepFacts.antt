@@ -1,5 +1,5 @@
 -- The tests of the functions by the facts that a program finds out, and what looking up depends on.
-use Rattle.std.specs.Prelude.{suc, ◌+◌, List, [], ◌≡◌, Option, Some, None, length}
+use Rattle.std.specs.Prelude.{suc, ◌+◌, List, [], ◌≡◌, Option, Some, None}
 use Rattle.std.proofs.Common.{arith}
 use Rattle.std.proofs.Math.Path.{refl, sym, ◌∙◌, ap, subst, fun_ext}
 use Rattle.omega_kinds.specs.Kind.{Kind}
@@ -12,24 +12,23 @@ use Rattle.signatures.specs.Signatures.SigSubst.{raise_abs, sig_at_under}
 use Rattle.signatures.specs.Signatures.SigSize.{size}
 use Rattle.sig_laws.specs.NormalSig.{normal_sig}
 use Rattle.signatures.specs.Explicit.SigPath.{SigPath}
-use Rattle.signatures.specs.Explicit.RootPath.{RootPath, LeastRoot, least}
 use Rattle.signatures.specs.Matching.LookUp.{Found}
 use Rattle.match_laws.specs.MatchFunction.{MatchFn, find_field, look_field, look_result, look, match_sig}
-use Rattle.match_laws.specs.MatchClaims.{LookGives, LaterTypesDoNotMatter}
-use Rattle.match_laws.proofs.OneMatch.Views.{field-unique}
+use Rattle.match_laws.specs.MatchClaims.{LookGives, LaterTypesDoNotMatter, IsRightSig}
 use Rattle.match_laws.proofs.OneMatch.Agree.{Agree, root-agreed}
-use Rattle.match_laws.proofs.LookUp.Good.{GoodLeft, GoodRight}
 use Rattle.match_laws.proofs.LookUp.LookUpLaws.{found-unique}
-use Rattle.match_laws.proofs.LookUp.Refused.{no-field}
 use Rattle.match_laws.proofs.Function.LookSound.{FieldOk, has, lacks, find_field-ok, LookOk, look_found, look_none, look-ok, at-form}
 use Rattle.match_laws.proofs.Function.FunctionSound.{match_sig-ok}
+use Rattle.sig_laws.proofs.Algebra.PathLaws.{one-field, no-field}
+use Rattle.sig_laws.specs.Good.{OkSig}
+use Rattle.sig_laws.proofs.Formed.RootNumbers.{root-of}
 
 pub field-has : {fs : SigRow} {l : Name} {s : Sig} → HasField fs l s → find_field l fs ≡ Some s
 field-has {fs} {l} {s} h = go (find_field-ok l fs)
   where
     go : {o : Option Sig} → FieldOk fs l o → o ≡ Some s
-    go (has g) = ap Some (field-unique g h)
-    go (lacks n) = absurd (no-field h n)
+    go (has g) = ap Some (one-field g h refl)
+    go (lacks n) = absurd (no-field _ n h)
 
 -- looking up reads on the right only what stands on the path
 
@@ -55,13 +54,10 @@ pub later_types : LaterTypesDoNotMatter
 later_types m ctx ks s r p before rest others v lt l h g =
     let z = root-agreed before rest others refl refl h g lt (root-of l) (at-form v h) (at-form v g) in
     look-agree z.5.2 m ctx s
-  where
-    root-of : LeastRoot ctx ks r (length before) p → RootPath ctx ks r (length before) p
-    root-of (least x y) = x
 
 -- looking up as a function
 
-look-is : {ctx : List Kind} {s r : Sig} {p : SigPath} {o : Option Ty} {t : Ty} → GoodLeft ctx s → GoodRight ctx r → LookOk ctx s p r o → Found ctx s p r t → o ≡ Some t
+look-is : {ctx : List Kind} {s r : Sig} {p : SigPath} {o : Option Ty} {t : Ty} → OkSig ctx s → IsRightSig ctx r → LookOk ctx s p r o → Found ctx s p r t → o ≡ Some t
 look-is {t = t} w v (look_found f) g = ap Some (found-unique f w v t g)
 look-is {t = t} w v (look_none n) g = absurd (n t g)
 

@@ -18,14 +18,16 @@ use Rattle.signatures.specs.Matching.Subtyping.{Sub, SubAbs, Match}
 use Rattle.sig_laws.proofs.Algebra.AlikeLaws.{form_sig-unique, form_abs-unique}
 use Rattle.signatures.specs.Matching.LookUp.{FoundAt, Looked}
 use Rattle.signatures.specs.Matching.MatchRefusal.{Form, Missing, Effects, Types, MatchRefusal, NoRoot, within, clash, form, MayStandFor, RefusesMatch, RefusesSub, RefusesFields, RefusesResult, RefusesSubAbs}
-use Rattle.match_laws.proofs.OneMatch.Views.{field-unique}
 use Rattle.sig_laws.proofs.Formed.Conditions.{match-kinds}
 use Rattle.match_laws.proofs.OneMatch.Unique.{match-unique}
-use Rattle.match_laws.proofs.LookUp.Roots.{least-unique}
-use Rattle.match_laws.proofs.LookUp.Good.{GoodLeft, GoodRight, GoodAbs, GoodLeftAbs, GoodResult, good-param, good-left_result, good-right_param, good-right_result, good-pure, good-impure, good-body, good-at, good-raised, good-left_field, good-right_field, good-meta, good-rest, explicit-left}
+use Rattle.match_laws.proofs.LookUp.Good.{GoodResult, good-param, good-left_result, good-right_param, good-right_result, good-pure, good-impure, good-body, good-at, good-raised, good-left_field, good-right_field, good-meta, good-rest, explicit-left}
 use Rattle.match_laws.proofs.LookUp.FoundKinds.{looked-normal}
-use Rattle.match_laws.proofs.LookUp.Refused.{no-field, looked-full, looked-same, looked-stops, sub-excluded, abs-excluded, match-excluded}
+use Rattle.match_laws.proofs.LookUp.Refused.{looked-full, looked-same, looked-stops, sub-excluded, abs-excluded, match-excluded}
 use Rattle.omega_types.proofs.BinderPuts.{types-kinds}
+use Rattle.sig_laws.proofs.Algebra.PathLaws.{one-field, no-field}
+use Rattle.sig_laws.proofs.Algebra.Paths.{one_least}
+use Rattle.sig_laws.specs.Good.{OkSig, OkAbs, OkRight}
+use Rattle.match_laws.specs.MatchClaims.{IsRightSig}
 
 -- what a refusal is, by the forms of the two sides
 
@@ -140,27 +142,27 @@ results-by ctx ks js s t x z a one none (inr (inr v)) = ap (within Item.Res) (on
 
 missing-by : {ctx : List Kind} {fs gs : SigRow} {l : Name} {t : Sig} {q : MatchRefusal} → NoField l fs → FieldsRefusal ctx fs (SigRow.More l t gs) q → within (Item.Part l) (clash ctx Missing) ≡ q
 missing-by n (inl v) = sym v.1
-missing-by n (inr (inl v)) = absurd (no-field v.2 n)
-missing-by n (inr (inr v)) = absurd (no-field v.2 n)
+missing-by n (inr (inl v)) = absurd (no-field _ n v.2)
+missing-by n (inr (inr v)) = absurd (no-field _ n v.2)
 
 at_field-by : {ctx : List Kind} {fs gs : SigRow} {l : Name} {s t : Sig} {p q : MatchRefusal} → HasField fs l s → ((r : MatchRefusal) → RefusesSub ctx s t r → p ≡ r) → ((f : Term) → Sub ctx s t f → ⊥) → FieldsRefusal ctx fs (SigRow.More l t gs) q → within (Item.Part l) p ≡ q
-at_field-by h one none (inl v) = absurd (no-field h v.0)
-at_field-by {ctx} {l = l} {t = t} h one none (inr (inl v)) = ap (within (Item.Part l)) (one v.1 (subst (λ o. RefusesSub ctx o t v.1) (field-unique v.2 h) v.3)) ∙ sym v.4
-at_field-by {ctx} {t = t} h one none (inr (inr v)) = absurd (none v.1 (subst (λ o. Sub ctx o t v.1) (field-unique v.2 h) v.3))
+at_field-by h one none (inl v) = absurd (no-field _ v.0 h)
+at_field-by {ctx} {l = l} {t = t} h one none (inr (inl v)) = ap (within (Item.Part l)) (one v.1 (subst (λ o. RefusesSub ctx o t v.1) (one-field v.2 h refl) v.3)) ∙ sym v.4
+at_field-by {ctx} {t = t} h one none (inr (inr v)) = absurd (none v.1 (subst (λ o. Sub ctx o t v.1) (one-field v.2 h refl) v.3))
 
 later-by : {ctx : List Kind} {fs gs : SigRow} {l : Name} {s t : Sig} {p q : MatchRefusal} → HasField fs l s → ((r : MatchRefusal) → RefusesFields ctx fs gs r → p ≡ r) → ((r : MatchRefusal) → RefusesSub ctx s t r → ⊥) → FieldsRefusal ctx fs (SigRow.More l t gs) q → p ≡ q
-later-by h one none (inl v) = absurd (no-field h v.0)
-later-by {ctx} {t = t} h one none (inr (inl v)) = absurd (none v.1 (subst (λ o. RefusesSub ctx o t v.1) (field-unique v.2 h) v.3))
+later-by h one none (inl v) = absurd (no-field _ v.0 h)
+later-by {ctx} {t = t} h one none (inr (inl v)) = absurd (none v.1 (subst (λ o. RefusesSub ctx o t v.1) (one-field v.2 h refl) v.3))
 later-by {q = q} h one none (inr (inr v)) = one q v.4
 
-no_root-by : {ctx ks : List Kind} {s r : Sig} {ts : List Ty} {p : SigPath} {q : MatchRefusal} → GoodLeft ctx s → GoodAbs ctx (Abs.Ex ks r) → Looked ctx s ks r ts → length ts < length ks → LeastRoot ctx ks r (length ts) p → ((t : Ty) → FoundAt ctx s ks r ts t → ⊥) → MatchView ctx s ks r q → NoRoot (length ts) p ≡ q
+no_root-by : {ctx ks : List Kind} {s r : Sig} {ts : List Ty} {p : SigPath} {q : MatchRefusal} → OkSig ctx s → OkRight ctx (Abs.Ex ks r) → Looked ctx s ks r ts → length ts < length ks → LeastRoot ctx ks r (length ts) p → ((t : Ty) → FoundAt ctx s ks r ts t → ⊥) → MatchView ctx s ks r q → NoRoot (length ts) p ≡ q
 no_root-by {ctx} {ks} {s} {r} {ts} {p} w v l lt root stop (stopped {ts = us} {p = p'} m lt' root' stop' e) =
     let g : ts ≡ us = looked-stops w v l lt stop m lt' stop' in
     let h : length us ≡ length ts = ap length (sym g) in
-    ap₂ NoRoot (sym h) (least-unique lt root (subst (λ n. LeastRoot ctx ks r n p') h root')) ∙ sym e
+    ap₂ NoRoot (sym h) (one_least root (subst (λ n. LeastRoot ctx ks r n p') h root')) ∙ sym e
 no_root-by w v l lt root stop (whole m e nf d) = absurd (looked-full w v m e l lt stop)
 
-inside-by : {ctx ks : List Kind} {s r n : Sig} {ts : List Ty} {p q : MatchRefusal} → GoodLeft ctx s → GoodAbs ctx (Abs.Ex ks r) → Looked ctx s ks r ts → length ts ≡ length ks → NormalSigForm ctx (sig_at ts r) n → ((q : MatchRefusal) → RefusesSub ctx s n q → p ≡ q) → MatchView ctx s ks r q → p ≡ q
+inside-by : {ctx ks : List Kind} {s r n : Sig} {ts : List Ty} {p q : MatchRefusal} → OkSig ctx s → OkRight ctx (Abs.Ex ks r) → Looked ctx s ks r ts → length ts ≡ length ks → NormalSigForm ctx (sig_at ts r) n → ((q : MatchRefusal) → RefusesSub ctx s n q → p ≡ q) → MatchView ctx s ks r q → p ≡ q
 inside-by w v l lt nf one (stopped m lt' root' stop' e) = absurd (looked-full w v l lt m lt' stop')
 inside-by {ctx} {ks} {s} {r} {n} {ts} {q = q} w v l lt nf one (whole {ts = us} {n = m} l' e nf' d) =
     let g : us ≡ ts = looked-same w v l' e l lt in
@@ -168,7 +170,7 @@ inside-by {ctx} {ks} {s} {r} {n} {ts} {q = q} w v l lt nf one (whole {ts = us} {
     one q (subst (λ z. RefusesSub ctx s z q) h d)
 
 mutual
-  pub sub-refusal : {ctx : List Kind} {s r : Sig} {p : MatchRefusal} → RefusesSub ctx s r p → GoodLeft ctx s → GoodRight ctx r → (q : MatchRefusal) → RefusesSub ctx s r q → p ≡ q
+  pub sub-refusal : {ctx : List Kind} {s r : Sig} {p : MatchRefusal} → RefusesSub ctx s r p → OkSig ctx s → IsRightSig ctx r → (q : MatchRefusal) → RefusesSub ctx s r q → p ≡ q
   sub-refusal (RefusesSub.forms {ctx = ctx} {s = s} {t = r} n) w v q d = sym (only-forms ctx s r q n (refusal-view d))
   sub-refusal (RefusesSub.values n) w v q d = sym (refusal-view d)
   sub-refusal (RefusesSub.types n) w v q d = sym (refusal-view d)
@@ -195,21 +197,21 @@ mutual
       (λ r b. match-excluded b (good-right_param v) (good-param js w) ts f m)
       (refusal-view dd)
 
-  pub fields-one : {ctx : List Kind} {fs gs : SigRow} {p : MatchRefusal} → RefusesFields ctx fs gs p → GoodLeft ctx (Sig.Str fs) → GoodRight ctx (Sig.Str gs) → (q : MatchRefusal) → RefusesFields ctx fs gs q → p ≡ q
+  pub fields-one : {ctx : List Kind} {fs gs : SigRow} {p : MatchRefusal} → RefusesFields ctx fs gs p → OkSig ctx (Sig.Str fs) → IsRightSig ctx (Sig.Str gs) → (q : MatchRefusal) → RefusesFields ctx fs gs q → p ≡ q
   fields-one (RefusesFields.missing n) w v q d = missing-by n (fields-refusal d)
   fields-one (RefusesFields.at_field h a) w v q d =
       at_field-by h (λ r b. sub-refusal a (good-left_field w h) (good-right_field v here) r b) (sub-excluded a (good-left_field w h) (good-right_field v here)) (fields-refusal d)
   fields-one (RefusesFields.later {f = f} h a r) w v q d =
       later-by h (λ o b. fields-one r w (good-rest v) o b) (λ o b. sub-excluded b (good-left_field w h) (good-right_field v here) f a) (fields-refusal d)
 
-  pub result-one : {ctx : List Kind} {e d : Effect} {x z : Abs} {p : MatchRefusal} → RefusesResult ctx e d x z p → GoodLeftAbs ctx x → GoodResult ctx d z → (q : MatchRefusal) → RefusesResult ctx e d x z q → p ≡ q
+  pub result-one : {ctx : List Kind} {e d : Effect} {x z : Abs} {p : MatchRefusal} → RefusesResult ctx e d x z p → OkAbs ctx x → GoodResult ctx d z → (q : MatchRefusal) → RefusesResult ctx e d x z q → p ≡ q
   result-one (RefusesResult.both_pure a) w v q d = sub-refusal a (good-body w) (good-pure v) q (result-refusal d)
   result-one (RefusesResult.to_impure a) w v q d = abs-one a w (good-impure v) q (result-refusal d)
 
-  pub abs-one : {ctx : List Kind} {x y : Abs} {p : MatchRefusal} → RefusesSubAbs ctx x y p → GoodLeftAbs ctx x → GoodAbs ctx y → (q : MatchRefusal) → RefusesSubAbs ctx x y q → p ≡ q
+  pub abs-one : {ctx : List Kind} {x y : Abs} {p : MatchRefusal} → RefusesSubAbs ctx x y p → OkAbs ctx x → OkRight ctx y → (q : MatchRefusal) → RefusesSubAbs ctx x y q → p ≡ q
   abs-one (RefusesSubAbs.plain a) w v q d = match-one a (good-body w) v q (abs-refusal d)
   abs-one (RefusesSubAbs.hidden {ks = ks} {k = k} a) w v q d = match-one a (good-body w) (good-raised (k ∷ ks) v) q (abs-refusal d)
 
-  pub match-one : {ctx : List Kind} {s : Sig} {x : Abs} {p : MatchRefusal} → RefusesMatch ctx s x p → GoodLeft ctx s → GoodAbs ctx x → (q : MatchRefusal) → RefusesMatch ctx s x q → p ≡ q
+  pub match-one : {ctx : List Kind} {s : Sig} {x : Abs} {p : MatchRefusal} → RefusesMatch ctx s x p → OkSig ctx s → OkRight ctx x → (q : MatchRefusal) → RefusesMatch ctx s x q → p ≡ q
   match-one (RefusesMatch.no_root l lt root stop) w v q d = no_root-by w v l lt root stop (match-refusal d)
   match-one (RefusesMatch.inside l e nf a) w v q d = inside-by w v l e nf (λ r b. sub-refusal a w (good-at v (types-kinds (looked-normal w v l e)) nf) r b) (match-refusal d)

@@ -4,11 +4,10 @@ use Rattle.std.proofs.Common.{arith}
 use Rattle.std.proofs.Math.Path.{refl, sym, ap, subst}
 use Rattle.omega_kinds.specs.Kind.{Kind}
 use Rattle.omega_kinds.specs.declared.effect.Effect.{Effect}
-use Rattle.omega_kinds.specs.Name.{Name}
 use Rattle.omega_types.specs.Ty.{Ty}
 use Rattle.omega_types.specs.Binders.{extend, OfKinds}
 use Rattle.omega_terms.specs.Term.{Term, TermRow}
-use Rattle.signatures.specs.Signatures.Sig.{Sig, Abs, SigRow, HasField, NoField, here, there}
+use Rattle.signatures.specs.Signatures.Sig.{Sig, Abs, SigRow, here}
 use Rattle.signatures.specs.Signatures.SigSubst.{sig_at, abs_at_under}
 use Rattle.signatures.specs.Signatures.Alike.{NormalSigForm, NormalAbsForm}
 use Rattle.signatures.specs.Matching.Subtyping.{Sub, SubFields, SubResult, SubAbs, Match}
@@ -16,16 +15,15 @@ use Rattle.sig_laws.proofs.Algebra.AlikeLaws.{form_sig-unique, form_abs-unique}
 use Rattle.sig_laws.proofs.Algebra.Instances.{kinds-length}
 use Rattle.signatures.specs.Matching.LookUp.{FoundAt, Looked}
 use Rattle.signatures.specs.Matching.MatchRefusal.{MatchRefusal, form, RefusesMatch, RefusesSub, RefusesFields, RefusesResult, RefusesSubAbs}
-use Rattle.match_laws.proofs.OneMatch.Views.{sub-view, fields-view, result-view, abs-view, match-view, field-unique}
+use Rattle.match_laws.proofs.OneMatch.Views.{sub-view, fields-view, result-view, abs-view, match-view}
 use Rattle.sig_laws.proofs.Formed.Conditions.{match-kinds}
 use Rattle.match_laws.proofs.OneMatch.Unique.{match-unique}
-use Rattle.match_laws.proofs.LookUp.Good.{GoodLeft, GoodRight, GoodAbs, GoodLeftAbs, GoodResult, good-param, good-left_result, good-right_param, good-right_result, good-pure, good-impure, good-body, good-at, good-raised, good-left_field, good-right_field, good-meta, good-rest, explicit-left}
+use Rattle.match_laws.proofs.LookUp.Good.{GoodResult, good-param, good-left_result, good-right_param, good-right_result, good-pure, good-impure, good-body, good-at, good-raised, good-left_field, good-right_field, good-meta, good-rest, explicit-left}
 use Rattle.match_laws.proofs.LookUp.LookUpLaws.{match-looked, Compared, same, shorter, longer, compared}
 use Rattle.sig_laws.proofs.Formed.WellFormedLaws.{explicit-body}
-
-pub no-field : {fs : SigRow} {l : Name} {s : Sig} → HasField fs l s → NoField l fs → ⊥
-no-field here n = n.0 refl
-no-field (there d h) n = no-field h n.1
+use Rattle.sig_laws.proofs.Algebra.PathLaws.{one-field, no-field}
+use Rattle.sig_laws.specs.Good.{OkSig, OkAbs, OkRight}
+use Rattle.match_laws.specs.MatchClaims.{IsRightSig}
 
 sub-form : {ctx : List Kind} {s r : Sig} {f : Term} → Sub ctx s r f → form s ≡ form r
 sub-form Sub.val = refl
@@ -35,7 +33,7 @@ sub-form (Sub.str a) = refl
 sub-form (Sub.fun m n r) = refl
 
 -- a full list and one that cannot go on
-pub looked-full : {ctx ks : List Kind} {s r : Sig} {ts us : List Ty} → GoodLeft ctx s → GoodAbs ctx (Abs.Ex ks r) → Looked ctx s ks r ts → length ts ≡ length ks → Looked ctx s ks r us → length us < length ks → ((t : Ty) → FoundAt ctx s ks r us t → ⊥) → ⊥
+pub looked-full : {ctx ks : List Kind} {s r : Sig} {ts us : List Ty} → OkSig ctx s → OkRight ctx (Abs.Ex ks r) → Looked ctx s ks r ts → length ts ≡ length ks → Looked ctx s ks r us → length us < length ks → ((t : Ty) → FoundAt ctx s ks r us t → ⊥) → ⊥
 looked-full {ctx} {ks} {s} {r} {ts} {us} w v a e b lt stop = go (compared [] w v (omega (arith, e)) (omega (arith, lt)) a b)
   where
     go : Compared ctx s ks r [] ts us → ⊥
@@ -43,7 +41,7 @@ looked-full {ctx} {ks} {s} {r} {ts} {us} w v a e b lt stop = go (compared [] w v
     go (shorter t l f) = omega (arith, e, lt, l)
     go (longer t l f) = stop t f
 
-pub looked-same : {ctx ks : List Kind} {s r : Sig} {ts us : List Ty} → GoodLeft ctx s → GoodAbs ctx (Abs.Ex ks r) → Looked ctx s ks r ts → length ts ≡ length ks → Looked ctx s ks r us → length us ≡ length ks → ts ≡ us
+pub looked-same : {ctx ks : List Kind} {s r : Sig} {ts us : List Ty} → OkSig ctx s → OkRight ctx (Abs.Ex ks r) → Looked ctx s ks r ts → length ts ≡ length ks → Looked ctx s ks r us → length us ≡ length ks → ts ≡ us
 looked-same {ctx} {ks} {s} {r} {ts} {us} w v a e b g = go (compared [] w v (omega (arith, e)) (omega (arith, g)) a b)
   where
     go : Compared ctx s ks r [] ts us → ts ≡ us
@@ -51,7 +49,7 @@ looked-same {ctx} {ks} {s} {r} {ts} {us} w v a e b g = go (compared [] w v (omeg
     go (shorter t l f) = absurd (omega (arith, e, g, l))
     go (longer t l f) = absurd (omega (arith, e, g, l))
 
-pub looked-stops : {ctx ks : List Kind} {s r : Sig} {ts us : List Ty} → GoodLeft ctx s → GoodAbs ctx (Abs.Ex ks r) → Looked ctx s ks r ts → length ts < length ks → ((t : Ty) → FoundAt ctx s ks r ts t → ⊥) → Looked ctx s ks r us → length us < length ks → ((t : Ty) → FoundAt ctx s ks r us t → ⊥) → ts ≡ us
+pub looked-stops : {ctx ks : List Kind} {s r : Sig} {ts us : List Ty} → OkSig ctx s → OkRight ctx (Abs.Ex ks r) → Looked ctx s ks r ts → length ts < length ks → ((t : Ty) → FoundAt ctx s ks r ts t → ⊥) → Looked ctx s ks r us → length us < length ks → ((t : Ty) → FoundAt ctx s ks r us t → ⊥) → ts ≡ us
 looked-stops {ctx} {ks} {s} {r} {ts} {us} w v a e p b g q = go (compared [] w v (omega (arith, e)) (omega (arith, g)) a b)
   where
     go : Compared ctx s ks r [] ts us → ts ≡ us
@@ -60,7 +58,7 @@ looked-stops {ctx} {ks} {s} {r} {ts} {us} w v a e p b g q = go (compared [] w v 
     go (longer t l f) = absurd (q t f)
 
 mutual
-  pub sub-excluded : {ctx : List Kind} {s r : Sig} {q : MatchRefusal} → RefusesSub ctx s r q → GoodLeft ctx s → GoodRight ctx r → (f : Term) → Sub ctx s r f → ⊥
+  pub sub-excluded : {ctx : List Kind} {s r : Sig} {q : MatchRefusal} → RefusesSub ctx s r q → OkSig ctx s → IsRightSig ctx r → (f : Term) → Sub ctx s r f → ⊥
   sub-excluded (RefusesSub.forms n) w v f d = n (sub-form d)
   sub-excluded (RefusesSub.values n) w v f d = n (sub-view d).0
   sub-excluded (RefusesSub.types n) w v f d = let q = sub-view d in n (q.0, q.1)
@@ -75,20 +73,20 @@ mutual
       let y = form_abs-unique n (subst (λ us. NormalAbsForm (extend ctx js) (abs_at_under js us x) q.3) (sym u.0) q.5) in
       result-excluded r (good-left_result ctx js w (match-kinds m) n) (good-right_result v) q.2 (subst (λ o. SubResult (extend ctx js) e d o z q.2) (sym y) q.6)
 
-  pub fields-excluded : {ctx : List Kind} {fs gs : SigRow} {q : MatchRefusal} → RefusesFields ctx fs gs q → GoodLeft ctx (Sig.Str fs) → GoodRight ctx (Sig.Str gs) → (parts : TermRow) → SubFields ctx fs gs parts → ⊥
-  fields-excluded (RefusesFields.missing n) w v parts d = no-field (fields-view d).3 n
-  fields-excluded {ctx} (RefusesFields.at_field {t = t} h r) w v parts d = let q = fields-view d in sub-excluded r (good-left_field w h) (good-right_field v here) q.1 (subst (λ o. Sub ctx o t q.1) (field-unique q.3 h) q.4)
+  pub fields-excluded : {ctx : List Kind} {fs gs : SigRow} {q : MatchRefusal} → RefusesFields ctx fs gs q → OkSig ctx (Sig.Str fs) → IsRightSig ctx (Sig.Str gs) → (parts : TermRow) → SubFields ctx fs gs parts → ⊥
+  fields-excluded (RefusesFields.missing n) w v parts d = no-field _ n (fields-view d).3
+  fields-excluded {ctx} (RefusesFields.at_field {t = t} h r) w v parts d = let q = fields-view d in sub-excluded r (good-left_field w h) (good-right_field v here) q.1 (subst (λ o. Sub ctx o t q.1) (one-field q.3 h refl) q.4)
   fields-excluded (RefusesFields.later h a r) w v parts d = let q = fields-view d in fields-excluded r w (good-rest v) q.2 q.5
 
-  pub result-excluded : {ctx : List Kind} {e d : Effect} {x z : Abs} {q : MatchRefusal} → RefusesResult ctx e d x z q → GoodLeftAbs ctx x → GoodResult ctx d z → (f : Term) → SubResult ctx e d x z f → ⊥
+  pub result-excluded : {ctx : List Kind} {e d : Effect} {x z : Abs} {q : MatchRefusal} → RefusesResult ctx e d x z q → OkAbs ctx x → GoodResult ctx d z → (f : Term) → SubResult ctx e d x z f → ⊥
   result-excluded (RefusesResult.both_pure r) w v f a = sub-excluded r (good-body w) (good-pure v) f (result-view a)
   result-excluded (RefusesResult.to_impure r) w v f a = abs-excluded r w (good-impure v) f (result-view a)
 
-  pub abs-excluded : {ctx : List Kind} {x y : Abs} {q : MatchRefusal} → RefusesSubAbs ctx x y q → GoodLeftAbs ctx x → GoodAbs ctx y → (f : Term) → SubAbs ctx x y f → ⊥
+  pub abs-excluded : {ctx : List Kind} {x y : Abs} {q : MatchRefusal} → RefusesSubAbs ctx x y q → OkAbs ctx x → OkRight ctx y → (f : Term) → SubAbs ctx x y f → ⊥
   abs-excluded (RefusesSubAbs.plain r) w v f a = let q = abs-view a in match-excluded r (good-body w) v q.0 q.1 q.2
   abs-excluded (RefusesSubAbs.hidden {ks = ks} {k = k} r) w v f a = let q = abs-view a in match-excluded r (good-body w) (good-raised (k ∷ ks) v) q.0 q.1 q.2
 
-  pub match-excluded : {ctx : List Kind} {s : Sig} {x : Abs} {q : MatchRefusal} → RefusesMatch ctx s x q → GoodLeft ctx s → GoodAbs ctx x → (us : List Ty) (f : Term) → Match ctx s x us f → ⊥
+  pub match-excluded : {ctx : List Kind} {s : Sig} {x : Abs} {q : MatchRefusal} → RefusesMatch ctx s x q → OkSig ctx s → OkRight ctx x → (us : List Ty) (f : Term) → Match ctx s x us f → ⊥
   match-excluded (RefusesMatch.no_root l lt root stop) w v us f m = looked-full w v (match-looked v m) (kinds-length (match-kinds m)) l lt stop
   match-excluded (RefusesMatch.inside {ctx = ctx} {ks = ks} {s = s} {r = r} {n = n} {ts = ts} l e nf d) w v us f m =
       let q = match-view (explicit-body v.0) m in

@@ -1,12 +1,10 @@
--- The search finds the least root path, and there is at most one.
-use Rattle.std.specs.Prelude.{ℕ, zero, suc, ◌-◌, ◌≤◌, ◌<◌, List, [], ◌∷◌, ◌++◌, ◌≡◌, ◌⊎◌, Option, Some, None, IsTrue, length}
+-- The search finds the least root path.
+use Rattle.std.specs.Prelude.{ℕ, ◌≤◌, ◌<◌, List, [], ◌∷◌, ◌++◌, ◌≡◌, ◌⊎◌, Option, Some, None, length}
 use Rattle.std.proofs.Math.Logic.{inl, inr}
-use Rattle.std.proofs.Common.{arith}
-use Rattle.std.proofs.Math.Path.{refl, sym, ◌∙◌, ap, subst}
+use Rattle.std.proofs.Math.Path.{refl, sym, ◌∙◌, ap, subst, subst₂}
 use Rattle.omega_kinds.specs.Kind.{Kind, Kind-discrete}
 use Rattle.omega_kinds.specs.declared.effect.Effect.TheVariants.{Pure, Impure}
 use Rattle.omega_kinds.specs.Name.{Name}
-use Rattle.omega_kinds.specs.LabelOrder.{name_before}
 use Rattle.omega_types.specs.Ty.{Ty}
 use Rattle.omega_types.specs.Kinding.{Lookup, HasKind, here, there}
 use Rattle.omega_types.specs.Kinding.HasKind.{k_var}
@@ -22,18 +20,23 @@ use Rattle.omega_types.proofs.LawProofs.{normal_of_normal}
 use Rattle.signatures.specs.Signatures.Sig.{Sig, Abs, SigRow, HasField, here, there}
 use Rattle.signatures.specs.Signatures.Alike.{NormalSig, NormalSigRow}
 use Rattle.signatures.specs.Signatures.SigMentions.{MentionsSig, Avoids, by_normal_form}
-use Rattle.signatures.specs.Explicit.SigPath.{SigPath, Item, ItemBefore, PathBefore, PartAt, ParamOn, by_name, first, later}
+use Rattle.signatures.specs.Explicit.SigPath.{SigPath, Item, PathBefore, PartAt, ParamOn, first, later}
 use Rattle.signatures.specs.Explicit.RootPath.{Rooted, ParamsAvoid, RootPath, root_path, LeastRoot, least, root_of}
 use Rattle.signatures.specs.Explicit.WellFormed.{BeforeAll, Rising, WellFormed, WellFormedRow}
-use Rattle.sig_laws.proofs.Algebra.BinderLaws.{extend-append, past-append, applied-append, past-length}
+use Rattle.sig_laws.proofs.Algebra.BinderLaws.{extend-append, past-append, applied-append}
 use Rattle.sig_laws.proofs.Algebra.AlikeLaws.{normal_sig-form, avoided}
 use Rattle.sig_laws.proofs.Algebra.EtaLaws.{applied-kinded}
-use Rattle.sig_laws.proofs.Algebra.Own.{split_index}
 use Rattle.sig_laws.specs.Decide.{dec_ty, NoneUpTo, dec_none, dec_mentions_sig}
 use Rattle.match_laws.specs.RootSearch.{kind_left, after, or_else, where_both, find_root, find_root_row, least_root}
-use Rattle.match_laws.proofs.OneMatch.Agree.{carry}
-use Rattle.omega_kinds.proofs.NameLaws.{name-irreflexive, name-transitive, name-total}
+use Rattle.omega_kinds.proofs.NameLaws.{name-irreflexive, name-transitive}
 use Rattle.omega_types.proofs.BinderLaws.{applied-kind}
+use Rattle.sig_laws.proofs.Algebra.PathLaws.{one-field}
+use Rattle.sig_laws.proofs.Algebra.Paths.{before-cases, one_least}
+use Rattle.sig_laws.proofs.Algebra.Names.{NameBefore}
+use Rattle.sig_laws.proofs.Formed.WellFormedLaws.{before_all-field}
+use Rattle.sig_laws.proofs.Formed.WellFormedShape.{after-differs}
+use Rattle.sig_laws.proofs.Formed.NormGood.{own-lookup}
+use Rattle.sig_laws.proofs.Formed.RootNumbers.{root-of}
 
 -- a root path, read from the outside: o is the variable applied to the variables of the functors so far
 pub data RootIn : (c : List Kind) (o : Ty) (v : ℕ) (w : ℕ → ℕ) → Sig → SigPath → Type 0 where
@@ -54,32 +57,23 @@ to-root_in c o v w (PartAt.field f a) e h = RootIn.field f (to-root_in c o v w a
 to-root_in c o v w (PartAt.result {ks = ks} {bs = bs} {s = s} {q = Sig.Typ t k} a) e h = RootIn.result
     (h [] ks s ParamOn.here)
     (to-root_in (extend c ks) (applied ks o) v (λ x. past ks (w x)) a
-    (carry (λ d u. Conv d t u k) (extend-append ks bs c) (applied-append ks bs o) e)
-    (λ ds js q on x le. carry (λ d i. Avoids (extend d js) q (past js i)) (extend-append ks ds c) (past-append ks ds (w x)) (h (ks ++ ds) js q (ParamOn.result on) x le)))
+    (subst₂ (λ d u. Conv d t u k) (extend-append ks bs c) (applied-append ks bs o) e)
+    (λ ds js q on x le. subst₂ (λ d i. Avoids (extend d js) q (past js i)) (extend-append ks ds c) (past-append ks ds (w x)) (h (ks ++ ds) js q (ParamOn.result on) x le)))
 
 -- and back
 from-avoids : {c : List Kind} {o : Ty} {v : ℕ} {w : ℕ → ℕ} {s q : Sig} {p : SigPath} {ds js : List Kind} → RootIn c o v w s p → ParamOn s p ds js q → (x : ℕ) → x ≤ v → Avoids (extend (extend c ds) js) q (past js (past ds (w x)))
 from-avoids (RootIn.end e) h x le = elim h [ ]
-from-avoids {c = c} {o = o} {v = v} {w = w} {q = q} {ds = ds} {js = js} (RootIn.field {s = s} {p = p} f r) (ParamOn.field g on) x le = from-avoids r (same f g on) x le
-  where
-    field-same : {fs : SigRow} {l : Name} {s t : Sig} → HasField fs l s → (m : Name) → m ≡ l → HasField fs m t → t ≡ s
-    field-same here m e here = refl
-    field-same here m e (there n h) = absurd (n e)
-    field-same (there n g) m e here = absurd (n (sym e))
-    field-same (there n g) m e (there q h) = field-same g m e h
-
-    same : {fs : SigRow} {l : Name} {t : Sig} → HasField fs l s → HasField fs l t → ParamOn t p ds js q → ParamOn s p ds js q
-    same {fs} {l} {t} a b on = subst (λ z. ParamOn z p ds js q) (field-same a l refl b) on
+from-avoids {q = q} {ds = ds} {js = js} (RootIn.field {p = p} f r) (ParamOn.field g on) x le = from-avoids r (subst (λ z. ParamOn z p ds js q) (one-field g f refl) on) x le
 from-avoids (RootIn.result h r) ParamOn.here x le = h x le
 from-avoids {c = c} {w = w} {q = q} (RootIn.result {ks = ks} h r) (ParamOn.result {ds = ds} {js = js} on) x le =
-    carry (λ d i. Avoids (extend d js) q (past js i)) (sym (extend-append ks ds c)) (sym (past-append ks ds (w x))) (from-avoids r on x le)
+    subst₂ (λ d i. Avoids (extend d js) q (past js i)) (sym (extend-append ks ds c)) (sym (past-append ks ds (w x))) (from-avoids r on x le)
 
 from-root_in : {c : List Kind} {o : Ty} {v : ℕ} {w : ℕ → ℕ} {s : Sig} {p : SigPath} → RootIn c o v w s p → (bs : List Kind) × (t : Ty) × (k : Kind) × PartAt s p bs (Sig.Typ t k) × Conv (extend c bs) t (applied bs o) k
 from-root_in (RootIn.end {t = t} {k = k} e) = ([], t, k, PartAt.end, e)
 from-root_in (RootIn.field f r) = let q = from-root_in r in (q.0, q.1, q.2, PartAt.field f q.3, q.4)
 from-root_in {c} {o} (RootIn.result {ks = ks} h r) =
     let q = from-root_in r in
-    (ks ++ q.0, q.1, q.2, PartAt.result q.3, carry (λ d u. Conv d q.1 u q.2) (sym (extend-append ks q.0 c)) (sym (applied-append ks q.0 o)) q.4)
+    (ks ++ q.0, q.1, q.2, PartAt.result q.3, subst₂ (λ d u. Conv d q.1 u q.2) (sym (extend-append ks q.0 c)) (sym (applied-append ks q.0 o)) q.4)
 
 -- the variable has its kind
 root_in-kind : {c : List Kind} {o : Ty} {v : ℕ} {w : ℕ → ℕ} {s : Sig} {p : SigPath} → RootIn c o v w s p → (j : Kind) × HasKind c o j
@@ -101,44 +95,6 @@ root-out {ctx} {ks} {s} {number} {p} b r = let q = from-root_in r in root_path b
     avoid : (j : ℕ) → j ≤ own ks number → ParamsAvoid (extend ctx ks) s p j
     avoid j le ds js q on = from-avoids r on j le
 
--- root paths are totally ordered
-
-compare : {c d : List Kind} {o u : Ty} {v v' : ℕ} {w w' : ℕ → ℕ} {s : Sig} {p q : SigPath} → RootIn c o v w s p → RootIn d u v' w' s q → (p ≡ q) ⊎ (PathBefore p q ⊎ PathBefore q p)
-compare (RootIn.end e) (RootIn.end g) = inl refl
-compare (RootIn.field {l = l} {s = s} {p = p} f r) (RootIn.field {l = m} {s = t} {p = q} g z) = go (λ y. compare r y) (name-total l m) f g z
-  where
-    field-same : {fs : SigRow} {l : Name} {s t : Sig} → HasField fs l s → (m : Name) → m ≡ l → HasField fs m t → t ≡ s
-    field-same here m e here = refl
-    field-same here m e (there n h) = absurd (n e)
-    field-same (there n g) m e here = absurd (n (sym e))
-    field-same (there n g) m e (there q h) = field-same g m e h
-
-    longer : (a : Item) {p q : SigPath} → (p ≡ q) ⊎ (PathBefore p q ⊎ PathBefore q p) → ((a ∷ p) ≡ (a ∷ q)) ⊎ (PathBefore (a ∷ p) (a ∷ q) ⊎ PathBefore (a ∷ q) (a ∷ p))
-    longer a (inl e) = inl (ap (◌∷◌ a) e)
-    longer a (inr (inl h)) = inr (inl (later h))
-    longer a (inr (inr h)) = inr (inr (later h))
-
-    go : {c : List Kind} {o : Ty} {v : ℕ} {w : ℕ → ℕ} {fs : SigRow} {t : Sig} → (RootIn c o v w s q → (p ≡ q) ⊎ (PathBefore p q ⊎ PathBefore q p)) → (l ≡ m) ⊎ (IsTrue (name_before l m) ⊎ IsTrue (name_before m l)) → HasField fs l s → HasField fs m t → RootIn c o v w t q
-        → ((Item.Part l ∷ p) ≡ (Item.Part m ∷ q)) ⊎ (PathBefore (Item.Part l ∷ p) (Item.Part m ∷ q) ⊎ PathBefore (Item.Part m ∷ q) (Item.Part l ∷ p))
-    go {c} {o} {v} {w} k (inl e) a b z = subst (λ n. ((Item.Part l ∷ p) ≡ (Item.Part n ∷ q)) ⊎ (PathBefore (Item.Part l ∷ p) (Item.Part n ∷ q) ⊎ PathBefore (Item.Part n ∷ q) (Item.Part l ∷ p))) e
-        (longer (Item.Part l) (k (subst (λ y. RootIn c o v w y q) (field-same a m (sym e) b) z)))
-    go k (inr (inl h)) a b z = inr (inl (first (by_name h)))
-    go k (inr (inr h)) a b z = inr (inr (first (by_name h)))
-compare (RootIn.result h r) (RootIn.result g z) = longer Item.Res (compare r z)
-  where
-    longer : (a : Item) {p q : SigPath} → (p ≡ q) ⊎ (PathBefore p q ⊎ PathBefore q p) → ((a ∷ p) ≡ (a ∷ q)) ⊎ (PathBefore (a ∷ p) (a ∷ q) ⊎ PathBefore (a ∷ q) (a ∷ p))
-    longer a (inl e) = inl (ap (◌∷◌ a) e)
-    longer a (inr (inl h)) = inr (inl (later h))
-    longer a (inr (inr h)) = inr (inr (later h))
-
-pub least-unique : {ctx ks : List Kind} {s : Sig} {number : ℕ} {p q : SigPath} → number < length ks → LeastRoot ctx ks s number p → LeastRoot ctx ks s number q → p ≡ q
-least-unique {ctx} {ks} {s} {number} {p} {q} lt (least r h) (least z g) = go (compare (root-in lt r) (root-in lt z))
-  where
-    go : (p ≡ q) ⊎ (PathBefore p q ⊎ PathBefore q p) → p ≡ q
-    go (inl e) = e
-    go (inr (inl b)) = absurd (g p r b)
-    go (inr (inr b)) = absurd (h q z b)
-
 -- the search
 
 pub data Searched (P : SigPath → Type 0) : Option SigPath → Type 0 where
@@ -153,7 +109,7 @@ searched-end : {c : List Kind} {o : Ty} {v : ℕ} {w : ℕ → ℕ} {t : Ty} {k 
 searched-end {c} {o} {v} {w} {t} {k} {j} h n (yes e) (yes g) = found (RootIn.end conv) none_before
   where
     conv : Conv c t o k
-    conv = carry (λ u i. Conv c u o i) (sym g) (sym e) (c_sym (normal-gives h).1)
+    conv = subst₂ (λ u i. Conv c u o i) (sym g) (sym e) (c_sym (normal-gives h).1)
 
     none_before : (q : SigPath) → RootIn c o v w (Sig.Typ t k) q → PathBefore q [] → ⊥
     none_before q r b = elim b [ ]
@@ -198,23 +154,6 @@ searched-result {c} {ks} {o} {v} {w} {s} {r} {j} h n (no e) b inside = absent ne
         let d : j ≡ arrow_over ks q.0 = one_kind c o j (arrow_over ks q.0) h (applied-kinded ks o q.1) in
         e (d ∙ ap (arrow_over ks) (sym (ap (kind_left ks) d ∙ kind_left-over ks q.0)))
 
--- the names of the fields after one are greater
-later-names : {fs : SigRow} {m : Name} {s : Sig} (l : Name) → BeforeAll l fs → HasField fs m s → IsTrue (name_before l m)
-later-names {fs = SigRow.End} l b h = elim h [ ]
-later-names l b here = b.0
-later-names l b (there n h) = later-names l b.1 h
-
-path-view : {a b : Item} {p q : SigPath} → PathBefore (a ∷ p) (b ∷ q) → ItemBefore a b ⊎ ((a ≡ b) × PathBefore p q)
-path-view (first i) = inl i
-path-view (later h) = inr (refl, h)
-
-item-names : {l m : Name} → ItemBefore (Item.Part l) (Item.Part m) → IsTrue (name_before l m)
-item-names (by_name h) = h
-
-abbrev name_in : Item → Name
-name_in (Item.Part l) = l
-name_in _ = []
-
 searched-row : {c : List Kind} {o : Ty} {v : ℕ} {w : ℕ → ℕ} {l : Name} {s : Sig} {rest : SigRow} {one others : Option SigPath}
     → BeforeAll l rest
     → Searched (RootIn c o v w s) one
@@ -223,20 +162,20 @@ searched-row : {c : List Kind} {o : Ty} {v : ℕ} {w : ℕ → ℕ} {l : Name} {
 searched-row {c} {o} {v} {w} {l} {s} {rest} b (found {p = p} m f) q = found (RootIn.field here m) before
   where
     before : (q : SigPath) → InRow c o v w (SigRow.More l s rest) q → PathBefore q (Item.Part l ∷ p) → ⊥
-    before _ (RootIn.field {p = q} here z) h = go (path-view h)
+    before _ (RootIn.field {p = q} here z) h = go (before-cases h)
       where
-        go : ItemBefore (Item.Part l) (Item.Part l) ⊎ ((Item.Part l ≡ Item.Part l) × PathBefore q p) → ⊥
-        go (inl i) = name-irreflexive l (item-names i)
+        go : NameBefore l l ⊎ ((l ≡ l) × PathBefore q p) → ⊥
+        go (inl i) = name-irreflexive l i
         go (inr e) = f q z e.1
-    before _ (RootIn.field {l = k} {p = q} (there n g) z) h = go (path-view h)
+    before _ (RootIn.field {l = k} {p = q} (there n g) z) h = go (before-cases h)
       where
-        go : ItemBefore (Item.Part k) (Item.Part l) ⊎ ((Item.Part k ≡ Item.Part l) × PathBefore q p) → ⊥
-        go (inl i) = name-irreflexive l (name-transitive l k l (later-names l b g) (item-names i))
-        go (inr e) = n (ap name_in e.0)
+        go : NameBefore k l ⊎ ((k ≡ l) × PathBefore q p) → ⊥
+        go (inl i) = name-irreflexive l (name-transitive l k l (before_all-field l k b g) i)
+        go (inr e) = n e.0
 searched-row {c} {o} {v} {w} {l} {s} {rest} b (absent f) (found {p = p} m g) = found (into m) before
   where
     into : {p : SigPath} → InRow c o v w rest p → InRow c o v w (SigRow.More l s rest) p
-    into (RootIn.field h z) = RootIn.field (there (λ e. name-irreflexive l (subst (λ x. IsTrue (name_before l x)) e (later-names l b h))) h) z
+    into (RootIn.field {l = k} h z) = RootIn.field (there (after-differs l k b h) h) z
 
     before : (q : SigPath) → InRow c o v w (SigRow.More l s rest) q → PathBefore q p → ⊥
     before _ (RootIn.field {p = q} here z) h = f q z
@@ -268,23 +207,8 @@ mutual
 
 -- a hidden variable has its kind
 
-lookup-below : (ks : List Kind) (ctx : List Kind) (i : ℕ) → i < length ks → (k : Kind) × Lookup (extend ctx ks) i k
-lookup-below [] ctx i h = absurd (omega (arith, h))
-lookup-below (k ∷ ks) ctx i h = go (lookup-below ks (k ∷ ctx) i) (split_index ks i)
-  where
-    lift_lookup : (ks ctx : List Kind) (j : ℕ) (k : Kind) → Lookup ctx j k → Lookup (extend ctx ks) (past ks j) k
-    lift_lookup [] ctx j k x = x
-    lift_lookup (i ∷ ks) ctx j k x = lift_lookup ks (i ∷ ctx) (suc j) k (there x)
-
-    go : (i < length ks → (j : Kind) × Lookup (extend (k ∷ ctx) ks) i j) → (i < length ks) ⊎ ((j : ℕ) × (i ≡ past ks j)) → (j : Kind) × Lookup (extend (k ∷ ctx) ks) i j
-    go f (inl g) = f g
-    go f (inr (j, e)) =
-        let p = past-length ks j in
-        let z : j ≡ zero = omega (arith, h, e, p) in
-        (k, subst (λ x. Lookup (extend (k ∷ ctx) ks) x k) (sym (e ∙ ap (past ks) z)) (lift_lookup ks (k ∷ ctx) zero k here))
-
 pub own-kind : (ks ctx : List Kind) (number : ℕ) → number < length ks → HasKind (extend ctx ks) (Ty.Var (own ks number)) (kind_at (extend ctx ks) (own ks number))
-own-kind ks ctx number lt = let q = lookup-below ks ctx (own ks number) (omega (arith, lt)) in k_var (subst (Lookup (extend ctx ks) (own ks number)) (lookup-kind_at q.1) q.1)
+own-kind ks ctx number lt = let x = own-lookup ctx ks number lt in k_var (subst (Lookup (extend ctx ks) (own ks number)) (lookup-kind_at x) x)
 
 -- the least root path is the one that the search gives
 
@@ -309,8 +233,5 @@ least_root-gives {ctx} {ks} {s} {number} h n lt p = (λ e. to (searched (extend 
     to : {o : Option SigPath} → Searched (RootIn (extend ctx ks) (Ty.Var (own ks number)) (own ks number) (λ x. x) s) o → o ≡ Some p → LeastRoot ctx ks s number p
     to z e = subst (LeastIn ctx ks s number) e (least-in ctx ks s lt z)
 
-    root-of : LeastRoot ctx ks s number p → RootPath ctx ks s number p
-    root-of (least x y) = x
-
     from : LeastRoot ctx ks s number p → least_root ctx ks s number ≡ Some p
-    from l = let q = least_root-exists h n lt (p, root-of l) in q.1 ∙ ap Some (least-unique lt q.2 l)
+    from l = let q = least_root-exists h n lt (p, root-of l) in q.1 ∙ ap Some (one_least q.2 l)

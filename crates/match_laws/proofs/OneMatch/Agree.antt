@@ -2,7 +2,7 @@
 use Rattle.std.specs.Prelude.{ℕ, suc, ◌+◌, ◌-◌, ◌≤◌, ◌<◌, List, [], ◌∷◌, ◌++◌, ◌≡◌, length}
 use Rattle.std.proofs.Common.{arith}
 use Rattle.std.proofs.Math.Decide.{dec_lt}
-use Rattle.std.proofs.Math.Path.{sym, ◌∙◌, ap, subst}
+use Rattle.std.proofs.Math.Path.{sym, ◌∙◌, ap, subst, subst₂}
 use Rattle.std.proofs.lemmas.List.{length-append}
 use Rattle.omega_kinds.specs.Kind.{Kind}
 use Rattle.omega_kinds.specs.declared.effect.Effect.TheVariants.{Pure}
@@ -31,9 +31,6 @@ use Rattle.omega_types.proofs.BinderPuts.NormalTypes.{next}
 use Rattle.sig_laws.proofs.Algebra.Instances.{kinds-length, at-substitutes}
 use Rattle.sig_laws.proofs.Formed.RootNumbers.{own_falls}
 use Rattle.omega_types.proofs.BinderLaws.{applied-substitute}
-
-pub carry : {A B : Type 0} (P : A → B → Type 0) {a c : A} {b d : B} → a ≡ c → b ≡ d → P a b → P c d
-carry P {a} {c} {b} {d} p q x = subst (λ z. P z d) p (subst (P a) q x)
 
 -- Agree r q p bs t u k: along p the two have the same parameters, and at its end the types t and u of kind k
 pub data Agree : Sig → Sig → SigPath → List Kind → Ty → Ty → Kind → Type 0 where
@@ -72,14 +69,14 @@ agreed ctx f g (PartAt.result {ks = ks} {bs = bs} {s = s} {r = c} {q = Sig.Typ u
     let e : n0 ≡ m0 = same [] ks s n0 m0 ParamOn.here n m in
     let z = agreed (extend ctx ks) (unders ks f) (unders ks g) a
     (λ ds js b n m on x y. same (ks ++ ds) js b n m (ParamOn.result on)
-    (carry (λ h o. NormalSigForm (extend h js) (substitute_sig (unders js o) b) n) (sym (extend-append ks ds ctx)) (sym (unders-append ks ds f)) x)
-    (carry (λ h o. NormalSigForm (extend h js) (substitute_sig (unders js o) b) m) (sym (extend-append ks ds ctx)) (sym (unders-append ks ds g)) y))
+    (subst₂ (λ h o. NormalSigForm (extend h js) (substitute_sig (unders js o) b) n) (sym (extend-append ks ds ctx)) (sym (unders-append ks ds f)) x)
+    (subst₂ (λ h o. NormalSigForm (extend h js) (substitute_sig (unders js o) b) m) (sym (extend-append ks ds ctx)) (sym (unders-append ks ds g)) y))
     r q in (
       z.0,
       z.1,
       subst (λ x. Agree (Sig.Fun Pure ks n0 (Abs.Ex [] n1)) (Sig.Fun Pure ks x (Abs.Ex [] m1)) (Item.Res ∷ p) (ks ++ bs) z.0 z.1 k) e (Agree.result z.2),
-      carry (λ h o. NormalForm h (substitute o u) k z.0) (sym (extend-append ks bs ctx)) (sym (unders-append ks bs f)) z.3,
-      carry (λ h o. NormalForm h (substitute o u) k z.1) (sym (extend-append ks bs ctx)) (sym (unders-append ks bs g)) z.4,
+      subst₂ (λ h o. NormalForm h (substitute o u) k z.0) (sym (extend-append ks bs ctx)) (sym (unders-append ks bs f)) z.3,
+      subst₂ (λ h o. NormalForm h (substitute o u) k z.1) (sym (extend-append ks bs ctx)) (sym (unders-append ks bs g)) z.4,
     )
 
 -- types that are the same for the variables before one give the same parameters on its root path
@@ -116,7 +113,7 @@ same_params {ctx} {ks} {s} {p} {ts} {us} before rest others e g hs hu lt avoid d
         mentioned i h = go (dec_lt i (length rest))
           where
             never : {v : ℕ} → v ≡ i → Avoids (extend (extend (extend ctx ks) ds) js) b (past js (past ds v)) → ⊥
-            never {v} q (by_normal_form {n = w} c hidden) = hidden (carry (λ o x. MentionsSig (past js (past ds o)) x) (sym q) (form_sig-unique f c) h)
+            never {v} q (by_normal_form {n = w} c hidden) = hidden (subst₂ (λ o x. MentionsSig (past js (past ds o)) x) (sym q) (form_sig-unique f c) h)
 
             go : Dec (i < length rest) → puts ts Ty.Var i ≡ puts us Ty.Var i
             go (yes q) =
@@ -142,6 +139,12 @@ normal_types-middle {ctx} {ts} {ks} before rest t e n = go before (subst (λ z. 
     go [] (next {k = k} n ns) = (k, n)
     go (b ∷ before) (next n ns) = go before ns
 
+-- the type that is put in for the variable of its number
+pub put-own : {ctx ks : List Kind} {tys : List Ty} {t : Ty} (before rest : List Ty) → tys ≡ before ++ (t ∷ rest) → OfKinds ctx tys ks → puts tys Ty.Var (own ks (length before)) ≡ t
+put-own {ks = ks} {t = t} before rest e h =
+    let l : length ks ≡ length before + suc (length rest) = sym (kinds-length h) ∙ (ap length e ∙ length-append before (t ∷ rest)) in
+    ap (λ z. puts z Ty.Var (own ks (length before))) e ∙ puts-own before rest t Ty.Var (own ks (length before)) (omega arith)
+
 -- a part that is the variable itself, applied to the variables of the path, shows the type that was put in
 pub type_shown : {ctx ks : List Kind} {tys : List Ty} {t a u : Ty} {k : Kind} (bs : List Kind) (before rest : List Ty)
     → tys ≡ before ++ (t ∷ rest) → NormalTypes ctx tys ks
@@ -151,15 +154,9 @@ pub type_shown : {ctx ks : List Kind} {tys : List Ty} {t a u : Ty} {k : Kind} (b
 type_shown {ctx} {ks} {tys} {t} {a} {u} {k} bs before rest e n c f =
     let m = normal_types-middle before rest t e n in
     let d = conv-substitute (unders bs (puts tys Ty.Var)) (unders-substitutes bs (at-substitutes (types-kinds n))) c in
-    let d2 = subst (λ w. Conv (extend ctx bs) (substitute (unders bs (puts tys Ty.Var)) u) w k) (applied-substitute bs (puts tys Ty.Var) (Ty.Var (own ks (length before))) ∙ ap (applied bs) shown) d in
+    let d2 = subst (λ w. Conv (extend ctx bs) (substitute (unders bs (puts tys Ty.Var)) u) w k) (applied-substitute bs (puts tys Ty.Var) (Ty.Var (own ks (length before))) ∙ ap (applied bs) (put-own before rest e (types-kinds n))) d in
     let d3 = c_trans (c_sym f.1) d2 in
     operator_found bs f.0 (subst (λ j. Normal ctx t j) (operator_kind bs t (normal-kind m.1) (conv-kinds d3).1) m.1) d3
-  where
-    len : length ks ≡ length before + suc (length rest)
-    len = sym (kinds-length (types-kinds n)) ∙ (ap length e ∙ length-append before (t ∷ rest))
-
-    shown : puts tys Ty.Var (own ks (length before)) ≡ t
-    shown = let l = len in ap (λ z. puts z Ty.Var (own ks (length before))) e ∙ puts-own before rest t Ty.Var (own ks (length before)) (omega arith)
 
 -- right sides with the same types before a variable agree along its root path
 

@@ -2,8 +2,8 @@
 use Rattle.sig_laws.proofs.Formed.Conditions.{match-kinds, IsRight, RightResult, right-functor, left-functor, explicit-right, explicit-roots, abs-body, str-fields, str-results, row-first, results-first, row-field, param-raised, abs-raised, right-at, left-at}
 use Rattle.std.specs.Prelude.{◌<◌, List, [], ◌∷◌, ◌++◌, ◌≡◌, length}
 use Rattle.std.proofs.Common.{arith}
-use Rattle.std.proofs.Math.Path.{refl, sym, ◌∙◌, ap, ap₂, subst}
-use Rattle.std.proofs.lemmas.List.{length-append}
+use Rattle.std.proofs.Math.Path.{refl, sym, ◌∙◌, ap, ap₂, subst, subst₂}
+use Rattle.std.proofs.lemmas.List.{length-append, append_assoc}
 use Rattle.omega_kinds.specs.Kind.{Kind}
 use Rattle.omega_kinds.specs.declared.label.Label.{Label}
 use Rattle.omega_kinds.specs.declared.effect.Effect.{Effect}
@@ -24,15 +24,15 @@ use Rattle.signatures.specs.Matching.Subtyping.{Sub, SubFields, SubResult, SubAb
 use Rattle.sig_laws.proofs.Algebra.AlikeLaws.{form_sig-unique, form_abs-unique}
 use Rattle.omega_types.proofs.BinderPuts.{NormalTypes, forms-types, types-kinds}
 use Rattle.sig_laws.proofs.Algebra.Instances.{kinds-length, guess-form}
-use Rattle.match_laws.proofs.OneMatch.Views.{sub-view, fields-view, result-view, abs-view, match-view, fields-at, field-unique, match_part-unique, abs_part-unique}
-use Rattle.match_laws.proofs.OneMatch.Agree.{carry, Agree, type_shown, root-agreed}
+use Rattle.match_laws.proofs.OneMatch.Views.{sub-view, fields-view, result-view, abs-view, match-view, fields-at, match_part-unique, abs_part-unique}
+use Rattle.match_laws.proofs.OneMatch.Agree.{Agree, type_shown, root-agreed}
 use Rattle.sig_laws.proofs.Formed.WellFormedLaws.{explicit-body}
+use Rattle.sig_laws.proofs.Algebra.PathLaws.{one-field}
 
 -- the types are found at the root paths, one after the other
 
-pub append-one : (before rest : List Ty) (t : Ty) → before ++ (t ∷ rest) ≡ (before ++ (t ∷ [])) ++ rest
-append-one [] rest t = refl
-append-one (b ∷ before) rest t = ap (◌∷◌ b) (append-one before rest t)
+pub append-one : {A : Type 0} (before rest : List A) (t : A) → before ++ (t ∷ rest) ≡ (before ++ (t ∷ [])) ++ rest
+append-one before rest t = sym (append_assoc before (t ∷ []) rest)
 
 pub first_same : {ctx ks : List Kind} {s r q : Sig} {p : SigPath} {ts us : List Ty} (before rest others : List Ty) (t u : Ty)
     → ts ≡ before ++ (t ∷ rest) → us ≡ before ++ (u ∷ others)
@@ -102,7 +102,7 @@ mutual
       let q = fields-view d in
       let v1 = row-first v in
       let r1 = results-first r in
-      let pf = sub-unique a (row-field w h) (v1.0, r1.0) q.1 (subst (λ o. Sub ctx o t q.1) (field-unique q.3 h) q.4) in
+      let pf = sub-unique a (row-field w h) (v1.0, r1.0) q.1 (subst (λ o. Sub ctx o t q.1) (one-field q.3 h refl) q.4) in
       ap₂ (TermRow.More (Label.Name l)) pf (fields-unique rest w v1.1 r1.1 q.2 q.5) ∙ sym q.6
 
   pub result-unique : {ctx : List Kind} {e d : Effect} {x y : Abs} {f : Term} → SubResult ctx e d x y f → WellFormedAbs ctx x → RightResult ctx d y → (g : Term) → SubResult ctx e d x y g → f ≡ g
@@ -113,11 +113,11 @@ mutual
   abs-unique (SubAbs.plain {ctx = ctx} {s = s} {y = y} {ts = ts} {f = f} m p) w v g d =
       let q = abs-view d in
       let u = match-unique m (abs-body w) v q.0 q.1 q.2 in
-      match_part-unique p g (carry (λ us o. MatchPart ctx (enc s) us o (enc_abs y) g) (sym u.0) (sym u.1) q.3)
+      match_part-unique p g (subst₂ (λ us o. MatchPart ctx (enc s) us o (enc_abs y) g) (sym u.0) (sym u.1) q.3)
   abs-unique (SubAbs.hidden {ctx = ctx} {ks = ks} {k = k} {s = s} {y = y} {ts = ts} {f = f} m p) w v g d =
       let q = abs-view d in
       let u = match-unique m (abs-body w) (abs-raised (k ∷ ks) v) q.0 q.1 q.2 in
-      abs_part-unique p g (carry (λ us o. AbsPart (extend ctx (k ∷ ks)) (enc_abs (Abs.Ex (k ∷ ks) s)) (k ∷ ks) us o (raise (k ∷ ks) (enc_abs y)) g) (sym u.0) (sym u.1) q.3)
+      abs_part-unique p g (subst₂ (λ us o. AbsPart (extend ctx (k ∷ ks)) (enc_abs (Abs.Ex (k ∷ ks) s)) (k ∷ ks) us o (raise (k ∷ ks) (enc_abs y)) g) (sym u.0) (sym u.1) q.3)
 
   pub match-unique : {ctx : List Kind} {s : Sig} {x : Abs} {ts : List Ty} {f : Term} → Match ctx s x ts f → WellFormed ctx s → Explicit ctx x → (us : List Ty) (g : Term) → Match ctx s x us g → (ts ≡ us) × (f ≡ g)
   match-unique (Match.at {ctx = ctx} {ks = ks} {s = s} {t = t} {r = r} {ts = ts} o forms n a) w v us g d =
@@ -148,7 +148,7 @@ mutual
 
   pub fields-agree : {ctx : List Kind} {fs gs : SigRow} {parts : TermRow} {l : Name} {s r q : Sig} {p : SigPath} {bs : List Kind} {t u : Ty} {k : Kind} → SubFields ctx fs gs parts → WellFormedRow ctx fs → WellFormedRow ctx gs → ExplicitResultsRow ctx gs → HasField gs l r → Agree r q p bs t u k → (g : Term) → HasField fs l s → Sub ctx s q g → t ≡ u
   fields-agree SubFields.end w v r h ag g hs d = elim h [ ]
-  fields-agree {ctx} {q = q} (SubFields.more h a rest) w v r here ag g hs d = sub-agree a (row-field w h) ((row-first v).0, (results-first r).0) ag g (subst (λ o. Sub ctx o q g) (field-unique hs h) d)
+  fields-agree {ctx} {q = q} (SubFields.more h a rest) w v r here ag g hs d = sub-agree a (row-field w h) ((row-first v).0, (results-first r).0) ag g (subst (λ o. Sub ctx o q g) (one-field hs h refl) d)
   fields-agree (SubFields.more h a rest) w v r (there n h1) ag g hs d = fields-agree rest w (row-first v).1 (results-first r).1 h1 ag g hs d
 
   pub result-agree : {ctx : List Kind} {e : Effect} {x : Abs} {r q : Sig} {f : Term} {p : SigPath} {bs : List Kind} {t u : Ty} {k : Kind} → SubResult ctx e Pure x (Abs.Ex [] r) f → WellFormedAbs ctx x → RightResult ctx Pure (Abs.Ex [] r) → Agree r q p bs t u k → (g : Term) → SubResult ctx e Pure x (Abs.Ex [] q) g → t ≡ u

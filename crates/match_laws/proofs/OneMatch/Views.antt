@@ -1,7 +1,7 @@
 -- What a derivation of subtyping or matching is made of, by the forms of the two sides.
 use Rattle.omega_terms.proofs.InstanceLaws.{packs-same}
 use Rattle.std.specs.Prelude.{List, [], ◌∷◌, ◌≡◌}
-use Rattle.std.proofs.Math.Path.{refl, sym, ap}
+use Rattle.std.proofs.Math.Path.{refl, ap}
 use Rattle.omega_kinds.specs.Kind.{Kind}
 use Rattle.omega_kinds.specs.declared.label.Label.{Label}
 use Rattle.omega_kinds.specs.declared.effect.Effect.{Effect}
@@ -72,15 +72,6 @@ pub fields-at : {ctx : List Kind} {fs gs : SigRow} {parts : TermRow} {l : Name} 
 fields-at SubFields.end h = elim h [ ]
 fields-at (SubFields.more {s = s} {f = f} g a rest) here = (s, f, g, a)
 fields-at (SubFields.more g a rest) (there n h) = fields-at rest h
-
-pub field-unique : {fs : SigRow} {l : Name} {s t : Sig} → HasField fs l s → HasField fs l t → s ≡ t
-field-unique {fs} {l} {s} {t} g h = go g l refl h
-  where
-    go : {fs : SigRow} {l : Name} {s t : Sig} → HasField fs l s → (m : Name) → m ≡ l → HasField fs m t → s ≡ t
-    go here m e here = refl
-    go here m e (there n h) = absurd (n e)
-    go (there n g) m e here = absurd (n (sym e))
-    go (there n g) m e (there q h) = go g m e h
 
 -- the function of a match, and of a match of abstracted signatures, is the only one
 

@@ -2,7 +2,7 @@
 use Rattle.std.specs.Prelude.{ℕ, suc, ◌-◌, ◌<◌, ◌≤◌, List, [], ◌≡◌, ◌⊎◌, length}
 use mathlib.Core.Logic.{inl, inr}
 use Rattle.std.proofs.Common.{arith}
-use Rattle.std.proofs.Math.Path.{sym, ◌∙◌, ap, subst, subst₂}
+use Rattle.std.proofs.Math.Path.{sym, ◌∙◌, ap, subst}
 use Rattle.omega_kinds.specs.Kind.{Kind}
 use Rattle.omega_kinds.specs.declared.effect.Effect.TheVariants.{Pure, Impure}
 use Rattle.omega_kinds.specs.Name.{Name}
@@ -20,25 +20,18 @@ use Rattle.signatures.specs.QuantifierOrder.{NewOrder, reordered, renumber, Norm
 use Rattle.signatures.specs.Explicit.WellFormed.{BeforeAll, Rising, WellFormed, WellFormedRow, WellFormedAbs, ExplicitResults, ExplicitResultsRow, Explicit, abs, explicit, in_meta, in_str, in_pure, in_impure, in_more}
 use Rattle.sig_laws.proofs.Algebra.BinderLaws.{past-length, extend-append}
 use Rattle.sig_laws.proofs.Algebra.SigAlgebra.{substitute-vars_sig, substitute-vars_abs}
-use Rattle.sig_laws.proofs.Algebra.AlikeLaws.{conv_sig-sym, conv_sig-trans, form-conv_sig, form_sig-normal, conv_sig-gives, conv_sig-substitute, conv_abs-substitute, substitutes-convertible}
+use Rattle.sig_laws.proofs.Algebra.AlikeLaws.{conv_sig-sym, conv_sig-trans, form-conv_sig, form_sig-normal, conv_sig-gives}
 use Rattle.sig_laws.proofs.Algebra.SigMention.{mentions_sig-substitute, mentions_abs-substitute, unmentioned_sig}
-use Rattle.sig_laws.proofs.Formed.WellFormedLaws.{well_formed-kinds, well_formed-rename, explicit_results-rename, explicit-rename, maps-substitutes}
+use Rattle.sig_laws.proofs.Formed.WellFormedLaws.{well_formed-kinds, well_formed-rename, explicit_results-rename, explicit-rename, maps-substitutes, conv_sig-rename, conv_abs-rename}
 use Rattle.sig_laws.proofs.Algebra.Own.{split_index}
-use Rattle.explicit_laws.proofs.Moves.{rooted-shows, shows-rooted, shows-substitute, params-moved}
-use Rattle.norm_laws.proofs.Orders.Orders.{nth, place-nth, nth-untaken, Stage, stage, stages, reordered-length, renumber-own, renumber-below, renumber-maps, renumber-only, renumber-past}
-use Rattle.sig_laws.proofs.Formed.NormGood.{order-length}
+use Rattle.explicit_laws.proofs.Moves.{params-moved}
+use Rattle.norm_laws.proofs.Orders.Orders.{nth, place-nth, nth-untaken, Stage, stage, stages, reordered-length, renumber-own, renumber-below, renumber-only, renumber-past}
+use Rattle.sig_laws.proofs.Formed.NormGood.{order-length, reorder-maps}
 use Rattle.omega_types.proofs.BinderPuts.{lifts-maps}
 use Rattle.sig_laws.specs.Decide.{in_var}
+use Rattle.sig_laws.proofs.Formed.Shows.{rooted-shows, shows-rooted, shows-substitute}
 
 -- renamed signatures
-
-pub conv_sig-rename : {ctx other : List Kind} {s t : Sig} (r : ℕ → ℕ) → Maps ctx other r → ConvSig ctx s t → ConvSig other (rename_sig r s) (rename_sig r t)
-conv_sig-rename {other = other} {s = s} {t = t} r h c =
-    subst₂ (ConvSig other) (substitute-vars_sig r s) (substitute-vars_sig r t) (conv_sig-substitute (λ i. Ty.Var (r i)) (λ i. Ty.Var (r i)) (substitutes-convertible (maps-substitutes h)) c)
-
-pub conv_abs-rename : {ctx other : List Kind} {s t : Abs} (r : ℕ → ℕ) → Maps ctx other r → ConvAbs ctx s t → ConvAbs other (rename_abs r s) (rename_abs r t)
-conv_abs-rename {other = other} {s = s} {t = t} r h c =
-    subst₂ (ConvAbs other) (substitute-vars_abs r s) (substitute-vars_abs r t) (conv_abs-substitute (λ i. Ty.Var (r i)) (λ i. Ty.Var (r i)) (substitutes-convertible (maps-substitutes h)) c)
 
 pub mentions_sig-rename : (r : ℕ → ℕ) (s : Sig) (v : ℕ) → MentionsSig v (rename_sig r s) → (j : ℕ) × MentionsSig j s × (r j ≡ v)
 mentions_sig-rename r s v m = let q = mentions_sig-substitute (λ i. Ty.Var (r i)) s v (subst (MentionsSig v) (sym (substitute-vars_sig r s)) m) in (q.0, q.1, sym (in_var q.2))
@@ -63,8 +56,8 @@ renumber-back {ks = ks} {order = order} t x i e = go (split_index ks x)
 -- a signature with its quantifiers in their order is ordered explicit
 pub reorder : {ctx ks : List Kind} {s : Sig} {order : List ℕ} → NewOrder ctx ks s order → WellFormed (extend ctx ks) s → ExplicitResults (extend ctx ks) s → Explicit ctx (Abs.Ex (reordered ks order) (rename_sig (renumber ks order) s))
 reorder {ctx} {ks} {s} {order} t w r = explicit
-    (well_formed-rename (renumber ks order) (renumber-maps t ctx) w)
-    (explicit_results-rename (renumber ks order) (renumber-maps t ctx) r)
+    (well_formed-rename (renumber ks order) (reorder-maps t ctx) w)
+    (explicit_results-rename (renumber ks order) (reorder-maps t ctx) r)
     (λ k lt. root k (bound k lt) (stages k t (bound k lt)))
   where
     bound : (k : ℕ) → k < length (reordered ks order) → k < length order
@@ -78,11 +71,11 @@ reorder {ctx} {ks} {s} {order} t w r = explicit
       where
         rooted : Rooted (extend ctx (reordered ks order)) (rename_sig (renumber ks order) s) (own (reordered ks order) k) p
         rooted = subst (λ z. Rooted (extend ctx (reordered ks order)) z (own (reordered ks order) k) p) (substitute-vars_sig (renumber ks order) s)
-            (shows-rooted (ap Ty.Var (own-new k lt)) (shows-substitute (λ i. Ty.Var (renumber ks order i)) (maps-substitutes (renumber-maps t ctx)) (rooted-shows x)))
+            (shows-rooted (ap Ty.Var (own-new k lt)) (shows-substitute (λ i. Ty.Var (renumber ks order i)) (maps-substitutes (reorder-maps t ctx)) (rooted-shows x)))
 
         avoid : (j : ℕ) → k ≤ j → j < length (reordered ks order) → ParamsAvoid (extend ctx (reordered ks order)) (rename_sig (renumber ks order) s) p (own (reordered ks order) j)
         avoid j le f = subst (λ z. ParamsAvoid (extend ctx (reordered ks order)) z p (own (reordered ks order) j)) (substitute-vars_sig (renumber ks order) s)
-            (params-moved s p (own (reordered ks order) j) (λ i. Ty.Var (renumber ks order i)) (maps-substitutes (renumber-maps t ctx)) (well_formed-kinds w)
+            (params-moved s p (own (reordered ks order) j) (λ i. Ty.Var (renumber ks order i)) (maps-substitutes (reorder-maps t ctx)) (well_formed-kinds w)
             (λ z m. subst (ParamsAvoid (extend ctx ks) s p) (sym (renumber-only t j (bound j f) z (sym (in_var m) ∙ ap (λ n. n - suc j) (reordered-length t)))) (a j le (bound j f))))
 
 -- the types in what norm gives are those of the signature
@@ -117,14 +110,14 @@ like-pure {ks = ks} {s = s} {r = r} (Like.like u c m) (Like.like v d n) = Like.l
     go i (inr q) = inr (n (past ks i) q)
 
 like-reordered : {ctx ks : List Kind} {t s : Sig} {order : List ℕ} → NewOrder ctx ks t order → Like (extend ctx ks) t s → LikeAbs ctx (Abs.Ex (reordered ks order) (rename_sig (renumber ks order) t)) (Abs.Ex ks s)
-like-reordered {ctx} {ks} {t} {s} {order} o (Like.like u c m) = LikeAbs.like (Abs.Ex (reordered ks order) (rename_sig (renumber ks order) u)) (ex (conv_sig-rename (renumber ks order) (renumber-maps o ctx) c)) go
+like-reordered {ctx} {ks} {t} {s} {order} o (Like.like u c m) = LikeAbs.like (Abs.Ex (reordered ks order) (rename_sig (renumber ks order) u)) (ex (conv_sig-rename (renumber ks order) (reorder-maps o ctx) c)) go
   where
     go : (i : ℕ) → MentionsSig (past (reordered ks order) i) (rename_sig (renumber ks order) u) → MentionsSig (past ks i) s
     go i q = let w = mentions_sig-rename (renumber ks order) u (past (reordered ks order) i) q in m (past ks i) (subst (λ j. MentionsSig j u) (renumber-back o w.0 i w.2) w.1)
 
 like-impure : {ctx ks : List Kind} {t s : Sig} {y x : Abs} {order : List ℕ} → NewOrder ctx ks t order → Like (extend ctx ks) t s → LikeAbs (extend ctx ks) y x → Like ctx (Sig.Fun Impure (reordered ks order) (rename_sig (renumber ks order) t) (rename_abs (renumber ks order) y)) (Sig.Fun Impure ks s x)
 like-impure {ctx} {ks} {t} {s} {y} {x} {order} o (Like.like u c m) (LikeAbs.like v d n) =
-    Like.like (Sig.Fun Impure (reordered ks order) (rename_sig (renumber ks order) u) (rename_abs (renumber ks order) v)) (fun (conv_sig-rename (renumber ks order) (renumber-maps o ctx) c) (conv_abs-rename (renumber ks order) (renumber-maps o ctx) d)) go
+    Like.like (Sig.Fun Impure (reordered ks order) (rename_sig (renumber ks order) u) (rename_abs (renumber ks order) v)) (fun (conv_sig-rename (renumber ks order) (reorder-maps o ctx) c) (conv_abs-rename (renumber ks order) (reorder-maps o ctx) d)) go
   where
     go : (i : ℕ) → MentionsSig i (Sig.Fun Impure (reordered ks order) (rename_sig (renumber ks order) u) (rename_abs (renumber ks order) v)) → MentionsSig i (Sig.Fun Impure ks s x)
     go i (inl q) = let w = mentions_sig-rename (renumber ks order) u (past (reordered ks order) i) q in inl (m (past ks i) (subst (λ j. MentionsSig j u) (renumber-back o w.0 i w.2) w.1))
@@ -198,14 +191,14 @@ mutual
   norm-well_formed (NormSig.str fs) (WellFormed.str r w) = WellFormed.str (rising-norm fs r) (norm_row-well_formed fs w)
   norm-well_formed (NormSig.pure a b) (WellFormed.pure (explicit w r e) v) = WellFormed.pure (explicit (norm-well_formed a w) (norm-results a r) (λ i lt. let q = e i lt in (q.0, root-norm a q.1))) (norm-well_formed b v)
   norm-well_formed {ctx} (NormSig.impure {ks = ks} {order = order} a o x) (WellFormed.impure (explicit w r e) v) =
-      WellFormed.impure (reorder o (norm-well_formed a w) (norm-results a r)) (well_formed_abs-rename (renumber ks order) (renumber-maps o ctx) (norm_abs-well_formed x v))
+      WellFormed.impure (reorder o (norm-well_formed a w) (norm-results a r)) (well_formed_abs-rename (renumber ks order) (reorder-maps o ctx) (norm_abs-well_formed x v))
 
   pub norm_row-well_formed : {ctx : List Kind} {fs gs : SigRow} → NormRow ctx fs gs → WellFormedRow ctx fs → WellFormedRow ctx gs
   norm_row-well_formed NormRow.end w = w
   norm_row-well_formed (NormRow.more a rest) (WellFormedRow.more w ws) = WellFormedRow.more (norm-well_formed a w) (norm_row-well_formed rest ws)
 
   pub norm_abs-well_formed : {ctx : List Kind} {x y : Abs} → Norm ctx x y → WellFormedAbs ctx x → WellFormedAbs ctx y
-  norm_abs-well_formed {ctx} (Norm.ex {ks = ks} {order = order} a o) (abs w) = abs (well_formed-rename (renumber ks order) (renumber-maps o ctx) (norm-well_formed a w))
+  norm_abs-well_formed {ctx} (Norm.ex {ks = ks} {order = order} a o) (abs w) = abs (well_formed-rename (renumber ks order) (reorder-maps o ctx) (norm-well_formed a w))
 
   pub norm-results : {ctx : List Kind} {s t : Sig} → NormSig ctx s t → ExplicitResults ctx s → ExplicitResults ctx t
   norm-results NormSig.val r = r
@@ -213,7 +206,7 @@ mutual
   norm-results (NormSig.meta x) r = in_meta
   norm-results (NormSig.str fs) (in_str r) = in_str (norm_row-results fs r)
   norm-results (NormSig.pure a b) (in_pure r) = in_pure (norm-results b r)
-  norm-results {ctx} (NormSig.impure {ks = ks} {order = order} a o x) (in_impure e) = in_impure (explicit-rename (renumber ks order) (renumber-maps o ctx) (norm_abs-explicit x e))
+  norm-results {ctx} (NormSig.impure {ks = ks} {order = order} a o x) (in_impure e) = in_impure (explicit-rename (renumber ks order) (reorder-maps o ctx) (norm_abs-explicit x e))
 
   pub norm_row-results : {ctx : List Kind} {fs gs : SigRow} → NormRow ctx fs gs → ExplicitResultsRow ctx fs → ExplicitResultsRow ctx gs
   norm_row-results NormRow.end r = r

@@ -21,7 +21,7 @@ use Rattle.sig_laws.proofs.Algebra.SigMention.{mentions-unders}
 use Rattle.sig_laws.proofs.Algebra.PathLaws.{param-back}
 use Rattle.sig_laws.proofs.Algebra.Own.{split_index}
 use Rattle.sig_laws.proofs.Formed.WellFormedLaws.{maps-substitutes, avoids-substitute}
-use Rattle.explicit_laws.proofs.Moves.{rooted-shows, shows-rooted, shows-substitute}
+use Rattle.explicit_laws.proofs.Moves.{rooted-renamed}
 use Rattle.explicit_laws.proofs.Positions.{own-below}
 use Rattle.explicit_laws.proofs.Liftings.{lifts-below}
 use Rattle.norm_laws.proofs.Orders.Orders.{reordered-length, renumber-below, renumber-past}
@@ -48,9 +48,6 @@ undone-lifts ks {r = r} {q = q} u = record {
 
 pub undone-sig : {ctx other : List Kind} {r q : ℕ → ℕ} → Undone ctx other r q → (s : Sig) → rename_sig q (rename_sig r s) ≡ s
 undone-sig {r = r} {q = q} u s = rename-rename_sig q r s ∙ (ap (λ f. rename_sig f s) (fun_ext u.back_there) ∙ rename_sig-id s)
-
-pub rooted-renamed : {ctx other : List Kind} {s : Sig} {i : ℕ} {p : SigPath} (r : ℕ → ℕ) → Maps ctx other r → Rooted ctx s i p → Rooted other (rename_sig r s) (r i) p
-rooted-renamed {other = other} {s = s} {i = i} {p = p} r h x = subst (λ z. Rooted other z (r i) p) (substitute-vars_sig r s) (shows-rooted refl (shows-substitute (λ j. Ty.Var (r j)) (maps-substitutes h) (rooted-shows x)))
 
 pub params-renamed : {ctx other : List Kind} {s : Sig} {p : SigPath} (i : ℕ) (r q : ℕ → ℕ) → Undone ctx other r q → ParamsAvoid ctx s p i → ParamsAvoid other (rename_sig r s) p (r i)
 params-renamed {ctx} {other} {s} {p} i r q u a = subst (λ z. ParamsAvoid other z p (r i)) (substitute-vars_sig r s) moved

@@ -2,12 +2,12 @@
 use Rattle.std.specs.Prelude.{ℕ, zero, suc, ◌-◌, ◌<◌, List, [], ◌∷◌, ◌++◌, ◌≡◌, ◌⊎◌, length}
 use mathlib.Core.Logic.{inl, inr}
 use Rattle.std.proofs.Common.{arith}
-use Rattle.std.proofs.Math.Path.{refl, sym, ◌∙◌, ap, ap₂, subst, subst₂, fun_ext}
+use Rattle.std.proofs.Math.Path.{refl, sym, ◌∙◌, ap, ap₂, subst, subst₂}
 use Rattle.omega_kinds.specs.Kind.{Kind}
 use Rattle.omega_kinds.specs.declared.effect.Effect.{Effect}
 use Rattle.omega_kinds.specs.declared.effect.Effect.TheVariants.{Pure, Impure}
 use Rattle.omega_kinds.specs.Name.{Name}
-use Rattle.omega_types.specs.Ty.{Ty, lift}
+use Rattle.omega_types.specs.Ty.{Ty}
 use Rattle.omega_types.specs.Substitution.{substitute}
 use Rattle.omega_types.specs.Kinding.{HasKind}
 use Rattle.omega_types.specs.Kinding.HasKind.{k_var}
@@ -15,7 +15,7 @@ use Rattle.omega_types.specs.Conversion.{Conv}
 use Rattle.omega_types.specs.Conversion.Conv.{c_refl, c_sym, c_trans}
 use Rattle.omega_types.specs.Normaliser.{kind_at}
 use Rattle.omega_types.specs.Normalises.{NormalForm}
-use Rattle.omega_types.specs.Binders.{extend, past, own, lifts, unders, puts, front, applied, arrow_over, OfKinds, NormalForms}
+use Rattle.omega_types.specs.Binders.{extend, past, own, lifts, unders, puts, applied, arrow_over, OfKinds, NormalForms}
 use Rattle.omega_types.proofs.Algebra.{substitute-id}
 use Rattle.omega_types.proofs.Preservation.{Substitutes, Convertible, conv-kinds, substitute-convertible}
 use Rattle.omega_types.proofs.Inverse.{one_kind}
@@ -31,13 +31,15 @@ use Rattle.sig_laws.proofs.Algebra.SigAlgebra.{substitute-rename_sig}
 use Rattle.sig_laws.proofs.Algebra.AlikeLaws.{form-conv_sig, conv_sig-sym, conv_sig-trans, substitutes-convertible}
 use Rattle.sig_laws.proofs.Algebra.EtaLaws.{lam_over-conv, applied-kinded, eta_over}
 use Rattle.sig_laws.proofs.Algebra.Own.{split_index, unders-below}
-use Rattle.omega_types.proofs.BinderPuts.{NormalTypes, forms-types, types-kinds, unders-substitutes}
-use Rattle.sig_laws.proofs.Algebra.Instances.{puts-substitutes, puts-convertible, past-substitutes, kinds-length}
+use Rattle.omega_types.proofs.BinderPuts.{unders-substitutes, puts-substitutes, puts-convertible, Fits, puts-lifts, kinds-fit}
+use Rattle.sig_laws.proofs.Algebra.Instances.{past-substitutes, kinds-length}
 use Rattle.sig_laws.proofs.Algebra.PathLaws.{field-alike, part-substitute, part-alike, one-field}
-use Rattle.explicit_laws.proofs.Paths.{same_name_of, same_rest_of}
-use Rattle.explicit_laws.proofs.Moves.{Shows, shows, rooted-shows, shows-rooted, shows-substitute}
+use Rattle.sig_laws.proofs.Algebra.Paths.{same_name_of, same_rest_of}
 use Rattle.explicit_laws.proofs.Positions.{own-below}
-use Rattle.norm_laws.proofs.Orders.Orders.{lookup-own, own-own}
+use Rattle.norm_laws.proofs.Orders.Orders.{own-own}
+use Rattle.sig_laws.proofs.Formed.NormGood.{own-lookup}
+use Rattle.sig_laws.proofs.Formed.Conditions.{match-kinds}
+use Rattle.sig_laws.proofs.Formed.Shows.{Shows, shows, rooted-shows, shows-rooted, shows-substitute, shows-alike}
 
 -- as many variables, and each one is rooted at some path on both sides
 abbrev pub Joined : (ctx ks : List Kind) → Sig → (other js : List Kind) → Sig → Type 0
@@ -65,16 +67,7 @@ aligned-flip (Aligned.a_pure {ctx = ctx} {other = other} {ks = ks} {js = js} {s 
 aligned-flip Aligned.a_left = Aligned.a_right
 aligned-flip Aligned.a_right = Aligned.a_left
 
--- rooted variables of signatures that are alike
-
-pub shows-alike : {ctx : List Kind} {s t : Sig} {u : Ty} {p : SigPath} → Shows ctx s u p → ConvSig ctx s t → Shows ctx t u p
-shows-alike {ctx} {s} {t} {u} {p} (shows {bs = bs} {t = a} {k = k} x c) e = go (part-alike ctx x e)
-  where
-    end_part : {z : Sig} → PartAt t p bs z → AlikeSig ConvBetween (extend ctx bs) (Sig.Typ a k) z → Shows ctx t u p
-    end_part q (typ f) = shows q (c_trans (c_sym f) c)
-
-    go : (z : Sig) × PartAt t p bs z × AlikeSig ConvBetween (extend ctx bs) (Sig.Typ a k) z → Shows ctx t u p
-    go w = end_part w.1 w.2
+-- rooted variables with types put in
 
 rooted-moved : (ctx other ks : List Kind) {s t : Sig} {i : ℕ} {p : SigPath} (f : ℕ → Ty) → Substitutes ctx other f → i < length ks → Rooted (extend ctx ks) s (own ks i) p → ConvSig (extend other ks) (substitute_sig (unders ks f) s) t → Rooted (extend other ks) t (own ks i) p
 rooted-moved ctx other ks {i = i} f h lt x e = shows-rooted (unders-below ks f (own ks i) (own-below ks i lt)) (shows-alike (shows-substitute (unders ks f) (unders-substitutes ks h) (rooted-shows x)) e)
@@ -99,17 +92,6 @@ aligned-moved f h Aligned.a_right (fun c d) = Aligned.a_right
 
 pub aligned-moved_left : {ctx other third : List Kind} {z s t : Sig} (f : ℕ → Ty) → Substitutes other third f → Aligned other ctx s z → ConvSig third (substitute_sig f s) t → Aligned third ctx t z
 aligned-moved_left f h a c = aligned-flip (aligned-moved f h (aligned-flip a) c)
-
--- types put in after binders from outside are passed
-pub puts-lifts : (ks : List Kind) (ts : List Ty) (s : ℕ → Ty) (r : ℕ → ℕ) → length ts ≡ length ks → (λ i. puts ts s (lifts ks r i)) ≡ puts ts (λ i. s (r i))
-puts-lifts [] [] s r e = refl
-puts-lifts [] (t ∷ ts) s r e = absurd (omega (arith, e))
-puts-lifts (k ∷ ks) [] s r e = absurd (omega (arith, e))
-puts-lifts (k ∷ ks) (t ∷ ts) s r e = puts-lifts ks ts (front t s) (lift r) (omega (arith, e)) ∙ ap (puts ts) (fun_ext go)
-  where
-    go : (i : ℕ) → front t s (lift r i) ≡ front t (λ j. s (r j)) i
-    go zero = refl
-    go (suc i) = refl
 
 -- what parts at one path have in common
 pub data Agree (ctx bs cs : List Kind) (t u : Ty) (k j : Kind) : Type 0 where
@@ -146,14 +128,14 @@ all-fixed ctx ks js ts o e h = fixed same all
     F = puts ts (λ n. Ty.Var (past js n))
 
     F-substitutes : Substitutes (extend ctx ks) (extend ctx js) (puts ts (λ n. Ty.Var (past js n)))
-    F-substitutes = puts-substitutes ctx (λ n. Ty.Var (past js n)) o (past-substitutes js ctx)
+    F-substitutes = puts-substitutes o (past-substitutes js ctx)
 
     kind : (i : ℕ) → i < length ks → kind_at ks i ≡ kind_at js i
     kind i lt =
         let c = h i lt in
         let n = conv-kinds c.1 in
-        one_kind (extend ctx js) (puts ts (λ n. Ty.Var (past js n)) (own ks i)) (kind_at ks i) c.0 (F-substitutes (own ks i) (kind_at ks i) (lookup-own ks ctx i lt)) n.1 ∙
-        one_kind (extend ctx js) (Ty.Var (own js i)) c.0 (kind_at js i) n.0 (k_var (lookup-own js ctx i (omega (arith, e, lt))))
+        one_kind (extend ctx js) (puts ts (λ n. Ty.Var (past js n)) (own ks i)) (kind_at ks i) c.0 (F-substitutes (own ks i) (kind_at ks i) (own-lookup ctx ks i lt)) n.1 ∙
+        one_kind (extend ctx js) (Ty.Var (own js i)) c.0 (kind_at js i) n.0 (k_var (own-lookup ctx js i (omega (arith, e, lt))))
 
     same : ks ≡ js
     same = same-kinds ks js e kind
@@ -176,8 +158,8 @@ all-fixed ctx ks js ts o e h = fixed same all
             let g : puts ts (λ n. Ty.Var (past js n)) i ≡ Ty.Var i = puts-past ts (λ n. Ty.Var (past js n)) j i (omega (arith, l, p, f)) ∙ ap Ty.Var (omega (arith, e, p, q, f)) in
             subst (λ t. Conv (extend ctx js) t (Ty.Var i) k) (sym g) (c_refl (subst (λ t. HasKind (extend ctx js) t k) g (F-substitutes i k x)))
 
-pub sig_at-under : (ks js : List Kind) (guess : List Ty) (s : Sig) → length guess ≡ length ks → sig_at guess (rename_sig (lifts ks (past js)) s) ≡ substitute_sig (puts guess (λ n. Ty.Var (past js n))) s
-sig_at-under ks js guess s e = substitute-rename_sig (puts guess Ty.Var) (lifts ks (past js)) s ∙ ap (λ f. substitute_sig f s) (puts-lifts ks guess Ty.Var (past js) e)
+pub sig_at-under : (ks js : List Kind) (guess : List Ty) (s : Sig) → Fits guess ks → sig_at guess (rename_sig (lifts ks (past js)) s) ≡ substitute_sig (puts guess (λ n. Ty.Var (past js n))) s
+sig_at-under ks js guess s e = substitute-rename_sig (puts guess Ty.Var) (lifts ks (past js)) s ∙ ap (λ f. substitute_sig f s) (puts-lifts e Ty.Var (past js))
 
 pub part-kind : {ctx : List Kind} {s : Sig} {p : SigPath} {bs : List Kind} {t : Ty} {k : Kind} → ConvSig ctx s s → PartAt s p bs (Sig.Typ t k) → HasKind (extend ctx bs) t k
 part-kind {ctx} {bs = bs} {t = t} {k = k} c x = go (part-alike ctx x c)
@@ -221,7 +203,7 @@ pub common : {ctx : List Kind} {s r : Sig} {i : ℕ} {u : Ty} {p : SigPath} → 
 common {ctx} h (at {bs = bs} {t = t} {k = k} x c) (shows {bs = cs} {t = w} {k = j} y d) = shown-same ctx (h bs cs t w k j x y) c d
 
 fixed-forms : (ctx ks js : List Kind) (guess ts : List Ty) → NormalForms (extend ctx js) guess ks ts → Fixed ctx ks js (puts guess (λ n. Ty.Var (past js n))) → Fixed ctx ks js (puts ts (λ n. Ty.Var (past js n)))
-fixed-forms ctx ks js guess ts n (fixed e c) = fixed e (λ i k x. c_trans (c_sym (puts-convertible ctx (λ n. Ty.Var (past js n)) (λ n. Ty.Var (past js n)) n (substitutes-convertible (past-substitutes js ctx)) i k x)) (c i k x))
+fixed-forms ctx ks js guess ts n (fixed e c) = fixed e (λ i k x. c_trans (c_sym (puts-convertible n (substitutes-convertible (past-substitutes js ctx)) i k x)) (c i k x))
 
 -- a match of aligned parameters finds the variables themselves, where parts at one path agree
 fixed-by : (ctx ks js : List Kind) (s t r : Sig) (guess ts : List Ty) → OfKinds (extend ctx js) guess ks → NormalForms (extend ctx js) guess ks ts → NormalSigForm (extend ctx js) (sig_at guess (rename_sig (lifts ks (past js)) s)) r
@@ -231,17 +213,17 @@ fixed-by : (ctx ks js : List Kind) (s t r : Sig) (guess ts : List Ty) → OfKind
 fixed-by ctx ks js s t r guess ts o n f j h = fixed-forms ctx ks js guess ts n (all-fixed ctx ks js guess o j.0 each)
   where
     F-substitutes : Substitutes (extend ctx ks) (extend ctx js) (puts guess (λ n. Ty.Var (past js n)))
-    F-substitutes = puts-substitutes ctx (λ n. Ty.Var (past js n)) o (past-substitutes js ctx)
+    F-substitutes = puts-substitutes o (past-substitutes js ctx)
 
     conv : ConvSig (extend ctx js) (substitute_sig (puts guess (λ n. Ty.Var (past js n))) s) r
-    conv = subst (λ z. ConvSig (extend ctx js) z r) (sig_at-under ks js guess s (kinds-length o)) (form-conv_sig f)
+    conv = subst (λ z. ConvSig (extend ctx js) z r) (sig_at-under ks js guess s (kinds-fit o)) (form-conv_sig f)
 
     each : (i : ℕ) → i < length ks → (k : Kind) × Conv (extend ctx js) (Ty.Var (own js i)) (puts guess (λ n. Ty.Var (past js n)) (own ks i)) k
     each i lt = let w = j.1 i lt in common (h w.0) w.2 (shows-alike (shows-substitute (puts guess (λ n. Ty.Var (past js n))) F-substitutes (rooted-shows w.1)) conv)
 
 pub aligned-instance : (ctx ks js : List Kind) (s t r : Sig) (guess : List Ty) → OfKinds (extend ctx js) guess ks → NormalSigForm (extend ctx js) (sig_at guess (rename_sig (lifts ks (past js)) s)) r → Aligned (extend ctx js) (extend ctx ks) t s → Aligned (extend ctx js) (extend ctx js) t r
-aligned-instance ctx ks js s t r guess o f a = aligned-moved (puts guess (λ n. Ty.Var (past js n))) (puts-substitutes ctx (λ n. Ty.Var (past js n)) o (past-substitutes js ctx)) a
-    (subst (λ z. ConvSig (extend ctx js) z r) (sig_at-under ks js guess s (kinds-length o)) (form-conv_sig f))
+aligned-instance ctx ks js s t r guess o f a = aligned-moved (puts guess (λ n. Ty.Var (past js n))) (puts-substitutes o (past-substitutes js ctx)) a
+    (subst (λ z. ConvSig (extend ctx js) z r) (sig_at-under ks js guess s (kinds-fit o)) (form-conv_sig f))
 
 pub form-kinds : {ctx : List Kind} {s r : Sig} → NormalSigForm ctx s r → ConvSig ctx r r
 form-kinds f = let c = form-conv_sig f in conv_sig-trans (conv_sig-sym c) c
@@ -249,22 +231,11 @@ form-kinds f = let c = form-conv_sig f in conv_sig-trans (conv_sig-sym c) c
 finish : (ctx ks js bs cs : List Kind) (t u : Ty) (k j : Kind) {f : ℕ → Ty} {r : Sig} {p : SigPath} → Fixed ctx ks js f → Moved (extend ctx js) r p bs t k → ((v : Ty) → PartAt r p bs (Sig.Typ v k) → Agree (extend ctx js) bs cs v u k j) → Agree ctx (ks ++ bs) (js ++ cs) t u k j
 finish ctx ks js bs cs t u k j (fixed e c) (moved {u = v} x d) h = agree-result e d (h v x)
 
-pub match-forms : {ctx ks : List Kind} {s t : Sig} {ts : List Ty} {f : Term} → Match ctx s (Abs.Ex ks t) ts f → NormalTypes ctx ts ks
-match-forms (Match.at g n r f) = forms-types n
-
-hidden_of : Abs → List Kind
-hidden_of (Abs.Ex ks s) = ks
-
-body_of : Abs → Sig
-body_of (Abs.Ex ks s) = s
-
 pub same-hidden : {ks js : List Kind} {s t : Sig} → Path Abs (Abs.Ex ks s) (Abs.Ex js t) → ks ≡ js
-unfolding hidden_of
-same-hidden e = ap hidden_of e
+same-hidden e = cc
 
 pub same-body : {ks js : List Kind} {s t : Sig} → Path Abs (Abs.Ex ks s) (Abs.Ex js t) → s ≡ t
-unfolding body_of
-same-body e = ap body_of e
+same-body e = cc
 
 pub plain-form : {ctx : List Kind} {s t : Sig} → AlikeAbs NormalForm ctx (Abs.Ex [] s) (Abs.Ex [] t) → NormalSigForm ctx s t
 plain-form (ex n) = n
@@ -281,8 +252,8 @@ mutual
       let F = puts ts (λ i. Ty.Var (past js i)) in
       let n = plain-form nf in
       let h = match_fixed ctx ks js s t m refl refl j (aligned-flip a) (param-kinds d) (param-kinds c) in
-      let o = types-kinds (match-forms m) in
-      let al = aligned-moved_left F (puts-substitutes ctx (λ n. Ty.Var (past js n)) o (past-substitutes js ctx)) b (form-conv_sig n) in
+      let o = match-kinds m in
+      let al = aligned-moved_left F (puts-substitutes o (past-substitutes js ctx)) b (form-conv_sig n) in
       finish ctx ks js bs cs _ _ k _ h (move-part ctx ks js F h (result-kinds c) (form-conv_sig n) x) (λ v g. parts_agree q al (form-kinds n) (result-kinds d) g y (same_rest_of e))
   parts_agree (Sub.fun m nf (SubResult.to_impure q)) a c d x y e = elim y [ ]
 

@@ -11,17 +11,19 @@ use Rattle.omega_types.specs.Ty.{Ty}
 use Rattle.omega_types.specs.Binders.{extend, own}
 use Rattle.signatures.specs.Signatures.Sig.{Sig, Abs, SigRow, HasField, here, there}
 use Rattle.signatures.specs.Signatures.Alike.{ConvSig}
-use Rattle.signatures.specs.Explicit.SigPath.{SigPath, Item, by_name, PathBefore, begins, first, later, PartAt}
+use Rattle.signatures.specs.Explicit.SigPath.{SigPath, Item, PathBefore, begins, first, later, PartAt}
 use Rattle.signatures.specs.Explicit.RootPath.{Rooted, at, ParamsAvoid, RootPath, root_path, root_of}
 use Rattle.sig_laws.proofs.Formed.RootNumbers.{own_falls}
 use Rattle.signatures.specs.QuantifierOrder.{IsNoneOf, Untaken, Counts, counts, Taking, done, next, NewOrder, NormSig, Norm, NormRow}
 use Rattle.signatures.specs.Explicit.WellFormed.{BeforeAll, Rising, EachRooted, WellFormed, WellFormedRow, ExplicitResults, ExplicitResultsRow, Explicit, abs, explicit, in_str, in_pure, in_impure, in_more}
-use Rattle.sig_laws.proofs.Formed.WellFormedLaws.{well_formed-kinds}
+use Rattle.sig_laws.proofs.Formed.WellFormedLaws.{well_formed-kinds, before_all-field}
 use Rattle.omega_kinds.proofs.NameLaws.{name-irreflexive, name-transitive}
-use Rattle.explicit_laws.proofs.Names.{NameBefore}
-use Rattle.norm_laws.proofs.Orders.Orders.{pigeonhole, nth}
+use Rattle.sig_laws.proofs.Algebra.Names.{NameBefore}
+use Rattle.norm_laws.proofs.Orders.Orders.{pigeonhole, nth, AllBelow}
 use Rattle.norm_laws.proofs.Norm.NormKeeps.{root-norm, norm-well_formed}
 use Rattle.norm_laws.proofs.Orders.Decided.{params_dec, rooted_dec}
+use Rattle.sig_laws.proofs.Formed.WellFormedShape.{after-differs}
+use Rattle.sig_laws.proofs.Algebra.Paths.{before-cases, before-result}
 
 -- searches below a number
 
@@ -65,18 +67,9 @@ pub data LeastPath (s : Sig) (Q : SigPath → Type 0) : Type 0 where
 abbrev pub Known : Sig → (SigPath → Type 0) → Type 0
 Known s Q = (p : SigPath) (bs : List Kind) (t : Ty) (k : Kind) → PartAt s p bs (Sig.Typ t k) → Dec (Q p)
 
-pub before_all-field : (l m : Name) {q : Sig} {fs : SigRow} → BeforeAll l fs → HasField fs m q → NameBefore l m
-before_all-field l m h here = h.0
-before_all-field l m h (there n g) = before_all-field l m h.1 g
-
 pub field-split : {m l : Name} {t q : Sig} {rest : SigRow} → HasField (SigRow.More m t rest) l q → ((l ≡ m) × (q ≡ t)) ⊎ HasField rest l q
 field-split here = inl (refl, refl)
 field-split (there n h) = inr h
-
--- an earlier path in a structure enters an earlier field or the same one
-pub before-cases : {l m : Name} {p o : SigPath} → PathBefore (Item.Part l ∷ p) (Item.Part m ∷ o) → NameBefore l m ⊎ ((l ≡ m) × PathBefore p o)
-before-cases (first (by_name h)) = inl h
-before-cases (later h) = inr (refl, h)
 
 -- where a path to a type can go
 abbrev pub Opens : Sig → Type 0
@@ -111,10 +104,6 @@ data ResultPart (ks : List Kind) (r : Sig) (o : SigPath) : Type 0 where
 result-part : {ks bs : List Kind} {s r : Sig} {o : SigPath} {t : Ty} {k : Kind} → PartAt (Sig.Fun Pure ks s (Abs.Ex [] r)) o bs (Sig.Typ t k) → ResultPart ks r o
 result-part {t = t} {k = k} (PartAt.result {bs = bs} {p = p} x) = in_result p bs t k refl x
 
-pub before-result : {p o : SigPath} → PathBefore (Item.Res ∷ p) (Item.Res ∷ o) → PathBefore p o
-before-result (later h) = h
-before-result (first h) = elim h [ ]
-
 data RowPart (l : Name) (s : Sig) (rest : SigRow) (o : SigPath) : Type 0 where
   in_first : (p : SigPath) (bs : List Kind) (t : Ty) (k : Kind) → o ≡ Item.Part l ∷ p → PartAt s p bs (Sig.Typ t k) → RowPart l s rest o
   in_rest : (m : Name) (p : SigPath) (bs : List Kind) (t : Ty) (k : Kind) → o ≡ Item.Part m ∷ p → NameBefore l m → PartAt (Sig.Str rest) o bs (Sig.Typ t k) → RowPart l s rest o
@@ -130,7 +119,7 @@ end-part : {o : SigPath} {bs : List Kind} {t : Ty} {k : Kind} → PartAt (Sig.St
 end-part (PartAt.field h x) = elim h [ ]
 
 grow-part : {l : Name} {s : Sig} {rest : SigRow} {o : SigPath} {bs : List Kind} {t : Ty} {k : Kind} → BeforeAll l rest → PartAt (Sig.Str rest) o bs (Sig.Typ t k) → PartAt (Sig.Str (SigRow.More l s rest)) o bs (Sig.Typ t k)
-grow-part {l} r (PartAt.field {l = m} h x) = PartAt.field (there (λ e. name-irreflexive l (subst (λ n. NameBefore l n) e (before_all-field l m r h))) h) x
+grow-part {l} r (PartAt.field {l = m} h x) = PartAt.field (there (after-differs l m r h) h) x
 
 not-both : (l m : Name) → NameBefore l m → NameBefore m l → ⊥
 not-both l m h g = name-irreflexive l (name-transitive l m l h g)
@@ -262,12 +251,7 @@ Distinct : List ℕ → Type 0
 Distinct [] = Unit {0}
 Distinct (i ∷ is) = IsNoneOf i is × Distinct is
 
-AllBelow : ℕ → List ℕ → Type 0
-AllBelow n [] = Unit {0}
-AllBelow n (i ∷ is) = (i < n) × AllBelow n is
-
 nth-below : (n : ℕ) (is : List ℕ) (k : ℕ) → AllBelow n is → k < length is → nth is k < n
-unfolding AllBelow
 nth-below n [] k b lt = absurd (omega (arith, lt))
 nth-below n (i ∷ is) zero b lt = b.0
 nth-below n (i ∷ is) (suc k) b lt = nth-below n is k b.1 (omega (arith, lt))
@@ -290,7 +274,7 @@ distinct-length n is d b = pigeonhole n (length is) (nth is) (λ k lt. nth-below
 
 -- steps are as many as variables left
 take_rest : (ctx ks : List Kind) (s : Sig) → WellFormed (extend ctx ks) s → EachRooted ctx ks s → (fuel : ℕ) (taken : List ℕ) → Distinct taken → AllBelow (length ks) taken → length ks ≡ fuel + length taken → (order : List ℕ) × Taking ctx ks s taken order
-unfolding Distinct AllBelow
+unfolding Distinct
 take_rest ctx ks s w r zero taken d b e = ([], done (λ j u. let h = distinct-length (length ks) (j ∷ taken) (u.1, d) (u.0, b) in omega (arith, h, e)))
 take_rest ctx ks s w r (suc fuel) taken d b e = go (least_path s (SomeCounts ctx ks s taken) w (λ p bs t k x. some_dec ctx ks s taken p bs t k (well_formed-kinds w) x)) (λ v u. take_rest ctx ks s w r fuel (v ∷ taken) (u.1, d) (u.0, b) (omega (arith, e)))
   where
@@ -314,7 +298,7 @@ take_rest ctx ks s w r (suc fuel) taken d b e = go (least_path s (SomeCounts ctx
         (q.0 ∷ w.0, next q.1 (λ j o c b. counts-part c (λ bs t k x. h o bs t k x (j, c) b)) w.1)
 
 pub order_exists : (ctx ks : List Kind) (s : Sig) → WellFormed (extend ctx ks) s → EachRooted ctx ks s → (order : List ℕ) × NewOrder ctx ks s order
-unfolding Distinct AllBelow
+unfolding Distinct
 order_exists ctx ks s w r = take_rest ctx ks s w r (length ks) [] tt tt (omega arith)
 
 -- norm exists, and there is one

@@ -1,7 +1,7 @@
 -- A path roots at most one variable, and the order of quantifiers is unique.
 use Rattle.std.specs.Prelude.{ℕ, suc, ◌<◌, ◌-◌, List, ◌∷◌, ◌≡◌, length}
 use Rattle.std.proofs.Common.{arith}
-use Rattle.std.proofs.Math.Path.{refl, sym, ap, ap₂, subst, subst₂}
+use Rattle.std.proofs.Math.Path.{refl, sym, ap₂, subst, subst₂}
 use Rattle.omega_kinds.specs.Kind.{Kind}
 use Rattle.omega_types.specs.Ty.{Ty}
 use Rattle.omega_types.specs.Conversion.{Conv}
@@ -10,25 +10,14 @@ use Rattle.signatures.specs.Signatures.Sig.{Sig}
 use Rattle.signatures.specs.Explicit.SigPath.{SigPath, PathBefore}
 use Rattle.signatures.specs.Explicit.RootPath.{Rooted, at}
 use Rattle.signatures.specs.QuantifierOrder.{Untaken, Counts, counts, Taking, done, next}
-use Rattle.explicit_laws.proofs.Names.{Compared, before, after, same}
-use Rattle.explicit_laws.proofs.Paths.{one-part, compare-paths}
+use Rattle.sig_laws.proofs.Algebra.Names.{Compared, before, after, same}
+use Rattle.sig_laws.proofs.Algebra.Paths.{compare-roots, one-type}
 use Rattle.norm_laws.proofs.Orders.Heads.{one-head}
-
-type_of : Sig → Ty
-type_of (Sig.Typ t k) = t
-type_of s = Ty.Int
-
-same_type : {t u : Ty} {k j : Kind} → Path Sig (Sig.Typ t k) (Sig.Typ u j) → t ≡ u
-unfolding type_of
-same_type e = ap type_of e
 
 pub one-rooted : {ctx : List Kind} {s : Sig} {i j : ℕ} {p q : SigPath} → Rooted ctx s i p → Rooted ctx s j q → p ≡ q → i ≡ j
 one-rooted {ctx} {j = j} (at {bs = bs} x c) (at {t = u} {k = l} y d) e =
-    let f = one-part x y e in
-    one-head bs ctx c (subst₂ (λ cs v. Conv (extend ctx cs) v (applied cs (Ty.Var j)) l) (sym f.0) (sym (same_type f.1)) d)
-
-pub compare-roots : {ctx : List Kind} {s : Sig} {i j : ℕ} {p q : SigPath} → Rooted ctx s i p → Rooted ctx s j q → Compared PathBefore p q
-compare-roots (at x c) (at y d) = compare-paths x y
+    let f = one-type x y e in
+    one-head bs ctx c (subst₂ (λ cs v. Conv (extend ctx cs) v (applied cs (Ty.Var j)) l) (sym f.0) (sym f.1) d)
 
 pub same-own : (n i j : ℕ) → i < n → j < n → n - suc i ≡ n - suc j → i ≡ j
 same-own n i j h g e = omega (arith, h, g, e)

@@ -1,27 +1,22 @@
 -- An order of quantifiers takes each variable exactly once.
-use Rattle.std.specs.Prelude.{ℕ, zero, suc, ◌-◌, ◌<◌, ◌≤◌, List, [], ◌∷◌, ◌≡◌, ◌≢◌, ◌==◌, ◌⊎◌, nat_lt, length, cond, Bool, true, false}
+use Rattle.std.specs.Prelude.{ℕ, zero, suc, ◌<◌, ◌≤◌, List, [], ◌∷◌, ◌≡◌, ◌≢◌, ◌==◌, ◌⊎◌, nat_lt, length, cond, Bool, true, false}
 use Rattle.std.proofs.Common.{arith}
 use Rattle.std.proofs.Math.Decide.{ℕ_discrete}
-use Rattle.std.proofs.Math.Path.{refl, sym, ◌∙◌, ap, subst, subst₂}
+use Rattle.std.proofs.Math.Path.{refl, sym, ◌∙◌, ap}
 use Rattle.std.proofs.lemmas.List.{length-map}
 use mathlib.Core.Logic.{inl, inr}
 use Rattle.std.proofs.lemmas.Bool.{eqb-true, eq-eqb, false_from_ne_true, cond-true, lt-ltb, ltb-true}
 use Rattle.omega_kinds.specs.Kind.{Kind}
-use Rattle.omega_types.specs.Kinding.{Lookup, here}
-use Rattle.omega_types.specs.Normalises.{Maps}
 use Rattle.omega_types.specs.Normaliser.{kind_at}
 use Rattle.omega_types.specs.Binders.{extend, past, own}
 use Rattle.signatures.specs.Signatures.Sig.{Sig}
 use Rattle.signatures.specs.Explicit.SigPath.{SigPath}
 use Rattle.signatures.specs.Explicit.RootPath.{Rooted, ParamsAvoid}
 use Rattle.signatures.specs.QuantifierOrder.{Untaken, counts, Taking, done, next, NewOrder, reordered, place, renumber}
-use Rattle.omega_types.proofs.Mention.{lookup-unique}
 use Rattle.sig_laws.proofs.Algebra.BinderLaws.{past-length}
 use Rattle.sig_laws.proofs.Algebra.Own.{split_index}
 use Rattle.norm_laws.proofs.Orders.OrderUnique.{counts-untaken, same-own}
-use Rattle.explicit_laws.proofs.Liftings.{lookup-outside}
 use Rattle.sig_laws.proofs.Formed.NormGood.{order-length}
-use Rattle.omega_types.proofs.BinderLaws.{past-maps}
 
 abbrev choose : {P : Type 0} → Dec P → ℕ → ℕ → ℕ
 choose (yes e) a b = a
@@ -47,6 +42,11 @@ pigeonhole (suc n) (suc m) f b i = let h = pigeonhole n m (λ k. choose (ℕ_dis
     apart-if k j lk lj (yes e) (no h) q = let c = i m j (omega arith) (omega arith) q in absurd (omega (arith, c, lj))
     apart-if k j lk lj (no h) (yes e) q = let c = i k m (omega arith) (omega arith) q in absurd (omega (arith, c, lk))
     apart-if k j lk lj (no h) (no g) q = i k j (omega arith) (omega arith) q
+
+-- each number in a list is below n
+abbrev pub AllBelow : ℕ → List ℕ → Type 0
+AllBelow n [] = Unit {0}
+AllBelow n (i ∷ is) = (i < n) × AllBelow n is
 
 -- the number at a place
 abbrev pub nth : List ℕ → ℕ → ℕ
@@ -109,11 +109,6 @@ stages {ctx} {ks} {s} (suc k) (next {order = o} {number = i} c g t) lt = go (sta
 
 -- where the variables of binders stand
 
-pub lookup-own : (ks ctx : List Kind) (n : ℕ) → n < length ks → Lookup (extend ctx ks) (own ks n) (kind_at ks n)
-lookup-own [] ctx n h = absurd (omega (arith, h))
-lookup-own (k ∷ ks) ctx zero h = subst (λ i. Lookup (extend (k ∷ ctx) ks) i k) (let e = past-length ks zero in omega arith) (past-maps ks (k ∷ ctx) zero k here)
-lookup-own (k ∷ ks) ctx (suc n) h = subst (λ i. Lookup (extend (k ∷ ctx) ks) i (kind_at ks n)) (omega arith) (lookup-own ks (k ∷ ctx) n (omega (arith, h)))
-
 pub own-own : (ks : List Kind) (i : ℕ) → i < length ks → own ks (own ks i) ≡ i
 own-own ks i h = omega arith
 
@@ -137,28 +132,6 @@ renumber-past ks order i = go (nat_lt (past ks i) (length ks)) (false_from_ne_tr
     go : (b : Bool) → b ≡ false → cond b (own ks (place order (own ks (past ks i)))) (past ks i) ≡ past ks i
     go false e = refl
     go true e = absurd (cc e)
-
-pub renumber-maps : {ctx ks : List Kind} {s : Sig} {order : List ℕ} → NewOrder ctx ks s order → (other : List Kind) → Maps (extend other ks) (extend other (reordered ks order)) (renumber ks order)
-renumber-maps {ctx} {ks} {s} {order} t other i k x = go (split_index ks i)
-  where
-    go : (i < length ks) ⊎ ((j : ℕ) × (i ≡ past ks j)) → Lookup (extend other (reordered ks order)) (renumber ks order i) k
-    go (inl h) =
-        let v = own ks i in
-        let lv : own ks i < length ks = omega (arith, h) in
-        let w = nth-place (own ks i) t (lv, tt) in
-        let l = order-length t in
-        let m = reordered-length t in
-        let same : kind_at ks (own ks i) ≡ k = lookup-unique (subst (λ n. Lookup (extend other ks) n (kind_at ks (own ks i))) (own-own ks i h) (lookup-own ks other (own ks i) lv)) x in
-        let y = lookup-own (reordered ks order) other (place order (own ks i)) (omega (arith, m, l, w.0)) in
-        let e : kind_at (reordered ks order) (place order (own ks i)) ≡ k = kind_at-reordered ks order (place order (own ks i)) w.0 ∙ (ap (kind_at ks) w.1 ∙ same) in
-        let f : own (reordered ks order) (place order (own ks i)) ≡ renumber ks order i = ap (λ n. n - suc (place order (own ks i))) m ∙ sym (renumber-below ks order i h) in
-        subst₂ (λ n j. Lookup (extend other (reordered ks order)) n j) f e y
-    go (inr (j, e)) =
-        let m = reordered-length t in
-        let p = past-length ks j in
-        let q = past-length (reordered ks order) j in
-        let f : past (reordered ks order) j ≡ renumber ks order i = omega (arith, m, p, q) ∙ (sym (renumber-past ks order j) ∙ ap (renumber ks order) (sym e)) in
-        subst (λ n. Lookup (extend other (reordered ks order)) n k) f (past-maps (reordered ks order) other j k (lookup-outside ks (subst (λ n. Lookup (extend other ks) n k) e x)))
 
 -- only one index becomes a variable of the new binders
 pub renumber-only : {ctx ks : List Kind} {s : Sig} {order : List ℕ} → NewOrder ctx ks s order → (j : ℕ) → j < length order → (x : ℕ) → renumber ks order x ≡ own ks j → x ≡ own ks (nth order j)

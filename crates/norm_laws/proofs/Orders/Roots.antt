@@ -1,23 +1,18 @@
--- Each variable has exactly one least root path, or none.
-use Rattle.std.specs.Prelude.{ℕ, ◌<◌, ◌≤◌, List, ◌≡◌, length}
+-- Each variable has a least root path, or none.
+use Rattle.std.specs.Prelude.{ℕ, ◌<◌, ◌≤◌, List, length}
 use Rattle.std.proofs.Math.Decide.{dec_le, dec_lt}
 use Rattle.omega_kinds.specs.Kind.{Kind}
 use Rattle.omega_types.specs.Ty.{Ty}
 use Rattle.omega_types.specs.Binders.{extend, own}
 use Rattle.signatures.specs.Signatures.Sig.{Sig}
 use Rattle.signatures.specs.Signatures.Alike.{ConvSig}
-use Rattle.signatures.specs.Explicit.SigPath.{SigPath, PathBefore, PartAt}
+use Rattle.signatures.specs.Explicit.SigPath.{SigPath, PartAt}
 use Rattle.signatures.specs.Explicit.RootPath.{Rooted, at, ParamsAvoid, RootPath, root_path, LeastRoot, least, root_of}
-use Rattle.sig_laws.proofs.Formed.RootNumbers.{own_falls, by_numbers}
+use Rattle.sig_laws.proofs.Formed.RootNumbers.{own_falls, by_numbers, rooted-of}
 use Rattle.signatures.specs.Explicit.WellFormed.{WellFormed}
 use Rattle.sig_laws.proofs.Formed.WellFormedLaws.{well_formed-kinds}
-use Rattle.explicit_laws.proofs.Names.{Compared, before, after, same}
-use Rattle.norm_laws.proofs.Orders.OrderUnique.{compare-roots}
 use Rattle.norm_laws.proofs.Orders.Decided.{rooted_dec, params_dec}
 use Rattle.norm_laws.proofs.Orders.OrderExists.{all_below, LeastPath, least_path}
-
-root-of : {ctx ks : List Kind} {s : Sig} {i : ℕ} {p : SigPath} → RootPath ctx ks s i p → Rooted (extend ctx ks) s (own ks i) p
-root-of (root_path b (root_of r a)) = r
 
 root-part : {ctx : List Kind} {s : Sig} {i : ℕ} {p : SigPath} {C : Type 0} → Rooted ctx s i p → ((bs : List Kind) (t : Ty) (k : Kind) → PartAt s p bs (Sig.Typ t k) → C) → C
 root-part (at {bs = bs} {t = t} {k = k} x c) f = f bs t k x
@@ -39,7 +34,7 @@ root_dec ctx ks s i p bs t k c x = go (dec_lt i (length ks)) (rooted_dec (own ks
     go : Dec (i < length ks) → Dec (Rooted (extend ctx ks) s (own ks i) p) → Dec ((j : ℕ) → j < length ks → i ≤ j → ParamsAvoid (extend ctx ks) s p (own ks j)) → Dec (RootPath ctx ks s i p)
     go (yes b) (yes r) (yes a) = yes (by_numbers b r (λ j le lt. a j lt le))
     go (no b) d e = no (λ q. b (bound q))
-    go (yes b) (no r) d = no (λ q. r (root-of q))
+    go (yes b) (no r) d = no (λ q. r (rooted-of q))
     go (yes b) (yes r) (no a) = no (λ q. a (avoids-of q))
 
 pub data Roots (ctx ks : List Kind) (s : Sig) (i : ℕ) : Type 0 where
@@ -50,13 +45,5 @@ pub roots : (ctx ks : List Kind) (s : Sig) (i : ℕ) → WellFormed (extend ctx 
 roots ctx ks s i w = go (least_path s (RootPath ctx ks s i) w (λ p bs t k x. root_dec ctx ks s i p bs t k (well_formed-kinds w) x))
   where
     go : LeastPath s (RootPath ctx ks s i) → Roots ctx ks s i
-    go (LeastPath.found p r h) = Roots.found p (least r (λ q o b. root-part (root-of o) (λ bs t k x. h q bs t k x o b)))
-    go (LeastPath.none h) = Roots.none (λ p o. root-part (root-of o) (λ bs t k x. h p bs t k x o))
-
-pub one_least : {ctx ks : List Kind} {s : Sig} {i : ℕ} {p q : SigPath} → LeastRoot ctx ks s i p → LeastRoot ctx ks s i q → p ≡ q
-one_least {p = p} {q = q} (least a f) (least b g) = go (compare-roots (root-of a) (root-of b))
-  where
-    go : Compared PathBefore p q → p ≡ q
-    go (before h) = absurd (g p a h)
-    go (after h) = absurd (f q b h)
-    go (same e) = e
+    go (LeastPath.found p r h) = Roots.found p (least r (λ q o b. root-part (rooted-of o) (λ bs t k x. h q bs t k x o b)))
+    go (LeastPath.none h) = Roots.none (λ p o. root-part (rooted-of o) (λ bs t k x. h p bs t k x o))

@@ -15,6 +15,7 @@ use Rattle.signatures.specs.Signatures.Alike.{Between, AlikeSig, AlikeAbs, Alike
 use Rattle.signatures.specs.Signatures.SigMentions.{MentionsSig, Avoids, by_normal_form}
 use Rattle.sig_laws.proofs.Algebra.BinderLaws.{unders-convertible}
 use Rattle.omega_types.proofs.BinderPuts.{form-is, lifts-maps}
+use Rattle.sig_laws.proofs.Algebra.SigAlgebra.{substitute-vars_sig, substitute-vars_abs, substitute-vars_row}
 
 -- generic
 
@@ -207,3 +208,32 @@ mutual
   pub normal_row-rename : {ctx other : List Kind} (r : ℕ → ℕ) → Maps ctx other r → (x : SigRow) → NormalSigRow ctx x → NormalSigRow other (rename_sig_row r x)
   normal_row-rename r h SigRow.End n = tt
   normal_row-rename r h (SigRow.More l s rest) n = (normal_sig-rename r h s n.0, normal_row-rename r h rest n.1)
+
+-- a substitution, or a renaming, keeps all but the types
+
+abbrev pub Any : Between
+Any ctx t k u = Unit {0}
+
+mutual
+  pub alike-substitute : (ctx : List Kind) (f : ℕ → Ty) (x : Sig) → AlikeSig Any ctx x (substitute_sig f x)
+  alike-substitute ctx f (Sig.Val t) = val tt
+  alike-substitute ctx f (Sig.Typ t k) = typ tt
+  alike-substitute ctx f (Sig.Meta x) = meta (alike_abs-substitute ctx f x)
+  alike-substitute ctx f (Sig.Str fs) = str (alike_row-substitute ctx f fs)
+  alike-substitute ctx f (Sig.Fun e ks s x) = fun (alike-substitute (extend ctx ks) (unders ks f) s) (alike_abs-substitute (extend ctx ks) (unders ks f) x)
+
+  pub alike_abs-substitute : (ctx : List Kind) (f : ℕ → Ty) (x : Abs) → AlikeAbs Any ctx x (substitute_abs f x)
+  alike_abs-substitute ctx f (Abs.Ex ks s) = ex (alike-substitute (extend ctx ks) (unders ks f) s)
+
+  pub alike_row-substitute : (ctx : List Kind) (f : ℕ → Ty) (x : SigRow) → AlikeRow Any ctx x (substitute_sig_row f x)
+  alike_row-substitute ctx f SigRow.End = end
+  alike_row-substitute ctx f (SigRow.More l s rest) = more (alike-substitute ctx f s) (alike_row-substitute ctx f rest)
+
+pub alike-rename : (ctx : List Kind) (r : ℕ → ℕ) (x : Sig) → AlikeSig Any ctx x (rename_sig r x)
+alike-rename ctx r x = subst (AlikeSig Any ctx x) (substitute-vars_sig r x) (alike-substitute ctx (λ i. Ty.Var (r i)) x)
+
+pub alike_abs-rename : (ctx : List Kind) (r : ℕ → ℕ) (x : Abs) → AlikeAbs Any ctx x (rename_abs r x)
+alike_abs-rename ctx r x = subst (AlikeAbs Any ctx x) (substitute-vars_abs r x) (alike_abs-substitute ctx (λ i. Ty.Var (r i)) x)
+
+pub alike_row-rename : (ctx : List Kind) (r : ℕ → ℕ) (x : SigRow) → AlikeRow Any ctx x (rename_sig_row r x)
+alike_row-rename ctx r x = subst (AlikeRow Any ctx x) (substitute-vars_row r x) (alike_row-substitute ctx (λ i. Ty.Var (r i)) x)

@@ -1,5 +1,5 @@
 -- Lists of types put in for binders' variables, and normal forms of what comes out.
-use Rattle.omega_types.proofs.BinderPuts.{NormalTypes, front-convertible, front-substitutes, vars-substitutes}
+use Rattle.omega_types.proofs.BinderPuts.{NormalTypes, vars-substitutes, puts-substitutes, puts-convertible, vars-convertible}
 use Rattle.omega_types.proofs.BinderPuts.NormalTypes.{none, next}
 use Rattle.std.specs.Prelude.{ℕ, suc, List, [], ◌∷◌, ◌≡◌, length}
 use Rattle.std.proofs.Common.{arith}
@@ -8,15 +8,15 @@ use Rattle.omega_kinds.specs.Kind.{Kind}
 use Rattle.omega_types.specs.Ty.{Ty}
 use Rattle.omega_types.specs.Kinding.HasKind.{k_var}
 use Rattle.omega_types.specs.Normaliser.{normal}
-use Rattle.omega_types.specs.Binders.{extend, past, front, puts, OfKinds, NormalForms}
-use Rattle.omega_types.proofs.Preservation.{Substitutes, Convertible}
+use Rattle.omega_types.specs.Binders.{extend, past, puts, OfKinds, NormalForms}
+use Rattle.omega_types.proofs.Preservation.{Substitutes}
 use Rattle.omega_types.proofs.Hereditary.{normal-gives}
 use Rattle.signatures.specs.Signatures.Sig.{Sig, Abs}
 use Rattle.signatures.specs.Signatures.SigSubst.{substitute_sig, substitute_abs, raise_sig, raise_abs, sig_at, abs_at}
 use Rattle.signatures.specs.Signatures.Alike.{ConvSig, NormalSigForm}
 use Rattle.sig_laws.proofs.Algebra.BinderLaws.{puts-past, past-length}
 use Rattle.sig_laws.proofs.Algebra.SigAlgebra.{substitute-rename_sig, substitute-rename_abs, substitute_sig-id, substitute_abs-id}
-use Rattle.sig_laws.proofs.Algebra.AlikeLaws.{conv_sig-sym, conv-form_sig, conv_sig-substitute, substitutes-convertible}
+use Rattle.sig_laws.proofs.Algebra.AlikeLaws.{conv_sig-sym, conv-form_sig, conv_sig-substitute}
 use Rattle.sig_laws.proofs.Algebra.EtaLaws.{some_type, some_type-normal}
 use Rattle.omega_types.proofs.BinderLaws.{past-maps}
 
@@ -43,26 +43,18 @@ kinds-length (OfKinds.next h hs) = ap suc (kinds-length hs)
 
 -- putting them in
 
-pub puts-substitutes : {ctx : List Kind} (other : List Kind) {ts : List Ty} {ks : List Kind} (s : ℕ → Ty) → OfKinds ctx ts ks → Substitutes other ctx s → Substitutes (extend other ks) ctx (puts ts s)
-puts-substitutes other s OfKinds.none g = g
-puts-substitutes other s (OfKinds.next {t = t} {k = k} h hs) g = puts-substitutes (k ∷ other) (front t s) hs (front-substitutes h g)
-
-pub puts-convertible : {ctx : List Kind} (other : List Kind) {ts ns : List Ty} {ks : List Kind} (s q : ℕ → Ty) → NormalForms ctx ts ks ns → Convertible other ctx s q → Convertible (extend other ks) ctx (puts ts s) (puts ns q)
-puts-convertible other s q NormalForms.none g = g
-puts-convertible other s q (NormalForms.next {t = t} {n = n} {k = k} f fs) g = puts-convertible (k ∷ other) (front t s) (front n q) fs (front-convertible f.1 g)
-
 pub past-substitutes : (ks ctx : List Kind) → Substitutes ctx (extend ctx ks) (λ i. Ty.Var (past ks i))
 past-substitutes ks ctx i k x = k_var (past-maps ks ctx i k x)
 
 pub at-substitutes : {ctx : List Kind} {ts : List Ty} {ks : List Kind} → OfKinds ctx ts ks → Substitutes (extend ctx ks) ctx (puts ts Ty.Var)
-at-substitutes {ctx} h = puts-substitutes ctx Ty.Var h (vars-substitutes ctx)
+at-substitutes {ctx} h = puts-substitutes h (vars-substitutes ctx)
 
 pub under-at-substitutes : {ts : List Ty} {ks : List Kind} (ctx js : List Kind) → OfKinds (extend ctx js) ts ks → Substitutes (extend ctx ks) (extend ctx js) (puts ts (λ i. Ty.Var (past js i)))
-under-at-substitutes ctx js h = puts-substitutes ctx (λ i. Ty.Var (past js i)) h (past-substitutes js ctx)
+under-at-substitutes ctx js h = puts-substitutes h (past-substitutes js ctx)
 
 -- the normal forms of types do as well as these
 pub guess-form : {ctx : List Kind} {guess ts : List Ty} {ks : List Kind} {t r : Sig} → NormalForms ctx guess ks ts → ConvSig (extend ctx ks) t t → NormalSigForm ctx (sig_at guess t) r → NormalSigForm ctx (sig_at ts t) r
-guess-form {ctx} {guess} {ts} g c f = conv-form_sig (conv_sig-sym (conv_sig-substitute (puts guess Ty.Var) (puts ts Ty.Var) (puts-convertible ctx Ty.Var Ty.Var g (substitutes-convertible (vars-substitutes ctx))) c)) f
+guess-form {ctx} {guess} {ts} g c f = conv-form_sig (conv_sig-sym (conv_sig-substitute (puts guess Ty.Var) (puts ts Ty.Var) (puts-convertible g (vars-convertible ctx)) c)) f
 
 -- what is raised past the binders is not touched
 

@@ -3,14 +3,15 @@ use Rattle.std.specs.Prelude.{ℕ, zero, ◌-◌, ◌<◌, List, [], ◌∷◌, 
 use Rattle.std.proofs.Math.Logic.{inl, inr}
 use Rattle.std.proofs.Common.{arith}
 use Rattle.std.proofs.Math.Decide.{dec_lt}
-use Rattle.std.proofs.Math.Path.{refl, sym, ◌∙◌, ap, subst}
+use Rattle.std.proofs.Math.Path.{sym, ◌∙◌, ap, subst}
 use Rattle.omega_kinds.specs.Kind.{Kind}
 use Rattle.omega_types.specs.Ty.{Ty}
 use Rattle.omega_types.specs.Substitution.{under}
-use Rattle.omega_types.specs.Mentions.{Mentions, m_var}
+use Rattle.omega_types.specs.Mentions.{Mentions}
 use Rattle.omega_types.specs.Binders.{past, unders}
 use Rattle.sig_laws.proofs.Algebra.BinderLaws.{unders-past, past-length}
 use Rattle.sig_laws.proofs.Algebra.SigMention.{mentions-rename}
+use Rattle.sig_laws.specs.Decide.{in_var}
 
 -- each index is one of the binders' or comes from outside
 pub split_index : (ks : List Kind) (i : ℕ) → (i < length ks) ⊎ ((j : ℕ) × (i ≡ past ks j))
@@ -33,15 +34,12 @@ unders-below (k ∷ ks) f i h = go (unders-below ks (under f) i) (split_index ks
         let g : i ≡ past ks zero = e ∙ ap (past ks) (last j e) in
         ap (unders ks (under f)) g ∙ (unders-past ks (under f) zero ∙ ap Ty.Var (sym g))
 
-var_same : {i j : ℕ} → Mentions i (Ty.Var j) → j ≡ i
-var_same m_var = refl
-
 -- only itself is put to what mentions it
 pub own_mention : (ks : List Kind) (f : ℕ → Ty) (v j : ℕ) → v < length ks → Mentions v (unders ks f j) → j ≡ v
 own_mention ks f v j h m = go (split_index ks j)
   where
     go : (j < length ks) ⊎ ((i : ℕ) × (j ≡ past ks i)) → j ≡ v
-    go (inl g) = var_same (subst (Mentions v) (unders-below ks f j g) m)
+    go (inl g) = sym (in_var (subst (Mentions v) (unders-below ks f j g) m))
     go (inr (i, e)) =
         let q = mentions-rename (past ks) (f i) v (subst (Mentions v) (ap (unders ks f) e ∙ unders-past ks f i) m) in
         let g = past-length ks q.0 in

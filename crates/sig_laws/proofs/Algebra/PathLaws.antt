@@ -1,5 +1,5 @@
 -- Parts and parameters on paths go along with substitution and with likeness.
-use Rattle.std.specs.Prelude.{ℕ, List, [], ◌∷◌, ◌++◌, ◌≡◌}
+use Rattle.std.specs.Prelude.{ℕ, List, [], ◌∷◌, ◌++◌, ◌≡◌, ◌≢◌}
 use Rattle.std.proofs.Math.Path.{refl, sym, ◌∙◌, ap, subst}
 use Rattle.omega_kinds.specs.Kind.{Kind}
 use Rattle.omega_kinds.specs.declared.effect.Effect.TheVariants.{Pure}
@@ -34,10 +34,12 @@ one-field here (there n h) e = absurd (n (sym e))
 one-field (there n h) here e = absurd (n e)
 one-field (there n h) (there m g) e = one-field h g e
 
+pub field-not : {fs : SigRow} {n l : Name} {q : Sig} → HasField fs n q → NoField l fs → n ≢ l
+field-not here h = λ e. h.0 (sym e)
+field-not (there f g) h = field-not g h.1
+
 pub no-field : {l : Name} {s : Sig} (fs : SigRow) → NoField l fs → HasField fs l s → ⊥
-no-field SigRow.End n h = elim h [ ]
-no-field (SigRow.More m t rest) n here = n.0 refl
-no-field (SigRow.More m t rest) n (there e h) = no-field rest n.1 h
+no-field fs n h = field-not h n refl
 
 pub field-normal : (ctx : List Kind) {fs : SigRow} {l : Name} {s : Sig} → NormalSigRow ctx fs → HasField fs l s → NormalSig ctx s
 field-normal ctx n here = n.0

@@ -24,9 +24,9 @@ use Rattle.signatures.specs.Signatures.SigSubst.{rename_sig, sig_at, abs_at_unde
 use Rattle.signatures.specs.Signatures.Alike.{NormalSigForm, NormalAbsForm, NormalSigRow}
 use Rattle.signatures.specs.Signatures.Encoding.{one_part, enc, enc_abs, enc_row}
 use Rattle.signatures.specs.Matching.Subtyping.{Sub, SubFields, SubResult, SubAbs, Match}
-use Rattle.sig_laws.proofs.Encoded.EncodingTyping.{ShapeAbs, ShapeRow, shape-substitute, shape-alike, shape_abs-substitute, shape_abs-alike, fresh-row, enc-normal, enc_abs-normal, enc-form, enc_abs-form, Good, GoodAbs, good-rename, good-normal, good_abs-normal, good-field, enc-field}
+use Rattle.sig_laws.proofs.Encoded.EncodingTyping.{ShapeAbs, ShapeRow, shape-substitute, shape-alike, shape_abs-substitute, shape_abs-alike, fresh-row, enc-normal, enc_abs-normal, enc-form, enc_abs-form, Good, GoodAbs, good-rename, good-normal, good_abs-normal, good-field, enc-field, one_part-normal}
 use Rattle.omega_types.proofs.Inverse.{same-normal}
-use Rattle.sig_laws.proofs.Encoded.EncodingLaws.{enc-rename, enc-substitute, enc_abs-substitute, one_part-normal}
+use Rattle.sig_laws.proofs.Encoded.EncodingLaws.{enc-rename, enc-substitute, enc_abs-substitute}
 use Rattle.sig_laws.proofs.Algebra.AlikeLaws.{form_sig-normal, form_abs-normal}
 
 -- the encoding of a signature at types, in normal form

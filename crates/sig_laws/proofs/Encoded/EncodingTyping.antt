@@ -1,6 +1,6 @@
 -- The encoding goes with renaming, substitution and normal forms. What it needs of a signature is that the labels of
 -- each structure differ; that the result of a pure functor hides nothing is kept beside it.
-use Rattle.std.specs.Prelude.{ℕ, suc, List, [], ◌∷◌, ◌≢◌}
+use Rattle.std.specs.Prelude.{ℕ, suc, List, [], ◌∷◌, ◌≢◌, zero}
 use Rattle.std.proofs.Math.Path.{ap}
 use Rattle.omega_kinds.specs.Kind.{Kind}
 use Rattle.omega_kinds.specs.declared.label.Label.{Label}
@@ -13,25 +13,20 @@ use Rattle.omega_types.specs.Kinding.HasKind.{k_var}
 use Rattle.omega_types.specs.Conversion.{Conv, Convs}
 use Rattle.omega_types.specs.Conversion.Conv.{c_refl, c_arrow, c_fields, c_all, c_apply}
 use Rattle.omega_types.specs.Conversion.Convs.{c_end, c_more}
-use Rattle.omega_types.specs.Normality.{Normal, Normals}
-use Rattle.omega_types.specs.Normality.Normal.{n_arrow, n_fields}
+use Rattle.omega_types.specs.Normality.{Normal, Normals, n_apply, n_var}
+use Rattle.omega_types.specs.Normality.Normal.{n_arrow, n_fields, n_all, n_neutral}
 use Rattle.omega_types.specs.Normality.Normals.{n_end, n_more}
 use Rattle.omega_types.specs.Normalises.{Maps, NormalForm}
-use Rattle.omega_types.specs.Binders.{lifts, unders}
-use Rattle.omega_types.proofs.Preservation.{maps-suc, normal-rename, conv-rename}
-use Rattle.omega_types.proofs.BinderPuts.{lifts-maps, all_over-normal, ex_over-normal, conv-all_over, conv-ex_over}
+use Rattle.omega_types.proofs.Preservation.{maps-suc, conv-rename, normal-rename}
+use Rattle.omega_types.proofs.BinderPuts.{all_over-normal, ex_over-normal, conv-all_over, conv-ex_over}
 use Rattle.omega_terms.specs.Typing.{HasPart}
 use Rattle.omega_terms.specs.Coercions.{result_label}
 use Rattle.signatures.specs.Signatures.Sig.{Sig, Abs, SigRow, HasField, NoField}
-use Rattle.signatures.specs.Signatures.SigSubst.{rename_sig, rename_abs, rename_sig_row, substitute_sig, substitute_abs, substitute_sig_row}
+use Rattle.signatures.specs.Signatures.SigSubst.{rename_sig, rename_abs, rename_sig_row, substitute_sig, substitute_abs}
 use Rattle.signatures.specs.Signatures.Alike.{Between, AlikeSig, AlikeAbs, AlikeRow, NormalSigForm, NormalAbsForm, NormalSig, NormalAbs, NormalSigRow}
-use Rattle.signatures.specs.Signatures.Encoding.{enc, enc_abs, enc_row}
-use Rattle.sig_laws.proofs.Algebra.AlikeLaws.{form_sig-normal, form_abs-normal}
-use Rattle.sig_laws.proofs.Encoded.EncodingLaws.{one_part-conv, one_part-normal, shown_type-normal}
-
--- renaming
-
--- substitution
+use Rattle.signatures.specs.Signatures.Encoding.{enc, enc_abs, enc_row, one_part, shown_type}
+use Rattle.sig_laws.proofs.Algebra.AlikeLaws.{form_sig-normal, form_abs-normal, normal_sig-rename, alike-sym_abs, alike-substitute, alike_abs-substitute, alike-rename, alike_abs-rename, alike_row-rename}
+use Rattle.omega_types.specs.Substitution.{rename}
 
 -- shapes
 
@@ -54,54 +49,6 @@ abbrev mutual
   pub ShapeRow : SigRow → Type 0
   ShapeRow SigRow.End = Unit {0}
   ShapeRow (SigRow.More l s rest) = NoField l rest × Shape s × ShapeRow rest
-
-no_field-rename : (r : ℕ → ℕ) (l : Name) (fs : SigRow) → NoField l fs → NoField l (rename_sig_row r fs)
-no_field-rename r l SigRow.End h = tt
-no_field-rename r l (SigRow.More m s rest) h = (h.0, no_field-rename r l rest h.1)
-
-hides-rename : (r : ℕ → ℕ) (e : Effect) (x : Abs) → Hides e x → Hides e (rename_abs r x)
-hides-rename r Impure x h = tt
-hides-rename r Pure (Abs.Ex [] s) h = tt
-hides-rename r Pure (Abs.Ex (k ∷ ks) s) h = h
-
-mutual
-  pub shape-rename : (r : ℕ → ℕ) (s : Sig) → Shape s → Shape (rename_sig r s)
-  shape-rename r (Sig.Val t) h = tt
-  shape-rename r (Sig.Typ t k) h = tt
-  shape-rename r (Sig.Meta x) h = shape_abs-rename r x h
-  shape-rename r (Sig.Str fs) h = shape_row-rename r fs h
-  shape-rename r (Sig.Fun e ks s x) h = (shape-rename (lifts ks r) s h.0, shape_abs-rename (lifts ks r) x h.1, hides-rename (lifts ks r) e x h.2)
-
-  pub shape_abs-rename : (r : ℕ → ℕ) (x : Abs) → ShapeAbs x → ShapeAbs (rename_abs r x)
-  shape_abs-rename r (Abs.Ex ks s) h = shape-rename (lifts ks r) s h
-
-  pub shape_row-rename : (r : ℕ → ℕ) (fs : SigRow) → ShapeRow fs → ShapeRow (rename_sig_row r fs)
-  shape_row-rename r SigRow.End h = tt
-  shape_row-rename r (SigRow.More l s rest) h = (no_field-rename r l rest h.0, shape-rename r s h.1, shape_row-rename r rest h.2)
-
-no_field-substitute : (f : ℕ → Ty) (l : Name) (fs : SigRow) → NoField l fs → NoField l (substitute_sig_row f fs)
-no_field-substitute f l SigRow.End h = tt
-no_field-substitute f l (SigRow.More m s rest) h = (h.0, no_field-substitute f l rest h.1)
-
-hides-substitute : (f : ℕ → Ty) (e : Effect) (x : Abs) → Hides e x → Hides e (substitute_abs f x)
-hides-substitute f Impure x h = tt
-hides-substitute f Pure (Abs.Ex [] s) h = tt
-hides-substitute f Pure (Abs.Ex (k ∷ ks) s) h = h
-
-mutual
-  pub shape-substitute : (f : ℕ → Ty) (s : Sig) → Shape s → Shape (substitute_sig f s)
-  shape-substitute f (Sig.Val t) h = tt
-  shape-substitute f (Sig.Typ t k) h = tt
-  shape-substitute f (Sig.Meta x) h = shape_abs-substitute f x h
-  shape-substitute f (Sig.Str fs) h = shape_row-substitute f fs h
-  shape-substitute f (Sig.Fun e ks s x) h = (shape-substitute (unders ks f) s h.0, shape_abs-substitute (unders ks f) x h.1, hides-substitute (unders ks f) e x h.2)
-
-  pub shape_abs-substitute : (f : ℕ → Ty) (x : Abs) → ShapeAbs x → ShapeAbs (substitute_abs f x)
-  shape_abs-substitute f (Abs.Ex ks s) h = shape-substitute (unders ks f) s h
-
-  pub shape_row-substitute : (f : ℕ → Ty) (fs : SigRow) → ShapeRow fs → ShapeRow (substitute_sig_row f fs)
-  shape_row-substitute f SigRow.End h = tt
-  shape_row-substitute f (SigRow.More l s rest) h = (no_field-substitute f l rest h.0, shape-substitute f s h.1, shape_row-substitute f rest h.2)
 
 -- signatures of one shape
 
@@ -129,72 +76,31 @@ mutual
   shape_row-alike AlikeRow.end h = tt
   shape_row-alike (AlikeRow.more {l = l} a b) h = (no_field-alike l b h.0, shape-alike a h.1, shape_row-alike b h.2)
 
--- the other way round
+pub shape_abs-unalike : {R : Between} {ctx : List Kind} {x y : Abs} → AlikeAbs R ctx x y → ShapeAbs y → ShapeAbs x
+shape_abs-unalike {R} a h = shape_abs-alike (alike-sym_abs {S = λ c t k u. R c u k t} (λ c t k u r. r) a) h
 
-no_field-unalike : {R : Between} {ctx : List Kind} {fs gs : SigRow} (l : Name) → AlikeRow R ctx fs gs → NoField l gs → NoField l fs
-no_field-unalike l AlikeRow.end h = tt
-no_field-unalike l (AlikeRow.more a b) h = (h.0, no_field-unalike l b h.1)
+-- so substitution and renaming keep the shape
 
-hides-unalike : {R : Between} {ctx : List Kind} {x y : Abs} (e : Effect) → AlikeAbs R ctx x y → Hides e y → Hides e x
-hides-unalike Impure a h = tt
-hides-unalike Pure (AlikeAbs.ex {ks = []} a) h = tt
-hides-unalike Pure (AlikeAbs.ex {ks = k ∷ ks} a) h = h
+pub shape-substitute : (f : ℕ → Ty) (s : Sig) → Shape s → Shape (substitute_sig f s)
+shape-substitute f s h = shape-alike (alike-substitute [] f s) h
 
-mutual
-  pub shape-unalike : {R : Between} {ctx : List Kind} {s t : Sig} → AlikeSig R ctx s t → Shape t → Shape s
-  shape-unalike (AlikeSig.val a) h = tt
-  shape-unalike (AlikeSig.typ a) h = tt
-  shape-unalike (AlikeSig.meta a) h = shape_abs-unalike a h
-  shape-unalike (AlikeSig.str a) h = shape_row-unalike a h
-  shape-unalike (AlikeSig.fun {e = e} a b) h = (shape-unalike a h.0, shape_abs-unalike b h.1, hides-unalike e b h.2)
+pub shape_abs-substitute : (f : ℕ → Ty) (x : Abs) → ShapeAbs x → ShapeAbs (substitute_abs f x)
+shape_abs-substitute f x h = shape_abs-alike (alike_abs-substitute [] f x) h
 
-  pub shape_abs-unalike : {R : Between} {ctx : List Kind} {x y : Abs} → AlikeAbs R ctx x y → ShapeAbs y → ShapeAbs x
-  shape_abs-unalike (AlikeAbs.ex a) h = shape-unalike a h
+pub no_field-rename : (r : ℕ → ℕ) (l : Name) (fs : SigRow) → NoField l fs → NoField l (rename_sig_row r fs)
+no_field-rename r l fs h = no_field-alike l (alike_row-rename [] r fs) h
 
-  pub shape_row-unalike : {R : Between} {ctx : List Kind} {fs gs : SigRow} → AlikeRow R ctx fs gs → ShapeRow gs → ShapeRow fs
-  shape_row-unalike AlikeRow.end h = tt
-  shape_row-unalike (AlikeRow.more {l = l} a b) h = (no_field-unalike l b h.0, shape-unalike a h.1, shape_row-unalike b h.2)
+pub shape-rename : (r : ℕ → ℕ) (s : Sig) → Shape s → Shape (rename_sig r s)
+shape-rename r s h = shape-alike (alike-rename [] r s) h
 
-no_field-unrename : (r : ℕ → ℕ) (l : Name) (fs : SigRow) → NoField l (rename_sig_row r fs) → NoField l fs
-no_field-unrename r l SigRow.End h = tt
-no_field-unrename r l (SigRow.More m s rest) h = (h.0, no_field-unrename r l rest h.1)
+pub shape_abs-rename : (r : ℕ → ℕ) (x : Abs) → ShapeAbs x → ShapeAbs (rename_abs r x)
+shape_abs-rename r x h = shape_abs-alike (alike_abs-rename [] r x) h
 
-hides-unrename : (r : ℕ → ℕ) (e : Effect) (x : Abs) → Hides e (rename_abs r x) → Hides e x
-hides-unrename r Impure x h = tt
-hides-unrename r Pure (Abs.Ex [] s) h = tt
-hides-unrename r Pure (Abs.Ex (k ∷ ks) s) h = h
+pub shape_row-rename : (r : ℕ → ℕ) (fs : SigRow) → ShapeRow fs → ShapeRow (rename_sig_row r fs)
+shape_row-rename r fs h = shape_row-alike (alike_row-rename [] r fs) h
 
-mutual
-  pub shape-unrename : (r : ℕ → ℕ) (s : Sig) → Shape (rename_sig r s) → Shape s
-  shape-unrename r (Sig.Val t) h = tt
-  shape-unrename r (Sig.Typ t k) h = tt
-  shape-unrename r (Sig.Meta x) h = shape_abs-unrename r x h
-  shape-unrename r (Sig.Str fs) h = shape_row-unrename r fs h
-  shape-unrename r (Sig.Fun e ks s x) h = (shape-unrename (lifts ks r) s h.0, shape_abs-unrename (lifts ks r) x h.1, hides-unrename (lifts ks r) e x h.2)
-
-  pub shape_abs-unrename : (r : ℕ → ℕ) (x : Abs) → ShapeAbs (rename_abs r x) → ShapeAbs x
-  shape_abs-unrename r (Abs.Ex ks s) h = shape-unrename (lifts ks r) s h
-
-  pub shape_row-unrename : (r : ℕ → ℕ) (fs : SigRow) → ShapeRow (rename_sig_row r fs) → ShapeRow fs
-  shape_row-unrename r SigRow.End h = tt
-  shape_row-unrename r (SigRow.More l s rest) h = (no_field-unrename r l rest h.0, shape-unrename r s h.1, shape_row-unrename r rest h.2)
-
--- normal signatures
-
-mutual
-  pub normal_sig-rename : {ctx other : List Kind} (r : ℕ → ℕ) (s : Sig) → Maps ctx other r → NormalSig ctx s → NormalSig other (rename_sig r s)
-  normal_sig-rename r (Sig.Val t) m h = normal-rename r m h
-  normal_sig-rename r (Sig.Typ t k) m h = normal-rename r m h
-  normal_sig-rename r (Sig.Meta x) m h = normal_abs-rename r x m h
-  normal_sig-rename r (Sig.Str fs) m h = normal_sig_row-rename r fs m h
-  normal_sig-rename r (Sig.Fun e ks s x) m h = (normal_sig-rename (lifts ks r) s (lifts-maps ks m) h.0, normal_abs-rename (lifts ks r) x (lifts-maps ks m) h.1)
-
-  pub normal_abs-rename : {ctx other : List Kind} (r : ℕ → ℕ) (x : Abs) → Maps ctx other r → NormalAbs ctx x → NormalAbs other (rename_abs r x)
-  normal_abs-rename r (Abs.Ex ks s) m h = normal_sig-rename (lifts ks r) s (lifts-maps ks m) h
-
-  pub normal_sig_row-rename : {ctx other : List Kind} (r : ℕ → ℕ) (fs : SigRow) → Maps ctx other r → NormalSigRow ctx fs → NormalSigRow other (rename_sig_row r fs)
-  normal_sig_row-rename r SigRow.End m h = tt
-  normal_sig_row-rename r (SigRow.More l s rest) m h = (normal_sig-rename r s m h.0, normal_sig_row-rename r rest m h.1)
+pub shape_abs-unrename : (r : ℕ → ℕ) (x : Abs) → ShapeAbs (rename_abs r x) → ShapeAbs x
+shape_abs-unrename r x h = shape_abs-unalike (alike_abs-rename [] r x) h
 
 -- the encoding of a normal signature is normal
 
@@ -209,6 +115,15 @@ name-differs d e = d (ap name_of_label e)
 pub fresh-row : (l : Name) (fs : SigRow) → NoField l fs → Fresh (Label.Name l) (enc_row fs)
 fresh-row l SigRow.End h = tt
 fresh-row l (SigRow.More m s rest) h = (name-differs h.0, fresh-row l rest h.1)
+
+pub one_part-normal : {ctx : List Kind} {t : Ty} (l : Label) → Normal ctx t Kind.Star → Normal ctx (one_part l t) Kind.Star
+one_part-normal l h = n_fields (n_more tt h n_end)
+
+pub shown_type-normal : {ctx : List Kind} {t : Ty} {k : Kind} → Normal ctx t k → Normal ctx (shown_type t k) Kind.Star
+shown_type-normal {ctx} {t} {k} h = n_all (n_arrow u u)
+  where
+    u : Normal (Kind.Arrow k Kind.Star ∷ ctx) (Ty.Apply (Ty.Var zero) (rename suc t)) Kind.Star
+    u = n_neutral (n_apply (n_var here) (normal-rename suc (maps-suc (Kind.Arrow k Kind.Star) ctx) h))
 
 mutual
   pub enc-normal : {ctx : List Kind} (s : Sig) → NormalSig ctx s → Shape s → Normal ctx (enc s) Kind.Star
@@ -229,6 +144,9 @@ mutual
 
 abbrev pub Converts : Between → Type 0
 Converts R = (ctx : List Kind) (t : Ty) (k : Kind) (u : Ty) → R ctx t k u → Conv ctx t u k
+
+pub one_part-conv : {ctx : List Kind} {t u : Ty} (l : Label) → Conv ctx t u Kind.Star → Conv ctx (one_part l t) (one_part l u) Kind.Star
+one_part-conv l h = c_fields (c_more tt tt h c_end)
 
 mutual
   pub enc-conv : {R : Between} {ctx : List Kind} {s t : Sig} → Converts R → AlikeSig R ctx s t → Shape s → Conv ctx (enc s) (enc t) Kind.Star
@@ -264,7 +182,7 @@ pub record GoodAbs (ctx : List Kind) (x : Abs) : Type 0 where
   pub shape : ShapeAbs x
 
 pub good-rename : {ctx other : List Kind} {s : Sig} (r : ℕ → ℕ) → Maps ctx other r → Good ctx s → Good other (rename_sig r s)
-good-rename {s = s} r m g = record { normal = normal_sig-rename r s m g.normal; shape = shape-rename r s g.shape }
+good-rename {s = s} r m g = record { normal = normal_sig-rename r m s g.normal; shape = shape-rename r s g.shape }
 
 pub good-normal : {ctx : List Kind} {s : Sig} → Good ctx s → Normal ctx (enc s) Kind.Star
 good-normal {s = s} g = enc-normal s g.normal g.shape

@@ -1,5 +1,5 @@
 -- A lifted signature at the lifted types: the functor signature of the parameter and of the result at the types.
-use Rattle.std.specs.Prelude.{ℕ, zero, suc, ◌<◌, List, [], ◌∷◌, length, map, ◌≡◌, ◌⊎◌}
+use Rattle.std.specs.Prelude.{ℕ, zero, ◌<◌, List, [], ◌∷◌, length, map, ◌≡◌, ◌⊎◌}
 use Rattle.std.proofs.Math.Path.{refl, sym, ◌∙◌, ap, ap₂, fun_ext, subst}
 use Rattle.std.proofs.Common.{arith, inl, inr}
 use Rattle.omega_kinds.specs.Kind.{Kind}
@@ -31,10 +31,6 @@ use Rattle.sig_laws.proofs.Encoded.EncodingTyping.{Shape, shape-rename, shape-su
 use Rattle.omega_types.proofs.Inverse.{same-normal}
 use Rattle.sig_laws.proofs.Encoded.EncodingLaws.{enc-rename, enc-substitute}
 use Rattle.sig_laws.proofs.Algebra.AlikeLaws.{form_sig-normal, form_abs-normal}
-
-pub past-suc : (bs : List Kind) (i : ℕ) → past bs (suc i) ≡ suc (past bs i)
-past-suc [] i = refl
-past-suc (b ∷ bs) i = past-suc bs (suc i)
 
 own-fit : (f : Ty → Ty) (bs : List Kind) → Fits (map f (own_vars bs)) bs
 own-fit f [] = Fits.none

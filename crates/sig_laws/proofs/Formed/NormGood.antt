@@ -15,8 +15,9 @@ use Rattle.omega_types.proofs.BinderPuts.{past-lookup, past-plus, placed, Placed
 use Rattle.signatures.specs.Signatures.Sig.{Sig, Abs, SigRow, NoField}
 use Rattle.signatures.specs.Signatures.Alike.{NormalSig, NormalAbs, NormalSigRow}
 use Rattle.signatures.specs.QuantifierOrder.{IsNoneOf, Untaken, Counts, Taking, NewOrder, reordered, place, renumber, NormSig, Norm, NormRow}
-use Rattle.sig_laws.proofs.Encoded.EncodingTyping.{Shape, ShapeAbs, ShapeRow, shape-rename, shape_abs-rename, normal_sig-rename, normal_abs-rename, GoodAbs}
+use Rattle.sig_laws.proofs.Encoded.EncodingTyping.{Shape, ShapeAbs, ShapeRow, shape-rename, shape_abs-rename, GoodAbs}
 use Rattle.omega_types.proofs.Hereditary.{lookup-kind_at}
+use Rattle.sig_laws.proofs.Algebra.AlikeLaws.{normal_sig-rename, normal_abs-rename}
 
 -- whether a number is taken
 
@@ -107,7 +108,7 @@ taking-place {ks = ks} (Taking.next {taken = taken} {order = order} {number = nu
 
 -- the renumbering leads each variable to one of its kind
 
-own-lookup : (ctx ks : List Kind) (p : ℕ) → p < length ks → Lookup (extend ctx ks) (own ks p) (kind_at ks p)
+pub own-lookup : (ctx ks : List Kind) (p : ℕ) → p < length ks → Lookup (extend ctx ks) (own ks p) (kind_at ks p)
 own-lookup ctx [] p h = absurd (omega (arith, h))
 own-lookup ctx (k ∷ ks) zero h =
     let f = past-plus ks zero in
@@ -117,8 +118,8 @@ own-lookup ctx (k ∷ ks) (suc p) h =
     let e : own ks p ≡ own (k ∷ ks) (suc p) = omega arith in
     subst (λ i. Lookup (extend (k ∷ ctx) ks) i (kind_at ks p)) e (own-lookup (k ∷ ctx) ks p (omega (arith, h)))
 
-pub reorder-maps : {s : Sig} {order : List ℕ} (ctx ks : List Kind) → NewOrder ctx ks s order → Maps (extend ctx ks) (extend ctx (reordered ks order)) (renumber ks order)
-reorder-maps {order = order} ctx ks t i k x = go x (placed ks x)
+pub reorder-maps : {inner ks : List Kind} {s : Sig} {order : List ℕ} → NewOrder inner ks s order → (ctx : List Kind) → Maps (extend ctx ks) (extend ctx (reordered ks order)) (renumber ks order)
+reorder-maps {ks = ks} {order = order} t ctx i k x = go x (placed ks x)
   where
     same : length (reordered ks order) ≡ length ks
     same = length-map order (kind_at ks) ∙ order-length t
@@ -158,13 +159,13 @@ mutual
   norm_sig-good {ctx} (NormSig.impure {ks = ks} {t = t} {y = y} {order = order} a o b) n h =
       let p = norm_sig-good a n.0 h.0 in
       let q = norm_abs-good b n.1 h.1 in
-      let m = reorder-maps ctx ks o in
-      ((normal_sig-rename (renumber ks order) t m p.0, normal_abs-rename (renumber ks order) y m q.0), (shape-rename (renumber ks order) t p.1, shape_abs-rename (renumber ks order) y q.1, tt))
+      let m = reorder-maps o ctx in
+      ((normal_sig-rename (renumber ks order) m t p.0, normal_abs-rename (renumber ks order) m y q.0), (shape-rename (renumber ks order) t p.1, shape_abs-rename (renumber ks order) y q.1, tt))
 
   pub norm_abs-good : {ctx : List Kind} {x y : Abs} → Norm ctx x y → NormalAbs ctx x → ShapeAbs x → NormalAbs ctx y × ShapeAbs y
   norm_abs-good {ctx} (Norm.ex {ks = ks} {t = t} {order = order} a o) n h =
       let p = norm_sig-good a n h in
-      (normal_sig-rename (renumber ks order) t (reorder-maps ctx ks o) p.0, shape-rename (renumber ks order) t p.1)
+      (normal_sig-rename (renumber ks order) (reorder-maps o ctx) t p.0, shape-rename (renumber ks order) t p.1)
 
   pub norm_row-good : {ctx : List Kind} {fs gs : SigRow} → NormRow ctx fs gs → NormalSigRow ctx fs → ShapeRow fs → NormalSigRow ctx gs × ShapeRow gs × ((l : Name) → NoField l fs → NoField l gs)
   norm_row-good NormRow.end n h = (tt, tt, λ l f. tt)

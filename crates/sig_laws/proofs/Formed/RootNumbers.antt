@@ -6,7 +6,7 @@ use Rattle.omega_kinds.specs.Kind.{Kind}
 use Rattle.omega_types.specs.Binders.{extend, own}
 use Rattle.signatures.specs.Signatures.Sig.{Sig}
 use Rattle.signatures.specs.Explicit.SigPath.{SigPath}
-use Rattle.signatures.specs.Explicit.RootPath.{Rooted, ParamsAvoid, root_of, RootPath, root_path}
+use Rattle.signatures.specs.Explicit.RootPath.{Rooted, ParamsAvoid, root_of, RootPath, root_path, LeastRoot, least}
 
 -- the later of two hidden variables stands inside of the other
 pub own_falls : (ks : List Kind) (i j : ℕ) → i ≤ j → own ks j ≤ own ks i
@@ -18,3 +18,9 @@ numbered ks number i lt le = (length ks - suc i, omega (arith, lt, le), omega (a
 
 pub by_numbers : {ctx ks : List Kind} {s : Sig} {number : ℕ} {p : SigPath} → number < length ks → Rooted (extend ctx ks) s (own ks number) p → ((j : ℕ) → number ≤ j → j < length ks → ParamsAvoid (extend ctx ks) s p (own ks j)) → RootPath ctx ks s number p
 by_numbers {ctx} {ks} {s} {number} {p} b r a = root_path b (root_of r (λ i le. let w = numbered ks number i b le in subst (ParamsAvoid (extend ctx ks) s p) w.3 (a w.0 w.1 w.2)))
+
+pub rooted-of : {ctx ks : List Kind} {s : Sig} {i : ℕ} {p : SigPath} → RootPath ctx ks s i p → Rooted (extend ctx ks) s (own ks i) p
+rooted-of (root_path b (root_of r a)) = r
+
+pub root-of : {ctx ks : List Kind} {s : Sig} {i : ℕ} {p : SigPath} → LeastRoot ctx ks s i p → RootPath ctx ks s i p
+root-of (least r h) = r

@@ -1,32 +1,31 @@
 -- Well-formedness, ordered explicitness and root paths are kept by substitution and by conversion.
-use Rattle.std.specs.Prelude.{ℕ, List, ◌≡◌, ◌≤◌, ◌<◌, length}
+use Rattle.std.specs.Prelude.{ℕ, List, ◌≡◌, ◌≤◌, ◌<◌, length, []}
 use Rattle.std.proofs.Common.{arith}
-use Rattle.std.proofs.Math.Path.{refl, sym, ◌∙◌, ap, subst}
+use Rattle.std.proofs.Math.Path.{refl, sym, ◌∙◌, ap, subst, subst₂}
 use Rattle.omega_kinds.specs.Kind.{Kind}
 use Rattle.omega_kinds.specs.Name.{Name}
 use Rattle.omega_types.specs.Ty.{Ty}
-use Rattle.omega_types.specs.Substitution.{substitute}
 use Rattle.omega_types.specs.Kinding.HasKind.{k_var}
-use Rattle.omega_types.specs.Conversion.{Conv}
-use Rattle.omega_types.specs.Conversion.Conv.{c_refl, c_sym, c_trans}
+use Rattle.omega_types.specs.Conversion.Conv.{c_refl}
 use Rattle.omega_types.specs.Mentions.{Mentions}
 use Rattle.omega_types.specs.Normalises.{Maps}
-use Rattle.omega_types.specs.Binders.{extend, past, unders, own, applied}
-use Rattle.omega_types.proofs.Preservation.{Substitutes, conv-kinds, kind-substitute, conv-substitute}
-use Rattle.signatures.specs.Signatures.Sig.{Sig, Abs, SigRow}
+use Rattle.omega_types.specs.Binders.{extend, past, unders, own}
+use Rattle.omega_types.proofs.Preservation.{Substitutes, conv-kinds, kind-substitute}
+use Rattle.signatures.specs.Signatures.Sig.{Sig, Abs, SigRow, HasField, here, there}
 use Rattle.signatures.specs.Signatures.SigSubst.{rename_sig, rename_abs, substitute_sig, substitute_abs, substitute_sig_row}
-use Rattle.signatures.specs.Signatures.Alike.{Between, AlikeSig, AlikeRow, val, typ, meta, str, fun, ex, end, more, ConvBetween, ConvSig, ConvAbs}
-use Rattle.signatures.specs.Signatures.SigMentions.{MentionsSig, Avoids, by_normal_form}
-use Rattle.signatures.specs.Explicit.SigPath.{SigPath, PartAt}
-use Rattle.signatures.specs.Explicit.RootPath.{Rooted, ParamsAvoid, RootPath, root_path, root_of}
+use Rattle.signatures.specs.Signatures.Alike.{Between, AlikeRow, val, typ, meta, str, fun, ex, end, more, ConvBetween, ConvSig, ConvAbs}
+use Rattle.signatures.specs.Signatures.SigMentions.{Avoids, by_normal_form}
+use Rattle.signatures.specs.Explicit.SigPath.{SigPath}
+use Rattle.signatures.specs.Explicit.RootPath.{ParamsAvoid, RootPath, root_path, root_of}
 use Rattle.signatures.specs.Explicit.WellFormed.{BeforeAll, Rising, WellFormed, WellFormedRow, WellFormedAbs, ExplicitResults, ExplicitResultsRow, Explicit, abs, explicit, in_val, in_typ, in_meta, in_str, in_pure, in_impure, in_end, in_more}
 use Rattle.sig_laws.proofs.Algebra.SigAlgebra.{substitute-vars_sig, substitute-vars_abs}
-use Rattle.sig_laws.proofs.Algebra.AlikeLaws.{conv_sig-sym, conv_sig-trans, form-conv_sig, conv-form_sig, form_sig-normal, conv_sig-gives, conv_sig-substitute, substitutes-convertible}
-use Rattle.sig_laws.proofs.Algebra.SigMention.{mentions_sig-substitute, mentions-unders, unmentioned_sig}
-use Rattle.sig_laws.proofs.Algebra.PathLaws.{part-substitute, part-alike, param-alike, param-back}
+use Rattle.sig_laws.proofs.Algebra.AlikeLaws.{conv_sig-sym, conv_sig-trans, form-conv_sig, conv-form_sig, conv_sig-substitute, substitutes-convertible, conv_abs-substitute, alike_row-substitute}
+use Rattle.sig_laws.proofs.Algebra.SigMention.{mentions-unders}
+use Rattle.sig_laws.proofs.Algebra.PathLaws.{param-alike, param-back}
 use Rattle.sig_laws.proofs.Algebra.Own.{unders-below, own_mention}
-use Rattle.omega_types.proofs.BinderLaws.{applied-substitute}
 use Rattle.omega_types.proofs.BinderPuts.{unders-substitutes}
+use Rattle.sig_laws.proofs.Algebra.Names.{NameBefore}
+use Rattle.sig_laws.proofs.Formed.Shows.{rooted-shows, shows-rooted, shows-substitute, shows-alike, avoids-moved}
 
 -- the types of a well formed signature have their kinds
 
@@ -58,43 +57,25 @@ pub avoids-alike : {ctx : List Kind} {s t : Sig} {i : ℕ} → ConvSig ctx t s �
 avoids-alike c (by_normal_form f m) = by_normal_form (conv-form_sig c f) m
 
 pub root-alike : {ctx ks : List Kind} {s t : Sig} {number : ℕ} {p : SigPath} → ConvSig (extend ctx ks) s t → RootPath ctx ks s number p → RootPath ctx ks t number p
-root-alike {ctx} {ks} {s} {t} {number} {p} c (root_path b (root_of r h)) = root_path b (root_of (rooted r) avoid)
+root-alike {ctx} {ks} {s} {t} {number} {p} c (root_path b (root_of r h)) = root_path b (root_of (shows-rooted refl (shows-alike (rooted-shows r) c)) avoid)
   where
-    rooted : Rooted (extend ctx ks) s (own ks number) p → Rooted (extend ctx ks) t (own ks number) p
-    rooted (Rooted.at {bs = bs} {t = a} {k = k} a_part a_conv) = go (part-alike (extend ctx ks) a_part c)
-      where
-        end_part : {u : Sig} → PartAt t p bs u → AlikeSig ConvBetween (extend (extend ctx ks) bs) (Sig.Typ a k) u → Rooted (extend ctx ks) t (own ks number) p
-        end_part q (typ e) = Rooted.at q (c_trans (c_sym e) a_conv)
-
-        go : (u : Sig) × PartAt t p bs u × AlikeSig ConvBetween (extend (extend ctx ks) bs) (Sig.Typ a k) u → Rooted (extend ctx ks) t (own ks number) p
-        go w = end_part w.1 w.2
-
     avoid : (j : ℕ) → j ≤ own ks number → ParamsAvoid (extend ctx ks) t p j
     avoid j le ds js q on = let w = param-alike (extend ctx ks) on (conv_sig-sym c) in avoids-alike w.2 (h j le ds js w.0 w.1)
 
 pub avoids-substitute : {ctx other : List Kind} (s : Sig) (i v : ℕ) (f : ℕ → Ty) → Substitutes ctx other f → ((j : ℕ) → Mentions v (f j) → j ≡ i) → Avoids ctx s i → Avoids other (substitute_sig f s) v
-avoids-substitute {ctx} {other} s i v f h own (by_normal_form {n = n} a m) =
-    let c = conv_sig-substitute f f (substitutes-convertible h) (form-conv_sig a) in
-    let g = conv_sig-gives c in
-    by_normal_form g (unmentioned_sig v (conv_sig-trans (conv_sig-sym c) (form-conv_sig g)) (form_sig-normal g) none)
-  where
-    none : MentionsSig v (substitute_sig f n) → ⊥
-    none q = let w = mentions_sig-substitute f n v q in m (subst (λ j. MentionsSig j n) (own w.0 w.2) w.1)
+avoids-substitute {ctx} s i v f h own (by_normal_form a m) =
+    let c = form-conv_sig a in
+    avoids-moved s v f h (conv_sig-trans c (conv_sig-sym c)) (λ j q. subst (Avoids ctx s) (sym (own j q)) (by_normal_form a m))
 
 pub root-substitute : {ctx other ks : List Kind} {s : Sig} {number : ℕ} {p : SigPath} (f : ℕ → Ty) → Substitutes ctx other f → number < length ks → RootPath ctx ks s number p → RootPath other ks (substitute_sig (unders ks f) s) number p
-root-substitute {ctx} {other} {ks} {s} {number} {p} f h lt (root_path b (root_of r a)) = root_path b (root_of (rooted r) avoid)
+root-substitute {ctx} {other} {ks} {s} {number} {p} f h lt (root_path b (root_of r a)) =
+    root_path b (root_of (shows-rooted (unders-below ks f (own ks number) (own-below number lt)) (shows-substitute (unders ks f) (unders-substitutes ks h) (rooted-shows r))) avoid)
   where
     own-below : (j : ℕ) → j < length ks → own ks j < length ks
     own-below j e = omega (arith, e)
 
     inner-below : (j : ℕ) → j ≤ own ks number → j < length ks
     inner-below j e = omega (arith, e, lt)
-
-    rooted : Rooted (extend ctx ks) s (own ks number) p → Rooted (extend other ks) (substitute_sig (unders ks f) s) (own ks number) p
-    rooted (Rooted.at {bs = bs} {t = t} {k = k} q c) = Rooted.at (part-substitute (unders ks f) q)
-        (subst (λ u. Conv (extend (extend other ks) bs) (substitute (unders bs (unders ks f)) t) u k)
-        (applied-substitute bs (unders ks f) (Ty.Var (own ks number)) ∙ ap (applied bs) (unders-below ks f (own ks number) (own-below number lt)))
-        (conv-substitute (unders bs (unders ks f)) (unders-substitutes bs (unders-substitutes ks h)) c))
 
     avoid : (j : ℕ) → j ≤ own ks number → ParamsAvoid (extend other ks) (substitute_sig (unders ks f) s) p j
     avoid j le ds js q on =
@@ -112,15 +93,11 @@ root-substitute {ctx} {other} {ks} {s} {number} {p} f h lt (root_path b (root_of
 
 -- names
 
-before_all-substitute : (f : ℕ → Ty) (l : Name) (fs : SigRow) → BeforeAll l fs → BeforeAll l (substitute_sig_row f fs)
-before_all-substitute f l SigRow.End h = tt
-before_all-substitute f l (SigRow.More m s rest) h = (h.0, before_all-substitute f l rest h.1)
+pub before_all-field : (l m : Name) {q : Sig} {fs : SigRow} → BeforeAll l fs → HasField fs m q → NameBefore l m
+before_all-field l m h here = h.0
+before_all-field l m h (there n g) = before_all-field l m h.1 g
 
-rising-substitute : (f : ℕ → Ty) (fs : SigRow) → Rising fs → Rising (substitute_sig_row f fs)
-rising-substitute f SigRow.End h = tt
-rising-substitute f (SigRow.More l s rest) h = (before_all-substitute f l rest h.0, rising-substitute f rest h.1)
-
-before_all-alike : {R : Between} {ctx : List Kind} {fs gs : SigRow} (l : Name) → AlikeRow R ctx fs gs → BeforeAll l fs → BeforeAll l gs
+pub before_all-alike : {R : Between} {ctx : List Kind} {fs gs : SigRow} (l : Name) → AlikeRow R ctx fs gs → BeforeAll l fs → BeforeAll l gs
 before_all-alike l end h = tt
 before_all-alike l (more a rest) h = (h.0, before_all-alike l rest h.1)
 
@@ -135,7 +112,7 @@ mutual
   well_formed-substitute f h (WellFormed.val t) = WellFormed.val (kind-substitute f h t)
   well_formed-substitute f h (WellFormed.typ t) = WellFormed.typ (kind-substitute f h t)
   well_formed-substitute f h (WellFormed.meta x) = WellFormed.meta (explicit-substitute f h x)
-  well_formed-substitute f h (WellFormed.str {fs = fs} r w) = WellFormed.str (rising-substitute f fs r) (well_formed_row-substitute f h w)
+  well_formed-substitute f h (WellFormed.str {fs = fs} r w) = WellFormed.str (rising-alike (alike_row-substitute [] f fs) r) (well_formed_row-substitute f h w)
   well_formed-substitute f h (WellFormed.pure {ks = ks} x r) = WellFormed.pure (explicit-substitute f h x) (well_formed-substitute (unders ks f) (unders-substitutes ks h) r)
   well_formed-substitute f h (WellFormed.impure {ks = ks} x y) = WellFormed.impure (explicit-substitute f h x) (well_formed_abs-substitute (unders ks f) (unders-substitutes ks h) y)
 
@@ -201,6 +178,14 @@ mutual
 
 pub maps-substitutes : {ctx other : List Kind} {r : ℕ → ℕ} → Maps ctx other r → Substitutes ctx other (λ i. Ty.Var (r i))
 maps-substitutes h i k x = k_var (h i k x)
+
+pub conv_sig-rename : {ctx other : List Kind} {s t : Sig} (r : ℕ → ℕ) → Maps ctx other r → ConvSig ctx s t → ConvSig other (rename_sig r s) (rename_sig r t)
+conv_sig-rename {other = other} {s = s} {t = t} r h c =
+    subst₂ (ConvSig other) (substitute-vars_sig r s) (substitute-vars_sig r t) (conv_sig-substitute (λ i. Ty.Var (r i)) (λ i. Ty.Var (r i)) (substitutes-convertible (maps-substitutes h)) c)
+
+pub conv_abs-rename : {ctx other : List Kind} {s t : Abs} (r : ℕ → ℕ) → Maps ctx other r → ConvAbs ctx s t → ConvAbs other (rename_abs r s) (rename_abs r t)
+conv_abs-rename {other = other} {s = s} {t = t} r h c =
+    subst₂ (ConvAbs other) (substitute-vars_abs r s) (substitute-vars_abs r t) (conv_abs-substitute (λ i. Ty.Var (r i)) (λ i. Ty.Var (r i)) (substitutes-convertible (maps-substitutes h)) c)
 
 pub well_formed-rename : {ctx other : List Kind} {s : Sig} (r : ℕ → ℕ) → Maps ctx other r → WellFormed ctx s → WellFormed other (rename_sig r s)
 well_formed-rename {ctx} {other} {s} r h w = subst (WellFormed other) (substitute-vars_sig r s) (well_formed-substitute (λ i. Ty.Var (r i)) (maps-substitutes h) w)

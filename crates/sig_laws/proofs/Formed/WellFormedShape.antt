@@ -1,31 +1,23 @@
 -- Well formed signatures have distinct labels, and the results of their pure functors hide nothing.
-use Rattle.std.specs.Prelude.{List, [], IsTrue}
+use Rattle.std.specs.Prelude.{List, IsTrue, ◌≢◌}
 use Rattle.std.proofs.Math.Path.{sym, subst}
 use Rattle.omega_kinds.specs.Kind.{Kind}
 use Rattle.omega_kinds.specs.declared.label.Label.{Label}
 use Rattle.omega_kinds.specs.Name.{Name}
 use Rattle.omega_kinds.specs.LabelOrder.{name_before}
 use Rattle.omega_kinds.proofs.LabelLaws.{irreflexive}
-use Rattle.omega_types.specs.Ty.{Ty}
-use Rattle.omega_types.specs.Conversion.Conv.{c_refl, c_sym, c_arrow}
-use Rattle.omega_types.specs.Binders.{puts}
-use Rattle.omega_types.proofs.Preservation.{normal-kind, kind-substitute}
-use Rattle.omega_types.proofs.Hereditary.{normal-gives}
-use Rattle.omega_types.proofs.BinderPuts.{types-kinds, types-substitute}
-use Rattle.omega_terms.specs.Typing.{HasType}
-use Rattle.omega_terms.proofs.NormalTyping.{typed-sound}
-use Rattle.signatures.specs.Signatures.Sig.{Sig, Abs, SigRow, NoField}
+use Rattle.signatures.specs.Signatures.Sig.{Sig, Abs, SigRow, NoField, HasField}
 use Rattle.signatures.specs.Signatures.Alike.{NormalSig, NormalAbs}
-use Rattle.signatures.specs.Signatures.Encoding.{enc}
 use Rattle.signatures.specs.Explicit.WellFormed.{BeforeAll, Rising, WellFormed, WellFormedRow, WellFormedAbs, Explicit}
-use Rattle.sig_laws.specs.CoercionTypes.{SubIsTyped, SubAbsIsTyped, MatchIsTyped}
-use Rattle.sig_laws.proofs.Encoded.EncodingTyping.{Shape, ShapeAbs, ShapeRow, Good, GoodAbs, good-normal}
-use Rattle.sig_laws.proofs.Encoded.CoercionTyping.{sub-typed, sub_abs-typed, match-typed}
-use Rattle.sig_laws.proofs.Encoded.EncodingLaws.{enc-substitute}
+use Rattle.sig_laws.proofs.Encoded.EncodingTyping.{Shape, ShapeAbs, ShapeRow, Good, GoodAbs}
+use Rattle.sig_laws.proofs.Algebra.PathLaws.{field-not}
 
 pub before-no_field : (l : Name) (fs : SigRow) → BeforeAll l fs → NoField l fs
 before-no_field l SigRow.End h = tt
 before-no_field l (SigRow.More m s rest) h = (λ e. irreflexive (Label.Name l) (subst (λ x. IsTrue (name_before l x)) (sym e) h.0), before-no_field l rest h.1)
+
+pub after-differs : (m l : Name) {q : Sig} {fs : SigRow} → BeforeAll m fs → HasField fs l q → l ≢ m
+after-differs m l {fs = fs} b h = field-not h (before-no_field m fs b)
 
 mutual
   pub well_formed-shape : {ctx : List Kind} {s : Sig} → WellFormed ctx s → Shape s
@@ -51,18 +43,3 @@ well_formed-good w n = record { normal = n; shape = well_formed-shape w }
 
 pub well_formed_abs-good : {ctx : List Kind} {x : Abs} → WellFormedAbs ctx x → NormalAbs ctx x → GoodAbs ctx x
 well_formed_abs-good w n = record { normal = n; shape = well_formed_abs-shape w }
-
-pub sub_is_typed : SubIsTyped
-sub_is_typed ctx s t f w n v m a = typed-sound (sub-typed (well_formed-good w n) (well_formed-good v m) a)
-
-pub sub_abs_is_typed : SubAbsIsTyped
-sub_abs_is_typed ctx x y f w n v m a = typed-sound (sub_abs-typed (well_formed_abs-good w n) (well_formed_abs-good v m) a)
-
-pub match_is_typed : MatchIsTyped
-match_is_typed ctx ks s t ts f w n v m a =
-    let left = well_formed-good w n in
-    let right = well_formed-good v m in
-    let M = match-typed left right a in
-    let k = kind-substitute (puts ts Ty.Var) (types-substitute M.found) (normal-kind (good-normal right)) in
-    let T = λ (u : Ty). HasType ctx [] f (Ty.Arrow (enc s) u) in
-    (types-kinds M.found, subst T (sym (enc-substitute (puts ts Ty.Var) t)) (HasType.conv (typed-sound M.typed) (c_arrow (c_refl (normal-kind (good-normal left))) (c_sym (normal-gives k).1))))

@@ -1,5 +1,5 @@
 use Rattle.sig_laws.proofs.coercions.Goals as goal
-use Rattle.sig_laws.proofs.Formed.WellFormedShape.{sub_is_typed, sub_abs_is_typed, match_is_typed}
+use Rattle.sig_laws.proofs.LawTheorems.{sub_is_typed, sub_abs_is_typed, match_is_typed}
 
 pub returns-clause-sub : goal.returns-clause-sub
 returns-clause-sub c = sub_is_typed

@@ -1,11 +1,12 @@
+use Rattle.std.proofs.Common.{rules}
 use Rattle.module_calls.specs.Plain.{plain_why}
 use Rattle.elab_rules.specs.Refusals.Refusal.{of_mod}
-use Rattle.elaboration.proofs.Placing.{by-rule}
+use Rattle.elaboration.proofs.Placing.{kept, mapped}
 use Rattle.elaboration.proofs.Ruled.{named-found}
 use Rattle.elaboration.proofs.mod_rules.named_rule.Goals as goal
 
-pub returns-in-Ok-clause-found : goal.returns-in-Ok-clause-found
-returns-in-Ok-clause-found c = named-found c.in-Ok.ensures.given
+pub returns-clause-found : goal.returns-clause-found
+returns-clause-found c = kept _ c.named.result c.map_err.result c.map_err.ensures.cases c.named.ensures.given (λ m h. named-found h)
 
-pub returns-in-Err-clause-refused : goal.returns-in-Err-clause-refused
-returns-in-Err-clause-refused c = by-rule of_mod (plain_why c.in-Err.why) _ _ _ _ c.in-Err.ensures.refused c.mod_refusal.ensures
+pub returns-clause-refused : goal.returns-clause-refused
+returns-clause-refused c = mapped of_mod plain_why _ c.named.result c.map_err.result c.map_err.ensures.cases c.named.ensures.refused (λ w e p. search rules)

@@ -1,7 +1,8 @@
+use Rattle.std.proofs.Common.{rules}
 use Rattle.module_calls.specs.Plain.{plain_why}
 use Rattle.elab_rules.specs.Refusals.Refusal.{of_mod}
-use Rattle.elaboration.proofs.Placing.{by-rule}
+use Rattle.elaboration.proofs.Placing.{mapped}
 use Rattle.elaboration.proofs.mod_rules.parts_rule.Goals as goal
 
-pub returns-in-Err-clause-refused : goal.returns-in-Err-clause-refused
-returns-in-Err-clause-refused c = by-rule of_mod (plain_why c.in-Err.why) _ _ _ _ c.in-Err.ensures.refused c.mod_refusal.ensures
+pub returns-clause-refused : goal.returns-clause-refused
+returns-clause-refused c = mapped of_mod plain_why _ c.functor_parts.result c.map_err.result c.map_err.ensures.cases c.functor_parts.ensures.refused (λ w e p. search rules)

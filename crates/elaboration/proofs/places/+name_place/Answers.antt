@@ -1,10 +1,11 @@
 use Rattle.std.proofs.Common.{map}
 use Rattle.fing_syntax.specs.Leaves.{place, spelled}
+use Rattle.sig_calls.proofs.Following.{lacks}
 use Rattle.elaboration.proofs.LeftPaths.{left-here, left-last, left-next}
 use Rattle.elaboration.proofs.places.+name_place.Goals as goal
 
 pub returns-in_default : goal.returns-in_default
-returns-in_default t c = left-here c.args.sig.now (spelled c.args.first.now) (map spelled c.args.rest.now) c.in_default.ensures
+returns-in_default t c = left-here c.args.sig.now (spelled c.args.first.now) (map spelled c.args.rest.now) (lacks c.args.sig.now _ c.in_default.ensures)
 
 pub returns-in-empty : goal.returns-in-empty
 returns-in-empty t c = left-last c.args.sig.now c.in-Some.inner.now c.args.first.now c.args.rest.now c.in-empty.len_below c.in-Some.ensures

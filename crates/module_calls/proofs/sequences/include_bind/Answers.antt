@@ -17,4 +17,4 @@ returns-clause-given c =
     let a = c.args.first in
     let b = c.args.rest in
     let is = some-case c.fields_of.result ((fs : SigRow) → c.body.result.now ≡ Sig.Str fs → ⊥) (λ f. c.body.result.now ≡ Sig.Str (sig_row f.now)) c.in-Some.fields c.in-Some.is c.fields_of.ensures in
-    include-given a.effect b.effect a.sig b.sig c.in_ok-sig.sig a.types b.types c.in_ok-types.types a.term b.term c.in_ok-term.term c.body.result.now (sig_row c.in-Some.fields.now) (module_of c.in_ok-seq_bind.field-0) c.body.ensures is c.in_ok-term.ensures c.in_ok-sig.ensures c.in_ok-types.ensures c.in_ok-seq_bind.ensures
+    include-given a.effect b.effect a.sig b.sig a.types b.types a.term b.term c.in_ok-term.term c.body.result.now (sig_row c.in-Some.fields.now) (module_of c.in_ok-seq_bind.field-0) c.body.ensures is c.in_ok-term.ensures c.in_ok-seq_bind.ensures

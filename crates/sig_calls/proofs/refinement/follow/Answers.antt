@@ -1,8 +1,8 @@
-use Rattle.sig_calls.proofs.Following.{path-done, step-into, step-lost}
+use Rattle.sig_calls.proofs.Following.{lacks, path-done, step-into, step-lost}
 use Rattle.sig_calls.proofs.refinement.follow.Goals as goal
 
 pub returns-in-None : goal.returns-in-None
-returns-in-None c = step-lost c.loop-name.here.now c.args.sig.now c.args.path.now c.loop-name.name-index c.name-item.result c.loop-name-test.true c.name-item.is c.in-None.ensures c.loop-name.invariant
+returns-in-None c = step-lost c.loop-name.here.now c.args.sig.now c.args.path.now c.loop-name.name-index c.name-item.result c.loop-name-test.true c.name-item.is (lacks c.loop-name.here.now c.name-item.result c.in-None.ensures) c.loop-name.invariant
 
 pub loop-name-preserved : goal.loop-name-preserved
 loop-name-preserved c = step-into c.loop-name.here.now c.in-Some.inner.now c.args.sig.now c.args.path.now c.loop-name.name-index c.name-item.result c.loop-name-test.true c.name-item.is c.in-Some.ensures c.loop-name.invariant

@@ -4,12 +4,12 @@ use Rattle.root_paths.specs.Rooted.{rooted}
 use Rattle.root_paths.proofs.WalkLaws.{type-barred, type-none}
 use Rattle.root_paths.proofs.walk.Walk.visit_type.Goals as goal
 
-pub returns-else-is_open-clause-found : goal.returns-else-is_open-clause-found
-returns-else-is_open-clause-found c =
+pub returns-in_default-clause-found : goal.returns-in_default-clause-found
+returns-in_default-clause-found c =
     let walk = c.args.self.now in
     type-barred (map item_of walk.steps.items) c.args.bar (rooted c.args.depth c.args.ty.now) c.in-Some.own walk.found.items walk.found.items (sym c.in_ok-own.ensures ∙ c.in-Some.is) (sym c.is_open.ensures ∙ c.if-is_open.false) refl
 
-pub returns-in-None-clause-found : goal.returns-in-None-clause-found
-returns-in-None-clause-found c =
+pub returns-in_default-2-clause-found : goal.returns-in_default-2-clause-found
+returns-in_default-2-clause-found c =
     let walk = c.args.self.now in
-    type-none (map item_of walk.steps.items) c.args.bar (rooted c.args.depth c.args.ty.now) walk.found.items walk.found.items (sym c.in_ok-own.ensures ∙ c.in-None.is) refl
+    type-none (map item_of walk.steps.items) c.args.bar (rooted c.args.depth c.args.ty.now) walk.found.items walk.found.items (sym c.in_ok-own.ensures ∙ c.in_default.is) refl

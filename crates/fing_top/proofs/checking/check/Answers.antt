@@ -1,0 +1,18 @@
+use Rattle.std.proofs.Common.{refl}
+use Rattle.sig_text.specs.SigText.{elab_text}
+use Rattle.fing_top.specs.Reply.{ProgramReplies, TellsSignature}
+use Rattle.fing_words.specs.declared.command_line.CommandLine.TheVariants as command
+use Rattle.fing_top.specs.declared.status.Status.TheVariants as status
+use Rattle.fing_top.proofs.Answering.{told, wrote_reply}
+use Rattle.fing_top.proofs.checking.check.Goals as goal
+
+pub returns-in-Ok : goal.returns-in-Ok
+returns-in-Ok g c =
+    let found = c.in-Ok.found in
+    wrote_reply command.Check c.args.bytes.now status.Ok _ _ _ _ c.put_elab-wrote.result c.status_of.result tt
+    (told TellsSignature c.args.bytes.now found status.Ok (elab_text found.effect found.sig) c.in-Ok.ensures.compiled (refl, refl)) refl c.put_elab-wrote.ensures c.status_of.ensures
+
+pub returns-in-Err : goal.returns-in-Err
+returns-in-Err g c =
+    wrote_reply command.Check c.args.bytes.now status.Refused _ _ _ _ c.write_line.result c.status_of-in-Err.result tt
+    (ProgramReplies.refuses (c.in-Err.ensures.refused (c.if-has_line.ensures.sound refl))) refl c.write_line.ensures c.status_of-in-Err.ensures

@@ -1,0 +1,51 @@
+// `emit`: the encoded signature and the whole term of a program as Omega text.
+ghost use Rattle.std.specs.Prelude.{◌≤◌, length, IsTrue};
+ghost use Rattle.omega_terms.specs.InScope.{TermInScope, TyInScope};
+ghost use Rattle.fing_top.specs.Answer.{limit, AnswersBytes, change, output};
+ghost use Rattle.fing_top.specs.Compiled.{IsShallow};
+ghost use Rattle.fing_words.specs.declared.command_line.CommandLine.TheVariants as command;
+
+use crate::compiling::compile;
+use crate::pages::put_omega;
+use crate::refusing::{has_line, write_line};
+use crate::status::{Status, status_of};
+use fing_text::Sink;
+use omega_checker::Checked;
+use omega_scopes::{term_in_scope, ty_in_scope};
+use std::alloc::Global;
+
+/// Answers `emit` for all the bytes of a source, of which there are at most 1,048,576: writes the Omega text of the
+/// encoded signature and the whole term, with status `Ok`, or the line of the refusal, with `Refused`. `WriteFault`
+/// comes in place of either where a write failed, and then a front of that text was written; `NoMemory` is want of
+/// memory, and then nothing was written. Where the text, whole or a front of it, is that of a program that means
+/// something, `confirmed` becomes what the checker made of that type and term; on a refusal and with `NoMemory` it
+/// stands as it was.
+pub fn emit<K: Sink>(
+    alloc: Global,
+    bytes: &[u8],
+    sink: &mut K,
+    confirmed: &mut Option<Checked>,
+) -> Status
+    requires { length bytes.now ≤ limit }
+    ensures { AnswersBytes command.Emit bytes.now
+        (output (change (K.told sink.old) (K.told sink.new)) (change confirmed.old confirmed.new)) result }
+{
+    match compile(alloc, bytes) {
+        Ok(found) if is_closed(&found.checked) => {
+            let wrote = put_omega(alloc, sink, found.checked.ty(), found.checked.term());
+            *confirmed = Some(found.checked);
+            status_of(wrote, Status::Ok)
+        }
+        Err(why) if has_line(&why) => status_of(write_line(sink, &why), Status::Refused),
+        _ => Status::NoMemory,
+    }
+}
+
+// Whether the type and the term can be written: no level in them passes the last number of 64 bits. It may be false also
+// where 2^64 binders of a sort or more stand one in another.
+fn is_closed(checked: &Checked) -> bool
+    ensures sound { IsTrue result → TyInScope 0 checked.now.ty × TermInScope 0 0 checked.now.term }
+    ensures complete { TyInScope 0 checked.now.ty × TermInScope 0 0 checked.now.term → IsShallow checked.now → IsTrue result }
+{
+    ty_in_scope(0, checked.ty()) && term_in_scope(0, 0, checked.term())
+}
