@@ -13,10 +13,9 @@ use Rattle.fing_refusals.specs.Refusal.{KindDiffer}
 use Rattle.elab_rules.specs.Judgments.Meaning.{TyMeans}
 use Rattle.elab_rules.specs.Refusals.Task.{a_type}
 use Rattle.elab_laws.proofs.Kept.{type_ok}
-use Rattle.refusal_lines.specs.Plain.{plain_refusal}
 use Rattle.refusal_lines.specs.declared.refusal.Refusal.{Refusal as CodeRefusal}
 use Rattle.elaboration.specs.Answered.{RefusedAs, ByTest, NoValueType}
-use Rattle.elaboration.proofs.Placing.{if_some-map}
+use Rattle.elaboration.proofs.Placing.{says-map}
 
 -- the exit with a refusal
 pub exit : {T E : Type 0} (Q : E → Type 0) (r : Result T E) (e : E) → IsErrAnd r (λ y. y ≡ e) → Q e → IfErr r Q
@@ -49,7 +48,7 @@ fix-env {g} {a} {b} {t} {u} f x h m n = let p = type_ok g a t Kind.Star h m in (
 
 -- a type of values
 pub no_type : {g : Env} {a : TyEx} {e : CodeRefusal} → RefusedAs g (a_type a) e → NoValueType g a e
-no_type {e = e} h = record { stands = if_some-map (plain_refusal e) (λ r q. inl q) h.stands }
+no_type {e = e} h = record { stands = says-map e (λ r q. inl q) h.stands }
 
 pub no_star : {g h : Env} {at : Span} {a : TyEx} {t : Ty} {k : Kind} {e : CodeRefusal} → h ≡ g → at ≡ ty_span a → TyMeans g a t k → ByTest h at (k ≢ Kind.Star) (KindDiffer k Kind.Star) e → NoValueType g a e
-no_star {g} {h} {at} {a} {t} {k} {e} s p m b = record { stands = if_some-map (plain_refusal e) (λ r q. inr (t, k, m, (q.0, rw (← s, ← p) q.1))) b.stands }
+no_star {g} {h} {at} {a} {t} {k} {e} s p m b = record { stands = says-map e (λ r q. inr (t, k, m, (q.0, rw (← s, ← p) q.1))) b.stands }

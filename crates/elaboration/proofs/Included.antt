@@ -37,12 +37,11 @@ use Rattle.elab_rules.specs.Refusals.Refused.{here}
 use Rattle.elab_rules.specs.Refusals.Task.{a_bind, binds}
 use Rattle.elab_laws.proofs.FieldLaws.{rise-with_names}
 use Rattle.elab_laws.proofs.Kept.{mod_ok, binds_ok}
-use Rattle.refusal_lines.specs.Plain.{plain_refusal}
 use Rattle.refusal_lines.specs.declared.refusal.Refusal.{Refusal as CodeRefusal}
 use Rattle.elaboration.specs.Answered.{RefusedAs, Placed}
 use Rattle.elaboration.proofs.Entering.{left-module, left-fields}
 use Rattle.elaboration.proofs.Means.{param-env}
-use Rattle.elaboration.proofs.Placing.{if_some-map, by-rule}
+use Rattle.elaboration.proofs.Placing.{says-map, by-rule}
 use Rattle.elaboration.proofs.Refuse.Modules.{include-no_structure, include-later}
 use Rattle.elaboration.proofs.Slices.{empty}
 
@@ -68,7 +67,7 @@ some-is : {v w : ElabWhy} → Some v ≡ Some w → w ≡ v
 some-is e = cc
 
 pub bind-include : {g : Env} {at : Span} {m : Mod} {e : CodeRefusal} → Placed g at (Some NotStructure) e → RefusedAs g (a_bind (BindAt at (BindInclude m))) e
-bind-include {g} {at} {e = e} p = record { stands = if_some-map (plain_refusal e) (λ r q. here (inl (q.2 ∙ ap (refuse g at) (some-is q.1)))) p.stands }
+bind-include {g} {at} {e = e} p = record { stands = says-map e (λ r q. here (inl (q.2 ∙ ap (refuse g at) (some-is q.1)))) p.stands }
 
 -- the end of a structure
 pub ended : {g : Env} {before : List Name} (list : List Bind) (M : Module) → length list < 1

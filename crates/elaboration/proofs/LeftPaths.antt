@@ -19,12 +19,11 @@ use Rattle.sig_calls.specs.Hidden.{IsAt}
 use Rattle.elab_rules.specs.Operators.{names_of}
 use Rattle.elab_rules.specs.Refusals.Refusal.{of_sig, refuse}
 use Rattle.elab_rules.specs.Refusals.Steps.{WhereAt}
-use Rattle.refusal_lines.specs.Plain.{plain_refusal}
 use Rattle.refusal_lines.specs.declared.refusal.Refusal.{Refusal as CodeRefusal}
 use Rattle.sig_laws.proofs.Algebra.PathLaws.{no-field, one-field}
 use Rattle.elaboration.specs.Answered.{Placed, ByWhere}
 use Rattle.elaboration.specs.Leaving.{LeftAt, StandsAt}
-use Rattle.elaboration.proofs.Placing.{if_some-map}
+use Rattle.elaboration.proofs.Placing.{says-map}
 use Rattle.elaboration.proofs.Slices.{empty, first-rest, rest-of}
 
 lacks-none : {s t : Sig} {l : Name} → IsAt s l t → Lacks s l → ⊥
@@ -91,11 +90,11 @@ by-place : (o : Option SigWhy) (g : Env) (x : Abs) (z : SpanName) (path : List S
     → IfSome o (λ w. StandsAt (body_of x) z path of w at)
     → Placed g at (option_map of_sig o) e
     → ByWhere g (kinds_of x) (body_of x) z path b t k e
-by-place None g x z path b t k at of e w f s p = record { stands = if_some-map (plain_refusal e) (λ r q. absurd (never-some q.1)) p.stands }
+by-place None g x z path b t k at of e w f s p = record { stands = says-map e (λ r q. absurd (never-some q.1)) p.stands }
   where
     never-some : {w : ElabWhy} → ◌≡◌ {A = Option ElabWhy} None (Some w) → ⊥
     never-some e = cc
-by-place (Some why) g (Abs.Ex ks s) z path b t k at of e w f st p = record { stands = if_some-map (plain_refusal e) (λ r q. (why, w, (at, stands w f st, q.2 ∙ ap (refuse g at) (some-is q.1)))) p.stands }
+by-place (Some why) g (Abs.Ex ks s) z path b t k at of e w f st p = record { stands = says-map e (λ r q. (why, w, (at, stands w f st, q.2 ∙ ap (refuse g at) (some-is q.1)))) p.stands }
   where
     some-is : {v w : ElabWhy} → Some v ≡ Some w → w ≡ v
     some-is e = cc

@@ -1,13 +1,13 @@
 -- From a rule's reason, and its place, to a refusal of the rule.
 use Rattle.std.proofs.Common.{◌≡◌, Option, Some, None, Result, Ok, Err, IfErr, IfOk, IfSome, IsErrAnd, sym, subst, ap, ◌∙◌}
-use Rattle.std.specs.Prelude.{MatchResult}
+use Rattle.std.specs.Prelude.{MatchOption, MatchResult}
 use Rattle.std.proofs.lemmas.Result.{err_from_is_err_and}
 use Rattle.std.specs.Option.{option_map}
 use Rattle.signatures.specs.Env.{Env}
 use Rattle.fing_syntax.specs.Phrase.{Span}
-use Rattle.fing_refusals.specs.Refusal.{ElabWhy}
+use Rattle.fing_refusals.specs.Refusal.{ElabWhy, Refusal}
 use Rattle.elab_rules.specs.Refusals.Refusal.{refuse}
-use Rattle.refusal_lines.specs.Plain.{plain_refusal}
+use Rattle.refusal_lines.specs.Plain.{Says, plain_refusal, want_of_memory}
 use Rattle.refusal_lines.specs.declared.refusal.Refusal.{Refusal as CodeRefusal}
 use Rattle.elaboration.specs.Answered.{Placed, ByRule, ByTest}
 
@@ -15,15 +15,22 @@ pub if_some-map : {A : Type 0} {P Q : A → Type 0} (o : Option A) → ((a : A) 
 if_some-map None f h = tt
 if_some-map (Some a) f h = f a h
 
+told-map : {A : Type 0} (N : Type 0) {P Q : A → Type 0} (o : Option A) → ((a : A) → P a → Q a) → MatchOption o N P → MatchOption o N Q
+told-map N None f h = h
+told-map N (Some a) f h = f a h
+
+pub says-map : {P Q : Refusal → Type 0} (e : CodeRefusal) → ((r : Refusal) → P r → Q r) → Says e P → Says e Q
+says-map e f h = told-map (e ≡ want_of_memory) (plain_refusal e) f h
+
 reasoned : {W : Type 0} (reason : W → ElabWhy) (o : Option W) {Refuses : W → Type 0} {w : ElabWhy} → IfSome o Refuses → option_map reason o ≡ Some w → (why : W) × Refuses why × (w ≡ reason why)
 reasoned reason None h e = absurd cc
 reasoned reason (Some why) h e = (why, h, cc)
 
 pub by-rule : {W : Type 0} (reason : W → ElabWhy) (o : Option W) (Refuses : W → Type 0) (g : Env) (at : Span) (e : CodeRefusal) → IfSome o Refuses → Placed g at (option_map reason o) e → ByRule reason g at Refuses e
-by-rule {W} reason o Refuses g at e h p = record { stands = if_some-map (plain_refusal e) (λ r q. let v : (why : W) × Refuses why × (q.0 ≡ reason why) = reasoned reason o h q.1 in (v.0, v.1, q.2 ∙ ap (refuse g at) v.2)) p.stands }
+by-rule {W} reason o Refuses g at e h p = record { stands = says-map e (λ r q. let v : (why : W) × Refuses why × (q.0 ≡ reason why) = reasoned reason o h q.1 in (v.0, v.1, q.2 ∙ ap (refuse g at) v.2)) p.stands }
 
 pub by-test : (why : ElabWhy) (fails : Type 0) (g : Env) (at : Span) (e : CodeRefusal) → fails → Placed g at (Some why) e → ByTest g at fails why e
-by-test why fails g at e h p = record { stands = if_some-map (plain_refusal e) (λ r q. (h, q.2 ∙ ap (refuse g at) (some-is q.1))) p.stands }
+by-test why fails g at e h p = record { stands = says-map e (λ r q. (h, q.2 ∙ ap (refuse g at) (some-is q.1))) p.stands }
   where
     some-is : {v w : ElabWhy} → Some v ≡ Some w → w ≡ v
     some-is e = cc

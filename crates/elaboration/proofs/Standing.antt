@@ -17,28 +17,27 @@ use Rattle.elab_rules.specs.Refusals.Task.{Task, a_type}
 use Rattle.elab_rules.specs.Refusals.Rule.{Fails, Enters}
 use Rattle.elab_rules.specs.Refusals.Steps.{steps, WhereAt}
 use Rattle.elab_rules.specs.Refusals.Refused.{Refused, here, inside}
-use Rattle.refusal_lines.specs.Plain.{plain_refusal}
 use Rattle.refusal_lines.specs.declared.refusal.Refusal.{Refusal as CodeRefusal}
 use Rattle.elaboration.specs.Answered.{RefusedAs, ByRule, ByTest, ByMatch, ByWhere, NoValueType}
-use Rattle.elaboration.proofs.Placing.{if_some-map}
+use Rattle.elaboration.proofs.Placing.{says-map}
 
 -- a premise is refused
 pub within : {g h : Env} {a b : Task} {e : CodeRefusal} → Enters (steps g a) h b → RefusedAs h b e → RefusedAs g a e
-within {e = e} p h = record { stands = if_some-map (plain_refusal e) (λ r q. inside p q) h.stands }
+within {e = e} p h = record { stands = says-map e (λ r q. inside p q) h.stands }
 
 -- a rule is refused
 pub fails : {g h : Env} {at : Span} {a : Task} {W : Type 0} {reason : W → ElabWhy} {Refuses : W → Type 0} {e : CodeRefusal}
     → ((r : Refusal) → (why : W) × Refuses why × (r ≡ refuse h at (reason why)) → Fails (steps g a) r)
     → ByRule reason h at Refuses e
     → RefusedAs g a e
-fails {e = e} f h = record { stands = if_some-map (plain_refusal e) (λ r q. here (f r q)) h.stands }
+fails {e = e} f h = record { stands = says-map e (λ r q. here (f r q)) h.stands }
 
 -- a condition fails
 pub tested : {g h : Env} {at : Span} {a : Task} {F : Type 0} {why : ElabWhy} {e : CodeRefusal}
     → ((r : Refusal) → F × (r ≡ refuse h at why) → Fails (steps g a) r)
     → ByTest h at F why e
     → RefusedAs g a e
-tested {e = e} f h = record { stands = if_some-map (plain_refusal e) (λ r q. here (f r q)) h.stands }
+tested {e = e} f h = record { stands = says-map e (λ r q. here (f r q)) h.stands }
 
 -- a type is refused, or is none of values
 pub valued : {g h : Env} {a : Task} {b : TyEx} {e : CodeRefusal}
@@ -46,7 +45,7 @@ pub valued : {g h : Env} {a : Task} {b : TyEx} {e : CodeRefusal}
     → ((t : Ty) (k : Kind) (r : Refusal) → TyMeans h b t k → (k ≢ Kind.Star) × (r ≡ refuse h (ty_span b) (KindDiffer k Kind.Star)) → Fails (steps g a) r)
     → NoValueType h b e
     → RefusedAs g a e
-valued {g} {h} {a} {b} {e} p f n = record { stands = if_some-map (plain_refusal e) go n.stands }
+valued {g} {h} {a} {b} {e} p f n = record { stands = says-map e go n.stands }
   where
     go : (r : Refusal) → Refused h (a_type b) r ⊎ ((t : Ty) × (k : Kind) × TyMeans h b t k × ((k ≢ Kind.Star) × (r ≡ refuse h (ty_span b) (KindDiffer k Kind.Star)))) → Refused g a r
     go r (inl q) = inside p q
@@ -57,11 +56,11 @@ pub unmatched : {g h : Env} {at : Span} {a : Task} {s : Sig} {y : Abs} {e : Code
     → ((r : Refusal) → (q : MatchRefusal) × RefusesMatch (kinds h) s y q × (r ≡ refuse_match h at q) → Fails (steps g a) r)
     → ByMatch h at s y e
     → RefusedAs g a e
-unmatched {e = e} f h = record { stands = if_some-map (plain_refusal e) (λ r q. here (f r q)) h.stands }
+unmatched {e = e} f h = record { stands = says-map e (λ r q. here (f r q)) h.stands }
 
 -- the rule of a fixed type is refused
 pub refined : {g h : Env} {a : Task} {ks : List Kind} {s : Sig} {z : SpanName} {path : List SpanName} {b : TyEx} {t : Ty} {k : Kind} {e : CodeRefusal}
     → ((r : Refusal) → (why : SigWhy) × WhereRefuses (Abs.Ex ks s) (names_of (z ∷ path)) t k why × ((at : Span) × WhereAt s z path b why at × (r ≡ refuse h at (of_sig why))) → Fails (steps g a) r)
     → ByWhere h ks s z path b t k e
     → RefusedAs g a e
-refined {e = e} f h = record { stands = if_some-map (plain_refusal e) (λ r q. here (f r q)) h.stands }
+refined {e = e} f h = record { stands = says-map e (λ r q. here (f r q)) h.stands }

@@ -1,5 +1,5 @@
 -- Conclusions and refusals of rules of modules, as the calls give them.
-use Rattle.std.specs.Prelude.{◌≡◌, List, Bool, true, false, Option, Some, IfSome}
+use Rattle.std.specs.Prelude.{◌≡◌, List, Bool, true, false, Option, Some}
 use Rattle.omega_kinds.specs.Kind.{Kind}
 use Rattle.omega_kinds.specs.declared.effect.Effect.TheVariants.{Pure, Impure}
 use Rattle.signatures.specs.Env.{Env}
@@ -9,7 +9,7 @@ use Rattle.module_rules.specs.ModRules.{GenerativeGives}
 use Rattle.applicative_functors.specs.PureFunctor.{PureFunctorGives}
 use Rattle.fing_syntax.specs.Phrase.{Span, Bind, BindAt, BindInclude}
 use Rattle.elab_rules.specs.Refusals.Refusal.{refuse_match}
-use Rattle.refusal_lines.specs.Plain.{plain_refusal}
+use Rattle.refusal_lines.specs.Plain.{Says}
 use Rattle.refusal_lines.specs.declared.refusal.Refusal.{Refusal as CodeRefusal}
 
 -- a functor, applicative where it is not generative and its body is pure
@@ -20,7 +20,7 @@ FunctorGives ctx true (Abs.Ex ks s) M N = GenerativeGives ctx ks s M N
 
 -- a refusal of matching that may be none is the refusal's, at the place and in the environment
 pub record MatchPlaced (g : Env) (at : Span) (why : Option MatchRefusal) (e : CodeRefusal) : Type 0 where
-  pub stands : IfSome (plain_refusal e) (λ r. (q : MatchRefusal) × (why ≡ Some q) × (r ≡ refuse_match g at q))
+  pub stands : Says e (λ r. (q : MatchRefusal) × (why ≡ Some q) × (r ≡ refuse_match g at q))
 
 -- a binding that is no include
 abbrev pub IsSingle : Bind → Type 0

@@ -30,12 +30,23 @@ use semantic_sigs::{Abs, Env, Module, SigFields};
 use std::alloc::Global;
 
 /// The rest of a structure, after bindings of the names before, which rise and are bound in the environment, a good one.
-/// Ok is the module that the rest means there, and the environment is as it was. `Err` is the refusal of the first
-/// condition that fails in the order of the text, or want of memory; what the environment holds then is not told.
+/// Ok is the module that the rest means there. `Err` is the refusal of the first condition that fails in the order of the
+/// text, or want of memory.
 ///
 /// Rossberg, Russo and Dreyer, "F-ing modules", section 4, Elaboration, Bindings.
+pub fn structure(alloc: Global, env: Env, before: NameSet, list: &[Bind]) -> Result<Module, Refusal>
+    requires env { OkEnv env }
+    requires names { GoodNames env before }
+    ensures given { IfOk result (λ m. BindsMean env before (binds_of list.now) (module_of m)) }
+    ensures refused { IfErr result (λ e. RefusedAs env (binds_task before (binds_of list.now)) e) }
+{
+    let mut own = env;
+    binds(alloc, &mut own, before, list)
+}
+
+/// The same. The environment is as it was where there is an answer; after a refusal it is as far as elaboration went.
 #[cycle(elab)]
-pub fn binds(
+pub(crate) fn binds(
     alloc: Global,
     env: &mut Env,
     before: NameSet,

@@ -1,5 +1,5 @@
 // The rules of expressions, refused at a place in an environment.
-ghost use Rattle.std.specs.Prelude.{◌≡◌, [], None, IfErr, IfOk, OnOk};
+ghost use Rattle.std.specs.Prelude.{◌≡◌, [], IfErr, IfOk, OnOk};
 ghost use Rattle.omega_kinds.specs.Kind.{Kind as KindTree};
 ghost use Rattle.omega_kinds.specs.View.{kind_tree};
 ghost use Rattle.omega_types.specs.Normality.{Normal};
@@ -11,7 +11,7 @@ ghost use Rattle.core_rules.specs.ExpRules.{LiteralGives, FunctionGives, Functio
 ghost use Rattle.elab_rules.specs.Refusals.Refusal.{of_core};
 ghost use Rattle.fing_refusals.specs.Refusal.{Differ, NotArrow, NotAll, NotRecord};
 ghost use Rattle.fing_syntax.specs.Leaves.{place};
-ghost use Rattle.refusal_lines.specs.Plain.{plain_refusal};
+ghost use Rattle.refusal_lines.specs.Plain.{want_of_memory};
 ghost use Rattle.elaboration.specs.Answered.{ByRule, ByTest};
 
 use crate::refusing::{core_refusal, refuse};
@@ -104,7 +104,7 @@ pub(crate) fn expect_bool(alloc: Global, env: &Env, at: Span, ty: &NormalTy) -> 
 /// A number, a truth value, a text. The only refusal is want of memory, as wherever no place is handed in.
 pub(crate) fn literal_rule(alloc: Global, what: Literal) -> Result<Typed, Refusal>
     ensures given { IfOk result (λ o. LiteralGives (plain_literal what) o.ty o.term) }
-    ensures refused { IfErr result (λ e. plain_refusal e ≡ None) }
+    ensures refused { IfErr result (λ e. e ≡ want_of_memory) }
 {
     Ok(literal_exp(alloc, what)?)
 }
@@ -126,7 +126,7 @@ pub(crate) fn function_rule(
 /// `fun [X : K] => E`.
 pub(crate) fn type_function_rule(alloc: Global, kind: &Kind, body: Typed) -> Result<Typed, Refusal>
     ensures given { IfOk result (λ o. TypeFunctionGives (kind_tree kind.now) body.ty body.term o.ty o.term) }
-    ensures refused { IfErr result (λ e. plain_refusal e ≡ None) }
+    ensures refused { IfErr result (λ e. e ≡ want_of_memory) }
 {
     Ok(ty_lam_exp(alloc, kind, body)?)
 }

@@ -1,8 +1,8 @@
 // The elaboration of phrases: types, expressions, signatures, declarations, modules and bindings, each in an environment.
 // Stands on the rules in code, one crate for each kind of rule, and on elab_rules and elab_laws, whose judgments over
 // phrases its contracts cite.
-// Proved (`binds`, and so for each form of phrase): what is answered is derived by the judgments, and each refusal is one
-// of the phrase; want of memory alone is free. The environment is as before wherever there is an answer.
+// Proved (`structure`, and so for each form of phrase): what is answered is derived by the judgments, and each refusal is
+// one of the phrase, or want of memory, of which nothing more is said.
 #![tactic(auto)]
 
 mod bindings;
@@ -25,5 +25,5 @@ mod type_rules;
 mod types;
 mod uses;
 
-pub use bindings::binds;
+pub use bindings::structure;
 pub use sets::NameSet;

@@ -9,18 +9,22 @@ ghost use Rattle.elaboration.specs.Answered.{Placed};
 
 use core_calls::CoreRefusal;
 use fing_text::Span;
+use omega_kinds::Mem;
 use refusal_lines::{ElabWhy, Refusal};
 use semantic_sigs::Env;
 
-// A refusal for a reason at a place, with as many type variables as the environment has.
+// A refusal for a reason at a place, with as many type variables as the environment has. Want of memory has no place.
 #[tactic(auto, using(crate::proofs::Counting::refused_here))]
 pub(crate) fn refuse(env: &Env, at: Span, why: ElabWhy) -> Refusal
     ensures { Placed env.now (place at) (plain_reason why) result }
 {
-    Refusal {
-        at,
-        types: env.kinds().len() as u64,
-        why,
+    match why {
+        ElabWhy::Mem => Refusal::from(Mem),
+        why => Refusal {
+            at,
+            types: env.kinds().len() as u64,
+            why,
+        },
     }
 }
 

@@ -1,5 +1,5 @@
 // The rules of signatures and declarations, refused at a place in an environment.
-ghost use Rattle.std.specs.Prelude.{◌≡◌, ◌∷◌, [], List, None, IfErr, IfOk, OnOk, map};
+ghost use Rattle.std.specs.Prelude.{◌≡◌, ◌∷◌, [], List, IfErr, IfOk, OnOk, map};
 ghost use Rattle.std.specs.Option.{option_map};
 ghost use Rattle.omega_kinds.specs.Kind.{Kind as KindTree};
 ghost use Rattle.omega_kinds.specs.View.{kind_tree};
@@ -17,7 +17,7 @@ ghost use Rattle.sig_calls.specs.Plain.{AreApart, plain_why};
 ghost use Rattle.elab_rules.specs.Operators.{names_of};
 ghost use Rattle.elab_rules.specs.Refusals.Refusal.{of_sig};
 ghost use Rattle.fing_syntax.specs.Leaves.{place, spelled};
-ghost use Rattle.refusal_lines.specs.Plain.{plain_reason, plain_refusal};
+ghost use Rattle.refusal_lines.specs.Plain.{plain_reason, want_of_memory};
 ghost use Rattle.elaboration.specs.Answered.{ByRule, ByWhere, Placed};
 ghost use Rattle.elaboration.specs.Fields.{fields_in};
 
@@ -74,7 +74,7 @@ pub(crate) fn value_rule(
 /// `type X = T`.
 pub(crate) fn type_rule(alloc: Global, name: &Name, ty: &Kinded) -> Result<Abs, Refusal>
     ensures given { IfOk result (λ x. TypeGives name.now ty.now.ty (kind_tree ty.now.kind) x) }
-    ensures refused { IfErr result (λ e. plain_refusal e ≡ None) }
+    ensures refused { IfErr result (λ e. e ≡ want_of_memory) }
 {
     Ok(decl_is(alloc, name, ty)?)
 }
@@ -82,7 +82,7 @@ pub(crate) fn type_rule(alloc: Global, name: &Name, ty: &Kinded) -> Result<Abs, 
 /// `type X : K`.
 pub(crate) fn abstract_rule(alloc: Global, name: &Name, kind: &Kind) -> Result<Abs, Refusal>
     ensures given { IfOk result (λ x. AbstractGives name.now (kind_tree kind.now) x) }
-    ensures refused { IfErr result (λ e. plain_refusal e ≡ None) }
+    ensures refused { IfErr result (λ e. e ≡ want_of_memory) }
 {
     Ok(decl_of(alloc, name, kind)?)
 }
@@ -90,7 +90,7 @@ pub(crate) fn abstract_rule(alloc: Global, name: &Name, kind: &Kind) -> Result<A
 /// `module X : S`.
 pub(crate) fn module_rule(alloc: Global, name: &Name, sig: &Abs) -> Result<Abs, Refusal>
     ensures given { IfOk result (λ x. ModuleGives name.now sig.now x) }
-    ensures refused { IfErr result (λ e. plain_refusal e ≡ None) }
+    ensures refused { IfErr result (λ e. e ≡ want_of_memory) }
 {
     Ok(decl_module(alloc, name, sig)?)
 }
@@ -98,7 +98,7 @@ pub(crate) fn module_rule(alloc: Global, name: &Name, sig: &Abs) -> Result<Abs, 
 /// `signature X = S`.
 pub(crate) fn signature_rule(alloc: Global, name: &Name, sig: &Abs) -> Result<Abs, Refusal>
     ensures given { IfOk result (λ x. SignatureGives name.now sig.now x) }
-    ensures refused { IfErr result (λ e. plain_refusal e ≡ None) }
+    ensures refused { IfErr result (λ e. e ≡ want_of_memory) }
 {
     Ok(decl_meta(alloc, name, sig)?)
 }
@@ -135,7 +135,7 @@ pub(crate) fn no_fields(alloc: Global) -> Result<Abs, Mem>
 /// A declaration and those after it, whose labels are apart.
 pub(crate) fn declarations_rule(alloc: Global, first: &Abs, rest: &Abs) -> Result<Abs, Refusal>
     ensures given { IfOk result (λ x. (ks js : List KindTree) (fs gs : SigRow) → first.now ≡ Ex ks (Str fs) → rest.now ≡ Ex js (Str gs) → AreApart fs gs → DeclarationsGive first.now rest.now x) }
-    ensures refused { IfErr result (λ e. plain_refusal e ≡ None) }
+    ensures refused { IfErr result (λ e. e ≡ want_of_memory) }
 {
     Ok(seq_decl(alloc, first, rest)?)
 }
@@ -143,7 +143,7 @@ pub(crate) fn declarations_rule(alloc: Global, first: &Abs, rest: &Abs) -> Resul
 /// `fun (X : S1) -> S2`.
 pub(crate) fn functor_rule(alloc: Global, param: &Abs, target: &Abs) -> Result<Abs, Refusal>
     ensures given { IfOk result (λ x. GenerativeGives param.now target.now x) }
-    ensures refused { IfErr result (λ e. plain_refusal e ≡ None) }
+    ensures refused { IfErr result (λ e. e ≡ want_of_memory) }
 {
     Ok(functor_sig(alloc, param, target)?)
 }

@@ -1,5 +1,5 @@
 // The rules of types, refused at a place in an environment.
-ghost use Rattle.std.specs.Prelude.{◌≡◌, ◌≢◌, [], None, IfErr, IfOk, OnOk};
+ghost use Rattle.std.specs.Prelude.{◌≡◌, ◌≢◌, [], IfErr, IfOk, OnOk};
 ghost use Rattle.omega_kinds.specs.Kind.{Kind as KindTree};
 ghost use Rattle.omega_kinds.specs.View.{kind_tree};
 ghost use Rattle.omega_types.specs.Normality.{Normal};
@@ -10,7 +10,7 @@ ghost use Rattle.core_rules.specs.TypeRules.{BaseGives, ArrowGives, ArrowRefuses
 ghost use Rattle.elab_rules.specs.Refusals.Refusal.{of_core};
 ghost use Rattle.fing_refusals.specs.Refusal.{KindDiffer, NotOperator};
 ghost use Rattle.fing_syntax.specs.Leaves.{place};
-ghost use Rattle.refusal_lines.specs.Plain.{plain_refusal};
+ghost use Rattle.refusal_lines.specs.Plain.{want_of_memory};
 ghost use Rattle.elaboration.specs.Answered.{ByRule, ByTest};
 
 use crate::refusing::{core_refusal, refuse};
@@ -49,7 +49,7 @@ pub(crate) fn expect_operator(env: &Env, at: Span, kind: &Kind) -> Result<(), Re
 /// `Int`, `Bool`, `Text`. The only refusal is want of memory, as wherever no place is handed in.
 pub(crate) fn base_rule(alloc: Global, what: Base) -> Result<Kinded, Refusal>
     ensures given { IfOk result (λ o. BaseGives (plain_base what) o.ty (kind_tree o.kind)) }
-    ensures refused { IfErr result (λ e. plain_refusal e ≡ None) }
+    ensures refused { IfErr result (λ e. e ≡ want_of_memory) }
 {
     Ok(base_ty(alloc, what)?)
 }
@@ -85,7 +85,7 @@ pub(crate) fn all_rule(
 /// `fun (X : K) => T`.
 pub(crate) fn lam_rule(alloc: Global, kind: &Kind, body: &Kinded) -> Result<Kinded, Refusal>
     ensures given { IfOk result (λ o. OperatorGives (kind_tree kind.now) body.now.ty (kind_tree body.now.kind) o.ty (kind_tree o.kind)) }
-    ensures refused { IfErr result (λ e. plain_refusal e ≡ None) }
+    ensures refused { IfErr result (λ e. e ≡ want_of_memory) }
 {
     Ok(lam_ty(alloc, kind, body)?)
 }

@@ -1,5 +1,5 @@
 -- One meaning or one refusal of each program, as the code answers it.
-use Rattle.std.proofs.Common.{◌≡◌, List, [], IfSome, sym, ap, ◌∙◌}
+use Rattle.std.proofs.Common.{◌≡◌, List, [], sym, ap, ◌∙◌}
 use Rattle.omega_kinds.specs.Name.{Name}
 use Rattle.omega_terms.specs.Term.{Term}
 use Rattle.omega_terms.specs.Typing.{HasType}
@@ -18,10 +18,10 @@ use Rattle.elab_laws.proofs.Kept.{binds_ok}
 use Rattle.elab_laws.proofs.TypedClaims.{whole_is_typed}
 use Rattle.elab_exact.specs.Claims.{ProgramExactly}
 use Rattle.elab_exact.proofs.Theorems.{each-program}
-use Rattle.refusal_lines.specs.Plain.{plain_refusal}
+use Rattle.refusal_lines.specs.Plain.{Says}
 use Rattle.refusal_lines.specs.declared.refusal.Refusal.{Refusal as CodeRefusal}
 use Rattle.elaboration.specs.Answered.{RefusedAs}
-use Rattle.elaboration.proofs.Placing.{if_some-map}
+use Rattle.elaboration.proofs.Placing.{says-map}
 use Rattle.fing_elab.specs.declared.whole.Elaborated.{Elaborated}
 use Rattle.fing_elab.specs.Exactly.{module_in, Means, IsRefused}
 
@@ -59,5 +59,5 @@ refusal bs r h = go (each-program bs)
     go (holds x w only never) = absurd (never r h)
     go (refuses s w only never) = record { refused = h; only = λ q k. only q k ∙ sym (only r h); meaningless = λ m whole p. never (m, whole) p }
 
-pub refused : (bs : Binds) (e : CodeRefusal) → RefusedAs [] (binds [] bs) e → IfSome (plain_refusal e) (IsRefused bs)
-refused bs e h = if_some-map (plain_refusal e) (refusal bs) h.stands
+pub refused : (bs : Binds) (e : CodeRefusal) → RefusedAs [] (binds [] bs) e → Says e (IsRefused bs)
+refused bs e h = says-map e (refusal bs) h.stands

@@ -1,14 +1,14 @@
 // Whole programs.
-ghost use Rattle.std.specs.Prelude.{◌≡◌, [], IfErr, IfOk, IfSome};
+ghost use Rattle.std.specs.Prelude.{◌≡◌, [], IfErr, IfOk};
 ghost use Rattle.omega_terms.specs.Typing.{HasType};
 ghost use Rattle.signatures.specs.Packing.{Packed};
 ghost use Rattle.signatures.specs.Signatures.Encoding.{enc_abs};
 ghost use Rattle.sig_laws.specs.Good.{OkModule};
 ghost use Rattle.semantic_sigs.specs.Made.{module_of};
-ghost use Rattle.refusal_lines.specs.Plain.{plain_refusal};
+ghost use Rattle.refusal_lines.specs.Plain.{Says};
 ghost use Rattle.fing_elab.specs.Exactly.{Means, IsRefused};
 
-use elaboration::{NameSet, binds};
+use elaboration::{NameSet, structure};
 use fing_syntax::Program;
 use module_calls::packed;
 use omega_kinds::{Effect, Mem};
@@ -46,17 +46,18 @@ fn whole_of(alloc: Global, whole: &Module) -> Result<Term, Mem>
 }
 
 /// What a program means, or why it means nothing: the refusal is that of the first rule, in the order of the text, of which
-/// a condition fails. A refusal for want of memory says nothing of the program. The types of each meaning are normal by
-/// the laws of elab_laws, and those of each refusal by elab_exact's, in a context of as many type variables as it tells.
+/// a condition fails. A refusal for want of memory has the place from 0 to 0 and tells of no type variables. The types of
+/// each meaning are normal by the laws of elab_laws, and those of each refusal by elab_exact's, in a context of as many
+/// type variables as it tells.
 ///
 /// Rossberg, Russo and Dreyer, "F-ing modules", sections 4 to 7, Elaboration.
 pub fn elab(alloc: Global, program: &Program) -> Result<Elaborated, Refusal>
     ensures means { IfOk result (λ o. Means program.now o) }
     ensures typed { IfOk result (λ o. HasType [] [] o.whole (enc_abs o.sig)) }
-    ensures refused { IfErr result (λ e. IfSome (plain_refusal e) (IsRefused program.now)) }
+    ensures refused { IfErr result (λ e. Says e (IsRefused program.now)) }
 {
-    let mut env = Env::new(alloc);
-    let found = binds(alloc, &mut env, NameSet::new(alloc), &program.binds)?;
+    let env = Env::new(alloc);
+    let found = structure(alloc, env, NameSet::new(alloc), &program.binds)?;
     let whole = whole_of(alloc, &found)?;
     Ok(Elaborated {
         effect: found.effect,

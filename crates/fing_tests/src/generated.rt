@@ -14,15 +14,11 @@ use semantic_sigs::encode;
 use std::alloc::Global;
 use std::test::Fail;
 
-// Each reply twice.
-const COUNTS: [(&str, &str); 8] = [
-    ("1", "bindings 8 nodes 223 steps 84\n"),
+const COUNTS: [(&str, &str); 5] = [
     ("1", "bindings 8 nodes 223 steps 84\n"),
     ("2", "bindings 11 nodes 308 steps 138\n"),
     ("30", "bindings 95 nodes 2688 steps 1650\n"),
     ("00000030", "bindings 95 nodes 2688 steps 1650\n"),
-    ("30", "bindings 95 nodes 2688 steps 1650\n"),
-    ("300", "bindings 905 nodes 25638 steps 16230\n"),
     ("300", "bindings 905 nodes 25638 steps 16230\n"),
 ];
 

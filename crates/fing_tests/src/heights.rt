@@ -72,7 +72,7 @@ const TOO_HIGH: [(Rows, u32); 5] = [
     (OPERATORS, 31),
     (HIDDEN, 14),
     (HIDDEN, 21),
-    (RECORDS, 40),
+    (RECORDS, 30),
 ];
 
 fn is_want_of_memory(alloc: Global, command: &str, rows: Rows, lines: u32) -> Result<bool, Fail> {
@@ -95,7 +95,7 @@ fn what_is_too_high_is_want_of_memory(rt: HostRuntime) -> Result<(), Fail> {
 
 #[test]
 fn what_is_lower_is_accepted(rt: HostRuntime) -> Result<(), Fail> {
-    for (rows, lines) in &[(OPERATORS, 12), (HIDDEN, 11)] {
+    for (rows, lines) in &[(OPERATORS, 12), (HIDDEN, 11), (RECORDS, 14)] {
         let found = answer(rt.alloc(), "check", *rows, *lines)?;
         assert_eq!(rt; found.status, Status::Ok, "at {lines}");
     }

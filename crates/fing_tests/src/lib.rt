@@ -1,6 +1,6 @@
 // Tests that cross crates: the whole program on known sources and sinks, and calls that can want memory with ample
-// memory. Stands on all crates. Proved: that no test reads out of bounds or overflows. What they assert is tested
-// alone.
+// memory. Stands on fing_top and on the crates whose public calls it makes.
+// Proved: that no test reads out of bounds or overflows. What they assert is tested alone.
 #![tactic(auto)]
 
 #[cfg(test)]

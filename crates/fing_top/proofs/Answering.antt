@@ -1,6 +1,6 @@
 -- What is compiled and what is verified is replied, and a source whose bytes are known is answered by its one reply.
 use Rattle.std.proofs.Common.{◌≡◌, ◌⊎◌, inl, inr, ℕ, ◌+◌, ◌≤◌, List, [], ◌∷◌, ◌++◌, length, Option, Some, None, Ok, Err, Result, arith, refl, sym, ap, subst, ◌∙◌}
-use Rattle.std.specs.Prelude.{MatchResult, IfSome, codes}
+use Rattle.std.specs.Prelude.{MatchOption, MatchResult, codes}
 use Rattle.std.specs.Io.KnownBytes.{Consumes, IsAtEnd}
 use Rattle.std.proofs.lemmas.List.{append-nil}
 use Rattle.fing_text.specs.Told.{Told}
@@ -32,7 +32,7 @@ use Rattle.fing_words.proofs.OneLine.{one_line}
 use Rattle.fing_refusals.specs.Refusal.{Refusal as PlainRefusal}
 use Rattle.refusal_lines.specs.InScope.{HasLine as RefusalHasLine}
 use Rattle.refusal_lines.specs.Line.{line_of as program_line}
-use Rattle.refusal_lines.specs.Plain.{plain_refusal}
+use Rattle.refusal_lines.specs.Plain.{Says, plain_refusal, want_of_memory}
 use Rattle.refusal_lines.specs.declared.refusal.Refusal.{Refusal}
 use Rattle.fing_elab.specs.Exactly.{Means, IsRefused as MeansNothing}
 use Rattle.fing_elab.specs.declared.whole.Elaborated.{Elaborated}
@@ -79,12 +79,12 @@ pub parsed_refused : (bytes : List ℕ) (ts : List Token) (r : ParseRefusal) →
 parsed_refused bytes ts (parse.Syntax at) t h l = Refuses.syntax_error t h.0 h.1
 parsed_refused bytes ts parse.Mem t h l = absurd l
 
-line_refuses : (bytes : List ℕ) (program : Program) (o : Option PlainRefusal) → Spells bytes program → IfSome o (MeansNothing program) → RefusalHasLine o → Refuses bytes (program_line o)
-line_refuses bytes program None p h l = absurd l
-line_refuses bytes program (Some r) p h l = Refuses.meaningless p h.refused
+line_refuses : (N : Type 0) (bytes : List ℕ) (program : Program) (o : Option PlainRefusal) → Spells bytes program → MatchOption o N (MeansNothing program) → RefusalHasLine o → Refuses bytes (program_line o)
+line_refuses N bytes program None p h l = absurd l
+line_refuses N bytes program (Some r) p h l = Refuses.meaningless p h.refused
 
-pub program_refused : (bytes : List ℕ) (program : Program) (e : Refusal) → Spells bytes program → IfSome (plain_refusal e) (MeansNothing program) → IsRefused bytes (InProgram e)
-program_refused bytes program e p h l = line_refuses bytes program (plain_refusal e) p h l
+pub program_refused : (bytes : List ℕ) (program : Program) (e : Refusal) → Spells bytes program → Says e (MeansNothing program) → IsRefused bytes (InProgram e)
+program_refused bytes program e p h l = line_refuses (e ≡ want_of_memory) bytes program (plain_refusal e) p h l
 
 pub is_compiled : (bytes : List ℕ) (program : Program) (n : ℕ) (o : Elaborated) (j : Judgment) → Spells bytes program → n ≡ bind_count program → Means program o → (j.term ≡ o.whole) × (j.ty ≡ enc_abs o.sig)
     → IsCompiled bytes (record { bindings = n; effect = o.effect; sig = o.sig; checked = j })

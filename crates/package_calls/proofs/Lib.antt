@@ -2,5 +2,6 @@ pub mod NormedLaws
 pub mod PackSteps
 pub mod RenumberSteps
 pub mod Steps
+pub mod SweepLaws
 pub mod Taken
 pub mod TurnLaws

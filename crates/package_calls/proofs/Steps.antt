@@ -91,7 +91,7 @@ blocks-not o j i s e = sym (ap (λ p. blocks p i s) e)
 
 -- the fields of a structure
 
-first-at : (ps : Places) (depth : ℕ) (xs : SigPairs) (i : ℕ) (x : Name × Sig) → i < length xs → x ≡ get_or xs i x → first_row ps depth (sig_row (drop i xs)) ≡ or_first (first ps depth x.1) (first_row ps depth (sig_row (drop (i + 1) xs)))
+pub first-at : (ps : Places) (depth : ℕ) (xs : SigPairs) (i : ℕ) (x : Name × Sig) → i < length xs → x ≡ get_or xs i x → first_row ps depth (sig_row (drop i xs)) ≡ or_first (first ps depth x.1) (first_row ps depth (sig_row (drop (i + 1) xs)))
 first-at ps depth xs i x lt e = ap (first_row ps depth) (row-at xs i x lt) ∙ ap (λ y. or_first (first ps depth y.1) (first_row ps depth (sig_row (drop (i + 1) xs)))) (sym e)
 
 pub first-here : (ps : Places) (depth : ℕ) (xs : SigPairs) (i : ℕ) (x : Name × Sig) (index : ℕ) (found whole : Option ℕ) → i < length xs → x ≡ get_or xs i x → found ≡ first ps depth x.1 → found ≡ Some index → first_row ps depth (sig_row (drop i xs)) ≡ whole → Some index ≡ whole
@@ -113,7 +113,7 @@ first-end ps depth xs i whole le e = sym (ap (λ l. first_row ps depth (sig_row 
 
 -- what is found is not taken yet
 
-untaken-is : (ps : Places) (o : Option ℕ) (i : ℕ) → if_untaken ps o ≡ Some i → is_untaken ps i ≡ true
+pub untaken-is : (ps : Places) (o : Option ℕ) (i : ℕ) → if_untaken ps o ≡ Some i → is_untaken ps i ≡ true
 untaken-is ps None i e = absurd (cc)
 untaken-is ps (Some j) i e = go (is_untaken ps j) refl
   where

@@ -15,7 +15,11 @@ abbrev pub turn : List Kind → Places → (ℕ → List Kind × Places) → Opt
 turn taken ps after None = (taken, ps)
 turn taken ps after (Some i) = after i
 
--- the kinds in the order of taking, and the new indexes, after so many further turns
+-- the kinds in the order of taking, and the new indexes, after so many further turns, of which each takes what is found
+abbrev pub turns_by : List Kind → (Places → Option ℕ) → (left : ℕ) → List Kind → Places → List Kind × Places
+turns_by ks find zero taken ps = (taken, ps)
+turns_by ks find (suc left) taken ps = turn taken ps (λ i. turns_by ks find left (taken ++ kind_at ks (own ks i) ∷ []) (set ps i (Some left))) (find ps)
+
+-- the same for the first variable on the way through a signature
 abbrev pub turns : List Kind → Sig → (left : ℕ) → List Kind → Places → List Kind × Places
-turns ks s zero taken ps = (taken, ps)
-turns ks s (suc left) taken ps = turn taken ps (λ i. turns ks s left (taken ++ kind_at ks (own ks i) ∷ []) (set ps i (Some left))) (first ps zero s)
+turns ks s = turns_by ks (λ ps. first ps zero s)

@@ -54,7 +54,7 @@ fn first_field(fields: &SigFields, depth: u64, places: &[Option<u64>]) -> Result
 }
 
 // The same for a type.
-fn first_type(ty: &Ty, depth: u64, places: &[Option<u64>]) -> Result<Option<u64>, Mem>
+pub(crate) fn first_type(ty: &Ty, depth: u64, places: &[Option<u64>]) -> Result<Option<u64>, Mem>
     ensures { IfOk result (λ found. found ≡ first_type_of places.now depth ty.now) }
 {
     match rooted(ty, depth)? {
@@ -73,7 +73,7 @@ fn is_untaken(index: u64, places: &[Option<u64>]) -> bool
 // Whether a functor's parameter, below `depth` variables of functors, mentions a variable that is not taken yet. Takes no
 // memory.
 #[tactic(auto, using(crate::proofs::Steps::barred_steps))]
-fn is_barred(param: &Sig, depth: u64, places: &[Option<u64>]) -> bool
+pub(crate) fn is_barred(param: &Sig, depth: u64, places: &[Option<u64>]) -> bool
     ensures { result ≡ barred places.now depth param.now }
 {
     let mut index = depth;
@@ -98,7 +98,7 @@ fn is_blocking(place: &Option<u64>, param: &Sig, index: u64) -> bool
 }
 
 // The number of variables below those of a functor, `depth` being outside.
-fn inside(depth: u64, kinds: &Kinds) -> Result<u64, Mem>
+pub(crate) fn inside(depth: u64, kinds: &Kinds) -> Result<u64, Mem>
     ensures { IfOk result (λ inner. inner ≡ length kinds.now + depth) }
 {
     (kinds.items().len() as u64).checked_add(depth).ok_or(Mem)

@@ -12,6 +12,7 @@ mod packing;
 mod refusal;
 mod renumbering;
 mod renumbering_types;
+mod sweeping;
 
 pub use norms::norm;
 pub use packing::{pack_type, pack_value, unpack_module};

@@ -5,6 +5,7 @@ ghost use Rattle.omega_types.specs.Normaliser.{kind_at};
 ghost use Rattle.package_calls.specs.Turns.{turns, untaken};
 
 use crate::first::first;
+use crate::sweeping::Sweep;
 use omega_kinds::{Kinds, Mem};
 use semantic_sigs::Sig;
 use std::alloc::Global;
@@ -33,7 +34,7 @@ impl Order {
     }
 
     // The variable of an index is taken next, and gets a new index.
-    fn take(&mut self, kinds: &Kinds, index: u64, place: u64) -> Result<(), Mem>
+    pub(crate) fn take(&mut self, kinds: &Kinds, index: u64, place: u64) -> Result<(), Mem>
         requires counted { length self.old.places.items ≡ length kinds.now }
         requires within { index < length kinds.now }
         ensures kinds { OnOk result (self.new.kinds ≡ self.old.kinds ++ kind_at kinds.now (number_of kinds.now index) ∷ []) }
@@ -47,9 +48,24 @@ impl Order {
     }
 }
 
-// The variables of these kinds, taken one after the other: at each turn the first one that is found.
-#[tactic(auto, using(crate::proofs::Steps::turn_steps))]
+// The variables of these kinds, taken one after the other: at each turn the first one that is found. They are found in one
+// walk where no functor bars the way.
 pub(crate) fn order_of(alloc: Global, kinds: &Kinds, body: &Sig) -> Result<Order, Mem>
+    ensures { IfOk result (λ o. (o.kinds, o.places.items) ≡ turns kinds.now body.now (length kinds.now) [] (untaken kinds.now)) }
+{
+    let mut sweep = Sweep {
+        order: Order::new(alloc, kinds)?,
+        left: kinds.items().len() as u64,
+    };
+    if sweep.through(kinds, body, 0)? {
+        return Ok(sweep.order);
+    }
+    order_by_turns(alloc, kinds, body)
+}
+
+// The same, each variable being sought from the beginning.
+#[tactic(auto, using(crate::proofs::Steps::turn_steps))]
+fn order_by_turns(alloc: Global, kinds: &Kinds, body: &Sig) -> Result<Order, Mem>
     ensures { IfOk result (λ o. (o.kinds, o.places.items) ≡ turns kinds.now body.now (length kinds.now) [] (untaken kinds.now)) }
 {
     let mut order = Order::new(alloc, kinds)?;

@@ -1,5 +1,5 @@
 -- What the code's refusals are seen as: plain refusals, and nothing for want of memory.
-use Rattle.std.specs.Prelude.{ℕ, Option, Some, None}
+use Rattle.std.specs.Prelude.{◌≡◌, ℕ, Option, Some, None, MatchOption}
 use Rattle.omega_kinds.specs.View.{kind_tree}
 use Rattle.signatures.specs.Matching.MatchRefusal.{Why}
 use Rattle.semantic_sigs.specs.declared.made.Why.{Why as CodeWhy}
@@ -49,3 +49,7 @@ plain_refusal r = refused (place r.at) r.types (plain_reason r.why)
 -- what the code answers for want of memory
 abbrev pub want_of_memory : CodeRefusal
 want_of_memory = record { at = record { from = 0; to = 0 }; types = 0; why = reason.Mem }
+
+-- a refusal of the code is a plain one of which this holds, or what is answered for want of memory
+abbrev pub Says : CodeRefusal → (Refusal → Type 0) → Type 0
+Says e P = MatchOption (plain_refusal e) (e ≡ want_of_memory) P

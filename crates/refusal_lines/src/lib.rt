@@ -1,5 +1,6 @@
-// The refusals of elaboration in code, and the line of each, written to a sink with no memory.
-// Stands on fing_refusals, whose plain reasons the code's are seen as, and on semantic_sigs, fing_syntax and omega_write.
+// The refusals of elaboration in code, and the line of each, written to a sink; no memory is taken.
+// Stands on fing_refusals, whose plain reasons the code's are seen as, and on semantic_sigs, fing_syntax,
+// omega_write and itoa (numbers in decimal).
 // Proved: `write_line` writes exactly the line, and fails only where the sink counted a fault, a front of the line
 // being written.
 #![tactic(auto)]

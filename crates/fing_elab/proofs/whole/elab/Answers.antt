@@ -1,9 +1,9 @@
-use Rattle.std.proofs.Common.{IfSome, ap, ◌∙◌}
+use Rattle.std.proofs.Common.{ap, ◌∙◌}
 use Rattle.semantic_sigs.specs.Made.{module_of}
 use Rattle.fing_syntax.specs.View.{binds as binds_of}
 use Rattle.elab_rules.specs.Judgments.Meaning.{BindsMean}
 use Rattle.elab_rules.specs.Refusals.Task.{binds}
-use Rattle.refusal_lines.specs.Plain.{plain_refusal}
+use Rattle.refusal_lines.specs.Plain.{Says}
 use Rattle.elaboration.specs.Answered.{RefusedAs}
 use Rattle.elaboration.proofs.Given.{exit}
 use Rattle.fing_elab.specs.Exactly.{IsRefused}
@@ -14,7 +14,7 @@ pub returns-in_err-found-clause-refused : goal.returns-in_err-found-clause-refus
 returns-in_err-found-clause-refused c =
     let e = c.in_err-found.field-0.0 in
     let same = ap binds_of c.deref.ensures.value ∙ c.program.view_is in
-    exit (λ e. IfSome (plain_refusal e) (IsRefused c.args.program.now)) c.from_residual.result e c.from_residual.ensures.1
+    exit (λ e. Says e (IsRefused c.args.program.now)) c.from_residual.result e c.from_residual.ensures.1
     (refused c.args.program.now e (entered (λ g ns bs. RefusedAs g (binds ns bs) e) c.new-env.ensures c.new.ensures same c.in_err-found.ensures.refused))
 
 pub whole_of-requires : goal.whole_of-requires
