@@ -4,8 +4,8 @@
 // Proved: each call gives exactly the term of its rule, which has its type where the coercions inside have theirs.
 #![tactic(auto)]
 
-pub mod packing;
-pub mod parts;
+mod packing;
+mod parts;
 
 pub use packing::{abs_part, match_part};
 pub use parts::{Functors, fields_part, functor_part, meta_part, same_part};

@@ -1,6 +1,5 @@
 mod Conclusions
 mod Entries
-mod FieldSteps
 mod Forms
 mod Inserting
 mod RecordSteps

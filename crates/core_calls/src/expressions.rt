@@ -13,7 +13,7 @@ ghost use Rattle.core_calls.specs.Plain.{plain_literal, plain_why};
 
 use crate::premises::{expect_same, expect_star, made, part};
 use crate::refusal::CoreRefusal;
-use omega_kinds::{Kind, Label, Mem, Name, same_kind, same_label};
+use omega_kinds::{Kind, Label, Mem, Name, same_kind};
 use omega_terms::{Op, Term, TermNode};
 use omega_types::{Ty, TyFields, TyNode};
 use semantic_sigs::{Kinded, Typed};
@@ -115,12 +115,10 @@ pub fn inst_exp(alloc: Global, function: Typed, arg: &Kinded) -> Result<Typed, C
 fn field_type(fields: &TyFields, label: &Label) -> Result<Option<NormalTy>, Mem>
     ensures { IfOk result (λ o. MatchOption o ((t : TyTree) → HasPart (row fields.now) label.now t → ⊥) (λ t. HasPart (row fields.now) label.now t)) }
 {
-    for field in fields.items() {
-        if same_label(&field.0, label) {
-            return Ok(Some(part(&field.1)?));
-        }
+    match fields.find(label) {
+        Some(ty) => Ok(Some(part(ty)?)),
+        None => Ok(None),
     }
-    Ok(None)
 }
 
 /// `E#X`. `NotRecord` comes exactly where E has a type, which is kept, that is no record, and `NoField` where the record

@@ -1,5 +1,6 @@
 -- What is given along the way: good environments, and answers where the environment is as before.
-use Rattle.std.proofs.Common.{◌≡◌, ◌≢◌, inl, inr, ◌∷◌, Result, Ok, Err, IfErr, IfOk, IsErrAnd, OnOk, sym, subst}
+use Rattle.std.proofs.Common.{◌≡◌, ◌≢◌, inl, inr, ◌∷◌, Option, Some, None, Result, Ok, Err, IfErr, IfOk, IfSome, IsErrAnd, OnOk, sym, subst}
+use Rattle.std.specs.Prelude.{MatchOption}
 use Rattle.std.proofs.lemmas.Result.{IfErr-weaker, IfOk-weaker, err_from_is_err_and}
 use Rattle.omega_kinds.specs.Kind.{Kind}
 use Rattle.omega_kinds.specs.Name.{Name}
@@ -52,3 +53,11 @@ no_type {e = e} h = record { stands = says-map e (λ r q. inl q) h.stands }
 
 pub no_star : {g h : Env} {at : Span} {a : TyEx} {t : Ty} {k : Kind} {e : CodeRefusal} → h ≡ g → at ≡ ty_span a → TyMeans g a t k → ByTest h at (k ≢ Kind.Star) (KindDiffer k Kind.Star) e → NoValueType g a e
 no_star {g} {h} {at} {a} {t} {k} {e} s p m b = record { stands = says-map e (λ r q. inr (t, k, m, (q.0, rw (← s, ← p) q.1))) b.stands }
+
+-- what holds of the value that there may be
+pub found-map : {A : Type 0} (N : Type 0) {P Q : A → Type 0} (o : Option A) → MatchOption o N P → ((a : A) → P a → Q a) → IfSome o Q
+found-map N None h f = tt
+found-map N (Some a) h f = f a h
+
+pub found-is : {A : Type 0} (P : A → Type 0) (o : Option A) (a : A) → o ≡ Some a → IfSome o P → P a
+found-is P o a e h = subst (λ p. IfSome p P) e h

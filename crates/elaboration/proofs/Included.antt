@@ -13,7 +13,8 @@ use Rattle.omega_terms.specs.Term.{Term, TermRow}
 use Rattle.signatures.specs.Env.{Env, kinds, with_module, named_fields}
 use Rattle.signatures.specs.Signatures.Sig.{Module, made, Sig, Abs, SigRow}
 use Rattle.signatures.specs.Signatures.FieldOrder.{with_names}
-use Rattle.sig_laws.specs.Good.{OkSig, OkRow, OkEnv, OkModule, Names}
+use Rattle.sig_laws.specs.Good.{OkSig, OkRow, OkEnv, OkModule, KindedModule, Names}
+use Rattle.sig_laws.proofs.Formed.WellFormedShape.{kinded}
 use Rattle.sig_laws.proofs.Formed.Conditions.{abs-body, structure-row}
 use Rattle.sig_laws.proofs.Algebra.FormLaws.{kinds-type_vars, module-under}
 use Rattle.sig_laws.proofs.Encoded.EnvTyping.{kinds-named_fields}
@@ -48,8 +49,9 @@ use Rattle.elaboration.proofs.Slices.{empty}
 -- a functor's body under its parameter
 pub body-module : (g : Env) (a : SigEx) (b : Mod) (x : Name) (y : Abs) (M : Module) → OkEnv g → SigMeans g a y
     → ModMeans (with_module g (kinds_of y) x (body_of y)) b M
-    → OkModule (extend (kinds g) (kinds_of y)) M
-body-module g a b x (Abs.Ex ks s) M h p q = module-under g ks M (mod_ok (with_module g ks x s) b M (param-env g a (Abs.Ex ks s) x h p) q)
+    → KindedModule (extend (kinds g) (kinds_of y)) M
+body-module g a b x (Abs.Ex ks s) M h p q =
+    kinded (extend (kinds g) ks) M (module-under g ks M (mod_ok (with_module g ks x s) b M (param-env g a (Abs.Ex ks s) x h p) q))
 
 -- what a binding is
 
@@ -135,12 +137,12 @@ include-means {g} {m = m} {bs = bs} {before = before} {f = f} {ts = ts} {d = d} 
 pub include-rest : (g : Env) (m : Mod) (bs : Binds) (f : Effect) (y : Abs) (ts : List Ty) (d : Term) (fs : SigRow) (before : List Name) (M : Module)
     → OkEnv g → Names g before → ModMeans g m (made f y ts d) → body_of y ≡ Sig.Str fs
     → BindsMean (included g y fs) (with_names fs before) bs M
-    → OkModule (extend (kinds g) (kinds_of y)) M
+    → KindedModule (extend (kinds g) (kinds_of y)) M
 include-rest g m bs f (Abs.Ex ks s) ts d fs before M h n p e q =
     let good = included-env g m f (Abs.Ex ks s) ts d fs h p e in
     let inner = with_module g ks include_name s in
     let w = binds_ok (included g (Abs.Ex ks s) fs) (with_names fs before) bs M good (rise-with_names fs before n.1) q in
-    module-under g ks M (subst (λ ctx. OkModule ctx M) (kinds-named_fields inner fs) w)
+    kinded (extend (kinds g) ks) M (module-under g ks M (subst (λ ctx. OkModule ctx M) (kinds-named_fields inner fs) w))
 
 -- what was entered is left again
 

@@ -12,8 +12,9 @@ use Rattle.signatures.specs.Lifting.{Lift}
 use Rattle.signatures.specs.Signatures.Sig.{Module, made, Sig, Abs, SigRow}
 use Rattle.signatures.specs.Signatures.RecordOrder.{AreNew}
 use Rattle.signatures.specs.Signatures.FieldOrder.{with_name, with_names}
-use Rattle.sig_laws.specs.Good.{OkEnv, OkModule, Names}
+use Rattle.sig_laws.specs.Good.{OkEnv, KindedModule, Names}
 use Rattle.sig_laws.proofs.Formed.Conditions.{explicit-right, abs-body}
+use Rattle.sig_laws.proofs.Formed.WellFormedShape.{kinded}
 use Rattle.sig_laws.proofs.Algebra.FormLaws.{module-under}
 use Rattle.premise_laws.proofs.Environments.{good-module, bound-bind}
 use Rattle.semantic_sigs.specs.View.{body_of, kinds_of}
@@ -25,7 +26,7 @@ use Rattle.elab_rules.specs.Judgments.Meaning.{TyMeans, SigMeans, DeclMeans, Mod
 use Rattle.elab_rules.specs.Refusals.Refusal.{of_sig}
 use Rattle.elab_rules.specs.Refusals.Task.{a_sig, a_mod, decls, binds}
 use Rattle.elab_laws.proofs.FieldLaws.{rise-with_name}
-use Rattle.elab_laws.proofs.Kept.{sig_ok, bind_ok, binds_ok}
+use Rattle.elab_laws.proofs.Kept.{sig_ok, mod_ok, bind_ok, binds_ok}
 use Rattle.refusal_lines.specs.declared.refusal.Refusal.{Refusal as CodeRefusal}
 use Rattle.elaboration.specs.Answered.{RefusedAs, ByRule, ByWhere}
 use Rattle.elaboration.specs.Fields.{fields_in}
@@ -138,6 +139,14 @@ binds-mean (Abs.Ex ks s) p q r = BindsMean.next_bind p q r
 pub rest-module : (g : Env) (b : Bind) (bs : Binds) (x : Name) (f : Effect) (y : Abs) (ts : List Ty) (d : Term) (before : List Name) (M : Module)
     → OkEnv g → Names g before → BindMeans g b x (made f y ts d)
     → BindsMean (with_module g (kinds_of y) x (body_of y)) (with_name x before) bs M
-    → OkModule (extend (kinds g) (kinds_of y)) M
+    → KindedModule (extend (kinds g) (kinds_of y)) M
 rest-module g b bs x f (Abs.Ex ks s) ts d before M h n p q =
-    module-under g ks M (binds_ok (with_module g ks x s) (with_name x before) bs M (bind-env g b x f (Abs.Ex ks s) ts d h p) (rise-with_name x before n.1) q)
+    kinded (extend (kinds g) ks) M (module-under g ks M (binds_ok (with_module g ks x s) (with_name x before) bs M (bind-env g b x f (Abs.Ex ks s) ts d h p) (rise-with_name x before n.1) q))
+
+-- what is derived in a good environment has types of their kinds
+
+pub mod-kinded : (g : Env) (m : Mod) (M : Module) → OkEnv g → ModMeans g m M → KindedModule (kinds g) M
+mod-kinded g m M h p = kinded (kinds g) M (mod_ok g m M h p)
+
+pub bind-kinded : (g : Env) (b : Bind) (x : Name) (M : Module) → OkEnv g → BindMeans g b x M → KindedModule (kinds g) M
+bind-kinded g b x M h p = kinded (kinds g) M (bind_ok g b x M h p)

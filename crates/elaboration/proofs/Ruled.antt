@@ -11,12 +11,13 @@ use Rattle.signatures.specs.Env.{Env, find}
 use Rattle.signatures.specs.Explicit.SigPath.{SigPath}
 use Rattle.signatures.specs.Matching.MatchRefusal.{MatchRefusal}
 use Rattle.signatures.specs.Matching.Subtyping.{Match}
-use Rattle.signatures.specs.Signatures.Sig.{made, Sig, Abs}
+use Rattle.signatures.specs.Signatures.Sig.{made, Sig, SigRow, Abs}
 use Rattle.semantic_sigs.specs.View.{body_of, kinds_of}
 use Rattle.semantic_sigs.specs.declared.made.Why.{Why as CodeWhy}
 use Rattle.semantic_sigs.specs.declared.made.Why.TheVariants as clash
 use Rattle.sig_match.specs.Refusals.{plain_why}
-use Rattle.module_rules.specs.ModRules.{NamedGives, PartsGive}
+use Rattle.module_rules.specs.ModRules.{FunctorRefuses, IncludeRefuses, NamedGives, PartsGive}
+use Rattle.module_rules.specs.ModWhy.{ModWhy}
 use Rattle.fing_refusals.specs.Refusal.{ElabWhy, Refuse}
 use Rattle.fing_syntax.specs.Leaves.{place}
 use Rattle.fing_text.specs.declared.span.Span.{Span as SpanAt}
@@ -39,6 +40,14 @@ param-kinds PartsGive.parts e = cc
 pub apply-forms : {ctx : List Kind} {s left : Sig} {f : Effect} {param result : Abs} {ts : List Ty} {c : Term} → PartsGive s f param result → Match ctx left param ts c
     → (h : Effect) (ks : List Kind) (t : Sig) (y : Abs) → s ≡ Sig.Fun h ks t y → NormalForms ctx ts ks ts
 apply-forms {ctx} {ts = ts} p m h ks t y e = subst (λ ks. NormalForms ctx ts ks ts) (param-kinds p e) (match-forms m)
+
+pub parts-functor : {s : Sig} {f : Effect} {param result : Abs} → PartsGive s f param result → (why : ModWhy) → FunctorRefuses s why → ⊥
+parts-functor PartsGive.parts why (FunctorRefuses.no_functor h) = h _ _ _ _ refl
+
+-- what is included
+
+pub is-structure : (f : Effect) (x : Abs) (ts : List Ty) (e : Term) (fs : SigRow) → body_of x ≡ Sig.Str fs → (why : ModWhy) → IncludeRefuses (made f x ts e) why → ⊥
+is-structure f (Abs.Ex ks s) ts e fs is why (IncludeRefuses.no_structure h) = h fs is
 
 -- a clash
 

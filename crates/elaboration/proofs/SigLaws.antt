@@ -11,8 +11,9 @@ use Rattle.signatures.specs.Signatures.FieldOrder.{with_names}
 use Rattle.signatures.specs.Signatures.RecordOrder.{AreNew}
 use Rattle.signatures.specs.Signatures.Sig.{Sig, Abs, SigRow, Module}
 use Rattle.signatures.specs.Signatures.SigSubst.{raise_sig_row}
-use Rattle.sig_laws.specs.Good.{OkSig, OkRow, OkRight, OkEnv, OkModule}
+use Rattle.sig_laws.specs.Good.{OkSig, OkRow, OkRight, OkEnv, KindedModule}
 use Rattle.sig_laws.proofs.Formed.Conditions.{explicit-right, str-fields}
+use Rattle.sig_laws.proofs.Formed.WellFormedShape.{kinded}
 use Rattle.sig_laws.proofs.Algebra.FormLaws.{kinds-type_vars}
 use Rattle.premise_laws.proofs.Environments.{good-type_fields}
 use Rattle.semantic_sigs.specs.Fields.{SigPairs, sig_row}
@@ -106,8 +107,8 @@ right-under g b x y l h m = subst (λ ctx. OkRight ctx y) (kinds-type_vars g (ki
 pub sig-in : {g h : Env} {a : SigEx} {x : Abs} → h ≡ g → OkEnv g → SigMeans g a x → OkRight (kinds h) x
 sig-in {g} {h} {a} {x} s o p = subst (λ e. OkRight (kinds e) x) (sym s) (sig_ok g a x o p)
 
-pub module-in : {g h : Env} {m : Mod} {M : Module} → h ≡ g → OkEnv g → ModMeans g m M → OkModule (kinds h) M
-module-in {g} {h} {m} {M} s o p = subst (λ e. OkModule (kinds e) M) (sym s) (mod_ok g m M o p)
+pub module-in : {g h : Env} {m : Mod} {M : Module} → h ≡ g → OkEnv g → ModMeans g m M → KindedModule (kinds h) M
+module-in {g} {h} {m} {M} s o p = subst (λ e. KindedModule (kinds e) M) (sym s) (kinded (kinds g) M (mod_ok g m M o p))
 
 -- the parameter of functors
 pub param-in : {g h : Env} {a : SigEx} (x : Abs) (l : Name) → h ≡ g → OkEnv g → SigMeans g a x → OkEnv (with_module h (kinds_of x) l (body_of x))

@@ -15,6 +15,7 @@ mod modules;
 mod naming;
 mod package_rules;
 mod path_rules;
+mod paths;
 mod places;
 mod refusing;
 mod scopes;

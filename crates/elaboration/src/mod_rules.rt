@@ -9,11 +9,13 @@ ghost use Rattle.signatures.specs.Env.{find, kinds as kinds_in};
 ghost use Rattle.signatures.specs.Matching.Subtyping.{Match};
 ghost use Rattle.signatures.specs.Signatures.RecordOrder.{NamesRise};
 ghost use Rattle.signatures.specs.Signatures.Sig.{Abs as AbsTree, Sig as SigTree, SigRow, Str, made};
-ghost use Rattle.sig_laws.specs.Good.{Bound, OkModule, OkRight, OkSig};
+ghost use Rattle.sig_laws.specs.Good.{Bound, KindedModule, OkRight, OkSig};
 ghost use Rattle.semantic_sigs.specs.Fields.{sig_row};
 ghost use Rattle.semantic_sigs.specs.Made.{module_of};
+ghost use Rattle.semantic_sigs.specs.Standing.{standing_module};
 ghost use Rattle.semantic_sigs.specs.View.{body_of, kinds_of};
-ghost use Rattle.module_rules.specs.ModRules.{ApplyGives, FunctorRefuses, IncludeGives, NamedGives, NamedRefuses, PartsGive, ProjectRefuses};
+ghost use Rattle.module_rules.specs.ModRules.{ApplyGives, FunctorRefuses, IncludeGives, IncludeRefuses, NamedGives, NamedRefuses, PartsGive, ProjectRefuses};
+ghost use Rattle.module_rules.specs.ModWhy.{ModWhy};
 ghost use Rattle.module_rules.specs.Projection.{Projected};
 ghost use Rattle.module_rules.specs.Sequence.{Collected};
 ghost use Rattle.elab_rules.specs.Refusals.Refusal.{of_mod};
@@ -26,11 +28,14 @@ use crate::sets::NameSet;
 use fing_syntax::SpanName;
 use fing_text::Span;
 use functor_calls::pure_functor;
-use module_calls::{apply, end_struct, functor_parts, gen_functor, include_bind, named, project};
+use module_calls::{
+    ModRefusal, apply, end_struct, functor_parts, gen_functor, include_bind, named, project,
+    standing_part,
+};
 use omega_kinds::{Effect, Mem, Name};
 use omega_terms::Term;
 use refusal_lines::Refusal;
-use semantic_sigs::{Abs, Env, Module, Sig, SigFields, SigNode};
+use semantic_sigs::{Abs, Env, Module, Sig, SigFields, SigNode, Standing};
 use sig_match::{Matched, match_sig};
 use std::alloc::Global;
 
@@ -51,10 +56,24 @@ pub(crate) fn project_rule(
     whole: Module,
     name: &Name,
 ) -> Result<Module, Refusal>
-    ensures given { IfOk result (λ m. (ctx : List KindTree) → OkModule ctx (module_of whole) → Projected ctx (module_of whole) name.now (module_of m)) }
+    ensures given { IfOk result (λ m. (ctx : List KindTree) → KindedModule ctx (module_of whole) → Projected ctx (module_of whole) name.now (module_of m)) }
     ensures refused { IfErr result (λ e. ByRule of_mod env.now (place at) (ProjectRefuses (module_of whole) name.now) e) }
 {
     project(alloc, whole, name).map_err(|why| mod_refusal(env, at, why))
+}
+
+/// The same at the place of M.
+pub(crate) fn part_rule<'a>(
+    alloc: Global,
+    env: &Env,
+    at: Span,
+    whole: &Standing<'a>,
+    name: &Name,
+) -> Result<Standing<'a>, Refusal>
+    ensures given { IfOk result (λ m. (ctx : List KindTree) → Projected ctx (standing_module whole.now) name.now (standing_module m)) }
+    ensures refused { IfErr result (λ e. ByRule of_mod env.now (place at) (ProjectRefuses (standing_module whole.now) name.now) e) }
+{
+    standing_part(alloc, whole, name).map_err(|why| mod_refusal(env, at, why))
 }
 
 /// A functor over a parameter, with a body under it: applicative where it is not generative and its body is pure. `Err` is
@@ -65,7 +84,7 @@ pub(crate) fn functor_rule(
     param: &Abs,
     body: Module,
 ) -> Result<Module, Mem>
-    ensures { IfOk result (λ m. (ctx : List KindTree) → OkRight ctx param.now → OkModule (extend ctx (kinds_of param.now)) (module_of body) → FunctorGives ctx generative param.now (module_of body) (module_of m)) }
+    ensures { IfOk result (λ m. (ctx : List KindTree) → OkRight ctx param.now → KindedModule (extend ctx (kinds_of param.now)) (module_of body) → FunctorGives ctx generative param.now (module_of body) (module_of m)) }
 {
     if generative {
         return gen_functor(alloc, param, body);
@@ -113,11 +132,16 @@ pub(crate) fn apply_rule(
     arg: Term,
     matched: Matched,
 ) -> Result<Module, Mem>
+    requires { (why : ModWhy) → FunctorRefuses (body_of functor.now.sig) why → ⊥ }
     ensures { IfOk result (λ m. (ctx : List KindTree) (f : EffectTree) (param target : AbsTree) (left : SigTree)
         → OkSig ctx (body_of functor.now.sig) → PartsGive (body_of functor.now.sig) f param target → Match ctx left param matched.types matched.coercion
         → ApplyGives ctx (body_of functor.now.sig) functor.now.term matched.types matched.coercion arg (module_of m)) }
 {
-    apply(alloc, functor, arg, matched.types, matched.coercion).map_err(|_| Mem)
+    match apply(alloc, functor, arg, matched.types, matched.coercion) {
+        Ok(made) => Ok(made),
+        Err(ModRefusal::Mem) => Err(Mem),
+        Err(_) => unreachable!(),
+    }
 }
 
 /// The fields of a structure.
@@ -132,9 +156,14 @@ pub(crate) fn fields_of(sig: &Sig) -> Option<&SigFields>
 
 /// `include M` and the rest of a structure under it, where M is a structure. `Err` is want of memory.
 pub(crate) fn include_rule(alloc: Global, first: Module, rest: Module) -> Result<Module, Mem>
-    ensures { IfOk result (λ m. (ctx : List KindTree) → OkModule ctx (module_of first) → OkModule (extend ctx (kinds_of first.sig)) (module_of rest) → IncludeGives ctx (module_of first) (module_of rest) (module_of m)) }
+    requires { (why : ModWhy) → IncludeRefuses (module_of first) why → ⊥ }
+    ensures { IfOk result (λ m. (ctx : List KindTree) → KindedModule ctx (module_of first) → KindedModule (extend ctx (kinds_of first.sig)) (module_of rest) → IncludeGives ctx (module_of first) (module_of rest) (module_of m)) }
 {
-    include_bind(alloc, first, rest).map_err(|_| Mem)
+    match include_bind(alloc, first, rest) {
+        Ok(made) => Ok(made),
+        Err(ModRefusal::Mem) => Err(Mem),
+        Err(_) => unreachable!(),
+    }
 }
 
 /// The end of a structure: what the environment has for each of these names, all of which are bound. `Err` is want of

@@ -17,6 +17,7 @@ use crate::mod_rules::{
     apply_rule, functor_rule, match_rule, named_rule, parts_rule, project_rule,
 };
 use crate::package_rules::unpack_rule;
+use crate::paths::path_part;
 use crate::scopes::{leave, push_module};
 use crate::sets::NameSet;
 use crate::sigs::sig;
@@ -89,6 +90,9 @@ fn mod_project(
     ensures refused { IfErr result (λ e. (at : Place) → RefusedAs env.old (a_mod (ModAt at (ModProject whole.now (spelled name.now)))) e) }
     ensures same { OnOk result (env.new ≡ env.old) }
 {
+    if let Some(part) = path_part(alloc, env, whole, name)? {
+        return Ok(part);
+    }
     let found = module(alloc, env, whole)?;
     project_rule(alloc, env, name.span, found, &name.name)
 }

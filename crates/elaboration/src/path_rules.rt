@@ -2,7 +2,7 @@
 ghost use Rattle.std.specs.Prelude.{IfErr, IfOk};
 ghost use Rattle.omega_kinds.specs.View.{kind_tree};
 ghost use Rattle.signatures.specs.Env.{kinds as kinds_in};
-ghost use Rattle.sig_laws.specs.Good.{OkModule};
+ghost use Rattle.sig_laws.specs.Good.{KindedModule};
 ghost use Rattle.semantic_sigs.specs.Made.{module_of};
 ghost use Rattle.module_rules.specs.ModRules.{SigPathRefuses, TypePathRefuses, ValuePathRefuses};
 ghost use Rattle.module_rules.specs.PathUse.{SigOfPath, TypeOfPath, ValueOfPath};
@@ -17,42 +17,42 @@ use refusal_lines::Refusal;
 use semantic_sigs::{Abs, Env, Kinded, Module, Typed};
 use std::alloc::Global;
 
-/// A path as a type; the module is good in the environment.
+/// A path as a type; the types of the module are normal and have their kinds in the environment.
 pub(crate) fn type_path_rule(
     alloc: Global,
     env: &Env,
     at: Span,
     whole: Module,
 ) -> Result<Kinded, Refusal>
-    requires { OkModule (kinds_in env.now) (module_of whole) }
+    requires { KindedModule (kinds_in env.now) (module_of whole) }
     ensures given { IfOk result (λ o. TypeOfPath (kinds_in env.now) (module_of whole) o.ty (kind_tree o.kind)) }
     ensures refused { IfErr result (λ e. ByRule of_mod env.now (place at) (TypePathRefuses (kinds_in env.now) (module_of whole)) e) }
 {
     path_type(alloc, whole).map_err(|why| mod_refusal(env, at, why))
 }
 
-/// A path as a value; the module is good in the environment.
+/// A path as a value; the types of the module are normal and have their kinds in the environment.
 pub(crate) fn value_path_rule(
     alloc: Global,
     env: &Env,
     at: Span,
     whole: Module,
 ) -> Result<Typed, Refusal>
-    requires { OkModule (kinds_in env.now) (module_of whole) }
+    requires { KindedModule (kinds_in env.now) (module_of whole) }
     ensures given { IfOk result (λ o. ValueOfPath (kinds_in env.now) (module_of whole) o.ty o.term) }
     ensures refused { IfErr result (λ e. ByRule of_mod env.now (place at) (ValuePathRefuses (kinds_in env.now) (module_of whole)) e) }
 {
     path_value(alloc, whole).map_err(|why| mod_refusal(env, at, why))
 }
 
-/// A path as a signature; the module is good in the environment.
+/// A path as a signature; the types of the module are normal and have their kinds in the environment.
 pub(crate) fn sig_path_rule(
     alloc: Global,
     env: &Env,
     at: Span,
     whole: Module,
 ) -> Result<Abs, Refusal>
-    requires { OkModule (kinds_in env.now) (module_of whole) }
+    requires { KindedModule (kinds_in env.now) (module_of whole) }
     ensures given { IfOk result (λ x. SigOfPath (kinds_in env.now) (module_of whole) x) }
     ensures refused { IfErr result (λ e. ByRule of_mod env.now (place at) (SigPathRefuses (kinds_in env.now) (module_of whole)) e) }
 {

@@ -8,7 +8,8 @@ use Rattle.signatures.specs.Packing.{Packed}
 use Rattle.signatures.specs.Signatures.Sig.{Module}
 use Rattle.signatures.specs.Signatures.Encoding.{enc_abs}
 use Rattle.signatures.specs.Verdict.{holds, refuses}
-use Rattle.sig_laws.specs.Good.{OkModule}
+use Rattle.sig_laws.specs.Good.{KindedModule}
+use Rattle.sig_laws.proofs.Formed.WellFormedShape.{kinded}
 use Rattle.fing_syntax.specs.Phrase.{Binds}
 use Rattle.fing_refusals.specs.Refusal.{Refusal}
 use Rattle.elab_rules.specs.Judgments.Meaning.{BindsMean}
@@ -30,8 +31,8 @@ pub entered : (P : Env → List Name → Binds → Type 0) {g : Env} {ns : List 
 entered P g n b h = rw (g, n, b) at h
 
 -- the module of a program is good
-pub good : (bs : Binds) (m : Module) → BindsMean [] [] bs m → OkModule [] m
-good bs m p = binds_ok [] [] bs m tt tt p
+pub good : (bs : Binds) (m : Module) → BindsMean [] [] bs m → KindedModule [] m
+good bs m p = kinded [] m (binds_ok [] [] bs m tt tt p)
 
 pub meaning : (bs : Binds) (o : Elaborated) → BindsMean [] [] bs (module_in o) → Packed [] (module_in o) o.whole → Means bs o
 meaning bs o p q = go (each-program bs)

@@ -3,7 +3,7 @@ ghost use Rattle.std.specs.Prelude.{◌≡◌, [], IfErr, IfOk};
 ghost use Rattle.omega_terms.specs.Typing.{HasType};
 ghost use Rattle.signatures.specs.Packing.{Packed};
 ghost use Rattle.signatures.specs.Signatures.Encoding.{enc_abs};
-ghost use Rattle.sig_laws.specs.Good.{OkModule};
+ghost use Rattle.sig_laws.specs.Good.{KindedModule};
 ghost use Rattle.semantic_sigs.specs.Made.{module_of};
 ghost use Rattle.refusal_lines.specs.Plain.{Says};
 ghost use Rattle.fing_elab.specs.Exactly.{Means, IsRefused};
@@ -30,7 +30,7 @@ pub struct Elaborated {
 
 // The term of a module with its hidden types packed into it; the module is kept.
 fn whole_of(alloc: Global, whole: &Module) -> Result<Term, Mem>
-    requires { OkModule [] (module_of whole.now) }
+    requires { KindedModule [] (module_of whole.now) }
     ensures { IfOk result (λ e. Packed [] (module_of whole.now) e) }
 {
     let sig = whole.sig.share()?;

@@ -3,7 +3,7 @@
 // Proved: `source_of` gives exactly the text of the definition.
 #![tactic(auto)]
 
-pub mod source;
+mod source;
 #[cfg(test)]
 mod tests;
 

@@ -5,9 +5,9 @@
 // and that any phrase can be let go.
 #![tactic(auto)]
 
-pub mod leaf;
-pub mod program;
-pub mod tree;
+mod leaf;
+mod program;
+mod tree;
 
 pub use leaf::{Op, SpanName};
 pub use program::Program;

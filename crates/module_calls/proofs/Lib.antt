@@ -7,3 +7,4 @@ pub mod Lets
 pub mod Ended
 pub mod PastOpens
 pub mod Options
+pub mod StandingParts

@@ -1,5 +1,5 @@
 -- What the calls make is what the rules give.
-use Rattle.std.specs.Prelude.{ℕ, zero, ◌<◌, ◌++◌, List, [], ◌∷◌, ◌≡◌, ◌==◌, true, length, map, Option, Some, None}
+use Rattle.std.specs.Prelude.{ℕ, zero, suc, ◌<◌, ◌++◌, List, [], ◌∷◌, ◌≡◌, ◌==◌, true, length, map, Option, Some, None}
 use Rattle.std.proofs.Math.Path.{refl, sym, subst, ap, ap₂, ◌∙◌}
 use Rattle.std.proofs.Common.{arith}
 use Rattle.std.proofs.lemmas.Bool.{eqb-true}
@@ -16,6 +16,7 @@ use Rattle.omega_types.specs.Substitution.{rename}
 use Rattle.omega_types.specs.Binders.{extend, lifts, raise, vars, puts, NormalForms}
 use Rattle.omega_terms.specs.Term.{Term}
 use Rattle.omega_terms.specs.Instance.{Instance}
+use Rattle.omega_terms.proofs.InstanceLaws.{type-self}
 use Rattle.omega_terms.specs.Coercions.{result_label}
 use Rattle.omega_terms.specs.PartTerms.{one_field}
 use Rattle.omega_terms.specs.Shorthands.{Packs, insts, let_in, opens, ty_lam_over}
@@ -23,14 +24,12 @@ use Rattle.signatures.specs.Env.{Env, find}
 use Rattle.signatures.specs.Signatures.Sig.{Sig, Abs, SigRow, HasField, NoField, Module, made}
 use Rattle.signatures.specs.Signatures.SigSubst.{rename_sig, rename_abs, rename_sig_row}
 use Rattle.signatures.specs.Signatures.SigMentions.{MentionsSig}
-use Rattle.signatures.specs.Signatures.Alike.{AlikeSig, NormalSig, NormalAbs, NormalSigRow, IsSigAt, IsAbsAt}
+use Rattle.signatures.specs.Signatures.Alike.{NormalSig, NormalAbs, NormalSigRow, IsSigAt, IsAbsAt}
 use Rattle.signatures.specs.Signatures.Encoding.{enc, enc_abs}
-use Rattle.signatures.specs.Explicit.WellFormed.{WellFormed, WellFormedRow, abs}
 use Rattle.signatures.specs.Packing.{Packed}
-use Rattle.sig_laws.specs.Good.{OkAbs, OkModule, NormalTerm}
+use Rattle.sig_laws.specs.Good.{Distinct, DistinctRow, KindedAbs, KindedModule, NormalTerm}
 use Rattle.sig_laws.proofs.Algebra.BinderLaws.{extend-append}
-use Rattle.sig_laws.proofs.Encoded.EncodingLaws.{enc_well_formed-normal}
-use Rattle.sig_laws.proofs.Formed.Conditions.{abs-body, str-fields, row-field}
+use Rattle.sig_laws.proofs.Encoded.EncodingTyping.{distinct-normal, distinct_abs-normal}
 use Rattle.sig_laws.proofs.Algebra.PathLaws.{no-field, field-normal}
 use Rattle.semantic_sigs.specs.Changes.{ty_in, putting}
 use Rattle.semantic_sigs.specs.Fields.{sig_row}
@@ -42,7 +41,6 @@ use Rattle.module_rules.specs.ModWhy.{Unbound, NoPart, NotStructure, NotFunctor,
 use Rattle.module_rules.specs.ModRules.{NamedGives, NamedRefuses, ProjectRefuses, TypePathRefuses, ValuePathRefuses, SigPathRefuses, GenerativeGives, PartsGive, FunctorRefuses, ApplyGives, SealGives, IncludeGives, IncludeRefuses}
 use Rattle.module_rules.specs.PathUse.{TypeOfPath, ValueOfPath, SigOfPath, value_of}
 use Rattle.module_rules.specs.Projection.{Projected}
-use Rattle.module_rules.proofs.Determined.{lets-normal}
 use Rattle.module_rules.specs.Sequence.{Seq, joined, past_opens, field_lets}
 use Rattle.term_shorthands.specs.Packed.{Fills}
 use Rattle.module_calls.specs.Shown.{PackedAgain, OpenedTerm}
@@ -60,17 +58,17 @@ named-refuses g l n o eo es en = subst (λ m. NamedRefuses g l (Unbound m)) (sym
 
 -- packed
 
-pub packed-pure : (x : Abs) (ts : List Ty) (e d : Term) → ((ctx : List Kind) → Fills ctx ts (enc_abs x) → Packs ctx ts e (enc_abs x) d) → (ctx : List Kind) → OkModule ctx (made Pure x ts e) → Packed ctx (made Pure x ts e) d
+pub packed-pure : (x : Abs) (ts : List Ty) (e d : Term) → ((ctx : List Kind) → Fills ctx ts (enc_abs x) → Packs ctx ts e (enc_abs x) d) → (ctx : List Kind) → KindedModule ctx (made Pure x ts e) → Packed ctx (made Pure x ts e) d
 packed-pure (Abs.Ex ks s) ts e d p ctx ok = Packed.pure (p ctx (fills_own ctx ks s ts ok.0.0 ok.0.1 ok.1))
 
-pub packed-impure : (x : Abs) (ts : List Ty) (e : Term) (ctx : List Kind) → OkModule ctx (made Impure x ts e) → Packed ctx (made Impure x ts e) e
+pub packed-impure : (x : Abs) (ts : List Ty) (e : Term) (ctx : List Kind) → KindedModule ctx (made Impure x ts e) → Packed ctx (made Impure x ts e) e
 packed-impure (Abs.Ex ks s) ts e ctx ok = subst (λ us. Packed ctx (made Impure (Abs.Ex ks s) us e) e) (sym ok.1) Packed.impure
 
-pub packed-of-pure : (f : Effect) (x : Abs) (ts : List Ty) (e d : Term) → f ≡ Pure → ((ctx : List Kind) → Fills ctx ts (enc_abs x) → Packs ctx ts e (enc_abs x) d) → (ctx : List Kind) → OkModule ctx (made f x ts e) → Packed ctx (made f x ts e) d
-packed-of-pure f x ts e d ef p ctx ok = subst (λ g. Packed ctx (made g x ts e) d) (sym ef) (packed-pure x ts e d p ctx (subst (λ g. OkModule ctx (made g x ts e)) ef ok))
+pub packed-of-pure : (f : Effect) (x : Abs) (ts : List Ty) (e d : Term) → f ≡ Pure → ((ctx : List Kind) → Fills ctx ts (enc_abs x) → Packs ctx ts e (enc_abs x) d) → (ctx : List Kind) → KindedModule ctx (made f x ts e) → Packed ctx (made f x ts e) d
+packed-of-pure f x ts e d ef p ctx ok = subst (λ g. Packed ctx (made g x ts e) d) (sym ef) (packed-pure x ts e d p ctx (subst (λ g. KindedModule ctx (made g x ts e)) ef ok))
 
-pub packed-of-impure : (f : Effect) (x : Abs) (ts : List Ty) (e d : Term) → f ≡ Impure → d ≡ e → (ctx : List Kind) → OkModule ctx (made f x ts e) → Packed ctx (made f x ts e) d
-packed-of-impure f x ts e d ef ed ctx ok = subst (λ g. Packed ctx (made g x ts e) d) (sym ef) (subst (Packed ctx (made Impure x ts e)) (sym ed) (packed-impure x ts e ctx (subst (λ g. OkModule ctx (made g x ts e)) ef ok)))
+pub packed-of-impure : (f : Effect) (x : Abs) (ts : List Ty) (e d : Term) → f ≡ Impure → d ≡ e → (ctx : List Kind) → KindedModule ctx (made f x ts e) → Packed ctx (made f x ts e) d
+packed-of-impure f x ts e d ef ed ctx ok = subst (λ g. Packed ctx (made g x ts e) d) (sym ef) (subst (Packed ctx (made Impure x ts e)) (sym ed) (packed-impure x ts e ctx (subst (λ g. KindedModule ctx (made g x ts e)) ef ok)))
 
 pub packs-at : (ts us : List Ty) (e : Term) (to u : Ty) (d : Term) → ts ≡ us → to ≡ u → ((ctx : List Kind) → Fills ctx ts to → Packs ctx ts e to d) → (ctx : List Kind) → Fills ctx us u → Packs ctx us e u d
 packs-at ts us e to u d et eu p ctx fills =
@@ -92,10 +90,14 @@ opened-by ks js count e body out from u ec ej ef h = h ks (sym (ec ∙ ap length
 
 -- parts
 
-part-ok : (ctx ks : List Kind) (fs : SigRow) (l : Name) (s : Sig) → OkAbs ctx (Abs.Ex ks (Sig.Str fs)) → HasField fs l s → OkAbs ctx (Abs.Ex ks s)
-part-ok ctx ks fs l s ok h = (abs (row-field (str-fields (abs-body ok.0)) h), field-normal (extend ctx ks) ok.1 h)
+distinct-field : {fs : SigRow} {l : Name} {s : Sig} → DistinctRow fs → HasField fs l s → Distinct s
+distinct-field d HasField.here = d.1
+distinct-field d (HasField.there n h) = distinct-field d.2 h
 
-pub projected-pure : (x : Abs) (fs : SigRow) (l : Name) (s : Sig) (ts : List Ty) (e : Term) → body_of x ≡ Sig.Str fs → HasField fs l s → (ctx : List Kind) → OkModule ctx (made Pure x ts e) → Projected ctx (made Pure x ts e) l (made Pure (Abs.Ex (kinds_of x) s) ts (Term.Get e (Label.Name l)))
+part-kinded : (ctx ks : List Kind) (fs : SigRow) (l : Name) (s : Sig) → KindedAbs ctx (Abs.Ex ks (Sig.Str fs)) → HasField fs l s → KindedAbs ctx (Abs.Ex ks s)
+part-kinded ctx ks fs l s ok h = (distinct-field ok.0 h, field-normal (extend ctx ks) ok.1 h)
+
+pub projected-pure : (x : Abs) (fs : SigRow) (l : Name) (s : Sig) (ts : List Ty) (e : Term) → body_of x ≡ Sig.Str fs → HasField fs l s → (ctx : List Kind) → KindedModule ctx (made Pure x ts e) → Projected ctx (made Pure x ts e) l (made Pure (Abs.Ex (kinds_of x) s) ts (Term.Get e (Label.Name l)))
 projected-pure (Abs.Ex ks b) fs l s ts e eb h ctx ok = subst (λ b. Projected ctx (made Pure (Abs.Ex ks b) ts e) l (made Pure (Abs.Ex ks s) ts (Term.Get e (Label.Name l)))) (sym eb) (Projected.pure h)
 
 -- the part of an opened module, packed
@@ -103,14 +105,14 @@ abbrev pub OpenedPart : (whole part : Abs) (e : Term) (l : Name) (f : Term) → 
 OpenedPart x y e l f =
     (d : Term) × PackedAgain (kinds_of x) y (Term.Get (Term.Var zero) (Label.Name l)) d × (f ≡ opens (kinds_of x) e (enc_abs x) d)
 
-pub projected-impure : (x : Abs) (fs : SigRow) (l : Name) (s : Sig) (ts : List Ty) (e f : Term) → body_of x ≡ Sig.Str fs → HasField fs l s → OpenedPart x (Abs.Ex (kinds_of x) s) e l f → (ctx : List Kind) → OkModule ctx (made Impure x ts e) → Projected ctx (made Impure x ts e) l (made Impure (Abs.Ex (kinds_of x) s) [] f)
+pub projected-impure : (x : Abs) (fs : SigRow) (l : Name) (s : Sig) (ts : List Ty) (e f : Term) → body_of x ≡ Sig.Str fs → HasField fs l s → OpenedPart x (Abs.Ex (kinds_of x) s) e l f → (ctx : List Kind) → KindedModule ctx (made Impure x ts e) → Projected ctx (made Impure x ts e) l (made Impure (Abs.Ex (kinds_of x) s) [] f)
 projected-impure (Abs.Ex ks b) fs l s ts e f eb h p ctx ok = go b eb ok p
   where
-    go : (b : Sig) → b ≡ Sig.Str fs → OkModule ctx (made Impure (Abs.Ex ks b) ts e) → OpenedPart (Abs.Ex ks b) (Abs.Ex ks s) e l f → Projected ctx (made Impure (Abs.Ex ks b) ts e) l (made Impure (Abs.Ex ks s) [] f)
+    go : (b : Sig) → b ≡ Sig.Str fs → KindedModule ctx (made Impure (Abs.Ex ks b) ts e) → OpenedPart (Abs.Ex ks b) (Abs.Ex ks s) e l f → Projected ctx (made Impure (Abs.Ex ks b) ts e) l (made Impure (Abs.Ex ks s) [] f)
     go b eq good given =
-        let okay : OkAbs ctx (Abs.Ex ks (Sig.Str fs)) = subst (λ b. OkAbs ctx (Abs.Ex ks b)) eq good.0 in
-        let part : OkAbs ctx (Abs.Ex ks s) = part-ok ctx ks fs l s okay h in
-        let packs : Packs (extend ctx ks) (vars ks) (Term.Get (Term.Var zero) (Label.Name l)) (raise ks (enc_abs (Abs.Ex ks s))) given.0 = given.1 ctx (fills_raised ctx ks (enc s) (enc_well_formed-normal part.0 part.1)) in
+        let okay : KindedAbs ctx (Abs.Ex ks (Sig.Str fs)) = subst (λ b. KindedAbs ctx (Abs.Ex ks b)) eq good.0 in
+        let part : KindedAbs ctx (Abs.Ex ks s) = part-kinded ctx ks fs l s okay h in
+        let packs : Packs (extend ctx ks) (vars ks) (Term.Get (Term.Var zero) (Label.Name l)) (raise ks (enc_abs (Abs.Ex ks s))) given.0 = given.1 ctx (fills_raised ctx ks (enc s) (distinct_abs-normal (Abs.Ex ks s) part.0 part.1)) in
         subst (λ b. Projected ctx (made Impure (Abs.Ex ks b) ts e) l (made Impure (Abs.Ex ks s) [] f)) (sym eq)
         (subst (λ u. Projected ctx (made Impure (Abs.Ex ks (Sig.Str fs)) ts e) l (made Impure (Abs.Ex ks s) [] u)) (sym (given.2 ∙ ap (λ b. opens ks e (enc_abs (Abs.Ex ks b)) given.0) eq)) (Projected.impure h packs))
 
@@ -127,44 +129,44 @@ project_no-part f (Abs.Ex ks s) ts e l n b fs eb es missing en =
     (subst (λ s. ProjectRefuses (made f (Abs.Ex ks s) ts e) l (NoPart l)) (sym es ∙ eb) (ProjectRefuses.no_part (λ s h. no-field fs missing h)))
 
 -- what is projected, as it is put together
-pub project-pure : (f : Effect) (x y z : Abs) (fs : SigRow) (l : Name) (s : Sig) (ts us : List Ty) (e term : Term) → f ≡ Pure → body_of x ≡ Sig.Str fs → HasField fs l s → y ≡ Abs.Ex (kinds_of x) s → z ≡ y → us ≡ ts → term ≡ Term.Get e (Label.Name l) → (ctx : List Kind) → OkModule ctx (made f x ts e) → Projected ctx (made f x ts e) l (made Pure z us term)
+pub project-pure : (f : Effect) (x y z : Abs) (fs : SigRow) (l : Name) (s : Sig) (ts us : List Ty) (e term : Term) → f ≡ Pure → body_of x ≡ Sig.Str fs → HasField fs l s → y ≡ Abs.Ex (kinds_of x) s → z ≡ y → us ≡ ts → term ≡ Term.Get e (Label.Name l) → (ctx : List Kind) → KindedModule ctx (made f x ts e) → Projected ctx (made f x ts e) l (made Pure z us term)
 project-pure f x y z fs l s ts us e term ef es h ey ez eu et ctx ok =
     let whole : made Pure (Abs.Ex (kinds_of x) s) ts (Term.Get e (Label.Name l)) ≡ made Pure z us term = sym (ap (λ u. made Pure u us term) (ez ∙ ey) ∙ (ap (λ u. made Pure (Abs.Ex (kinds_of x) s) u term) eu ∙ ap (made Pure (Abs.Ex (kinds_of x) s) ts) et)) in
     subst (λ g. Projected ctx (made g x ts e) l (made Pure z us term)) (sym ef)
     (subst (Projected ctx (made Pure x ts e) l) whole
-    (projected-pure x fs l s ts e es h ctx (subst (λ g. OkModule ctx (made g x ts e)) ef ok)))
+    (projected-pure x fs l s ts e es h ctx (subst (λ g. KindedModule ctx (made g x ts e)) ef ok)))
 
-pub project-impure : (f : Effect) (x y z : Abs) (fs : SigRow) (l : Name) (s : Sig) (ts us : List Ty) (e term : Term) → f ≡ Impure → body_of x ≡ Sig.Str fs → HasField fs l s → y ≡ Abs.Ex (kinds_of x) s → z ≡ y → us ≡ [] → OpenedPart x y e l term → (ctx : List Kind) → OkModule ctx (made f x ts e) → Projected ctx (made f x ts e) l (made Impure z us term)
+pub project-impure : (f : Effect) (x y z : Abs) (fs : SigRow) (l : Name) (s : Sig) (ts us : List Ty) (e term : Term) → f ≡ Impure → body_of x ≡ Sig.Str fs → HasField fs l s → y ≡ Abs.Ex (kinds_of x) s → z ≡ y → us ≡ [] → OpenedPart x y e l term → (ctx : List Kind) → KindedModule ctx (made f x ts e) → Projected ctx (made f x ts e) l (made Impure z us term)
 project-impure f x y z fs l s ts us e term ef es h ey ez eu p ctx ok =
     let whole : made Impure (Abs.Ex (kinds_of x) s) [] term ≡ made Impure z us term = sym (ap (λ u. made Impure u us term) (ez ∙ ey) ∙ ap (λ u. made Impure (Abs.Ex (kinds_of x) s) u term) eu) in
     subst (λ g. Projected ctx (made g x ts e) l (made Impure z us term)) (sym ef)
     (subst (Projected ctx (made Impure x ts e) l) whole
-    (projected-impure x fs l s ts e term es h (subst (λ z. OpenedPart x z e l term) ey p) ctx (subst (λ g. OkModule ctx (made g x ts e)) ef ok)))
+    (projected-impure x fs l s ts e term es h (subst (λ z. OpenedPart x z e l term) ey p) ctx (subst (λ g. KindedModule ctx (made g x ts e)) ef ok)))
 
 -- paths
 
-pub type-path : (f : Effect) (x : Abs) (ts : List Ty) (e : Term) (t n : Ty) (k : Kind) (count : ℕ) → body_of x ≡ Sig.Typ t k → length (kinds_of x) ≡ count → shift count 0 n ≡ t → ((inner ctx : List Kind) (k : Kind) → length inner ≡ count → Normal (inner ++ ctx) t k → Normal ctx n k) → (ctx : List Kind) → OkModule ctx (made f x ts e) → TypeOfPath ctx (made f x ts e) n k
+pub type-path : (f : Effect) (x : Abs) (ts : List Ty) (e : Term) (t n : Ty) (k : Kind) (count : ℕ) → body_of x ≡ Sig.Typ t k → length (kinds_of x) ≡ count → shift count 0 n ≡ t → ((inner ctx : List Kind) (k : Kind) → length inner ≡ count → Normal (inner ++ ctx) t k → Normal ctx n k) → (ctx : List Kind) → KindedModule ctx (made f x ts e) → TypeOfPath ctx (made f x ts e) n k
 type-path f (Abs.Ex ks b) ts e t n k count eb len back lower ctx ok =
     subst (λ b. TypeOfPath ctx (made f (Abs.Ex ks b) ts e) n k) (sym eb) (TypeOfPath.type_of (type-outside ctx ks count t n k len (subst (NormalSig (extend ctx ks)) eb ok.0.1) back lower))
 
-pub type-escapes : (f : Effect) (x : Abs) (ts : List Ty) (e : Term) (t : Ty) (k : Kind) (count i : ℕ) → body_of x ≡ Sig.Typ t k → length (kinds_of x) ≡ count → i < count → Mentions i t → (ctx : List Kind) → OkModule ctx (made f x ts e) → TypePathRefuses ctx (made f x ts e) Escapes
+pub type-escapes : (f : Effect) (x : Abs) (ts : List Ty) (e : Term) (t : Ty) (k : Kind) (count i : ℕ) → body_of x ≡ Sig.Typ t k → length (kinds_of x) ≡ count → i < count → Mentions i t → (ctx : List Kind) → KindedModule ctx (made f x ts e) → TypePathRefuses ctx (made f x ts e) Escapes
 type-escapes f (Abs.Ex ks b) ts e t k count i eb len lt m ctx ok =
     subst (λ b. TypePathRefuses ctx (made f (Abs.Ex ks b) ts e) Escapes) (sym eb) (TypePathRefuses.escapes (type-inside ctx ks count t k len (subst (NormalSig (extend ctx ks)) eb ok.0.1) i lt m))
 
-pub value-path : (f : Effect) (x : Abs) (ts : List Ty) (e d : Term) (t n : Ty) (count : ℕ) → body_of x ≡ Sig.Val t → length (kinds_of x) ≡ count → shift count 0 n ≡ t → ((inner ctx : List Kind) (k : Kind) → length inner ≡ count → Normal (inner ++ ctx) t k → Normal ctx n k) → d ≡ value_of f (kinds_of x) e (enc_abs x) → (ctx : List Kind) → OkModule ctx (made f x ts e) → ValueOfPath ctx (made f x ts e) n d
+pub value-path : (f : Effect) (x : Abs) (ts : List Ty) (e d : Term) (t n : Ty) (count : ℕ) → body_of x ≡ Sig.Val t → length (kinds_of x) ≡ count → shift count 0 n ≡ t → ((inner ctx : List Kind) (k : Kind) → length inner ≡ count → Normal (inner ++ ctx) t k → Normal ctx n k) → d ≡ value_of f (kinds_of x) e (enc_abs x) → (ctx : List Kind) → KindedModule ctx (made f x ts e) → ValueOfPath ctx (made f x ts e) n d
 value-path f (Abs.Ex ks b) ts e d t n count eb len back lower ed ctx ok =
     let o = type-outside ctx ks count t n Kind.Star len (subst (NormalSig (extend ctx ks)) eb ok.0.1) back lower in
     subst (λ b. ValueOfPath ctx (made f (Abs.Ex ks b) ts e) n d) (sym eb)
     (subst (ValueOfPath ctx (made f (Abs.Ex ks (Sig.Val t)) ts e) n) (sym (ed ∙ ap (λ b. value_of f ks e (enc_abs (Abs.Ex ks b))) eb)) (ValueOfPath.value_at o))
 
-pub value-escapes : (f : Effect) (x : Abs) (ts : List Ty) (e : Term) (t : Ty) (count i : ℕ) → body_of x ≡ Sig.Val t → length (kinds_of x) ≡ count → i < count → Mentions i t → (ctx : List Kind) → OkModule ctx (made f x ts e) → ValuePathRefuses ctx (made f x ts e) Escapes
+pub value-escapes : (f : Effect) (x : Abs) (ts : List Ty) (e : Term) (t : Ty) (count i : ℕ) → body_of x ≡ Sig.Val t → length (kinds_of x) ≡ count → i < count → Mentions i t → (ctx : List Kind) → KindedModule ctx (made f x ts e) → ValuePathRefuses ctx (made f x ts e) Escapes
 value-escapes f (Abs.Ex ks b) ts e t count i eb len lt m ctx ok =
     subst (λ b. ValuePathRefuses ctx (made f (Abs.Ex ks b) ts e) Escapes) (sym eb) (ValuePathRefuses.escapes (type-inside ctx ks count t Kind.Star len (subst (NormalSig (extend ctx ks)) eb ok.0.1) i lt m))
 
 meta-same : {x y : Abs} → Sig.Meta x ≡ Sig.Meta y → x ≡ y
 meta-same e = cc
 
-pub sig-path : (f : Effect) (x : Abs) (ts : List Ty) (e : Term) (y n : Abs) (shown : Sig) (count : ℕ) → body_of x ≡ Sig.Meta y → length (kinds_of x) ≡ count → rename_sig (bump count 0) shown ≡ body_of x → shown ≡ Sig.Meta n → ((inner ctx : List Kind) → length inner ≡ count → NormalSig (inner ++ ctx) (body_of x) → NormalSig ctx shown) → (ctx : List Kind) → OkModule ctx (made f x ts e) → SigOfPath ctx (made f x ts e) n
+pub sig-path : (f : Effect) (x : Abs) (ts : List Ty) (e : Term) (y n : Abs) (shown : Sig) (count : ℕ) → body_of x ≡ Sig.Meta y → length (kinds_of x) ≡ count → rename_sig (bump count 0) shown ≡ body_of x → shown ≡ Sig.Meta n → ((inner ctx : List Kind) → length inner ≡ count → NormalSig (inner ++ ctx) (body_of x) → NormalSig ctx shown) → (ctx : List Kind) → KindedModule ctx (made f x ts e) → SigOfPath ctx (made f x ts e) n
 sig-path f (Abs.Ex ks b) ts e y n shown count eb len back es lower ctx ok =
     let same : rename_abs (bump count 0) n ≡ y = meta-same (ap (rename_sig (bump count 0)) (sym es) ∙ (back ∙ eb)) in
     subst (λ b. SigOfPath ctx (made f (Abs.Ex ks b) ts e) n) (sym eb)
@@ -178,35 +180,35 @@ still-shown r (Sig.Meta x) b y e eb h = h x refl
 still-shown r (Sig.Str fs) b y e eb h = let q : Sig.Str (rename_sig_row r fs) ≡ Sig.Meta y = e ∙ eb in cc
 still-shown r (Sig.Fun f ks s x) b y e eb h = let q : Sig.Fun f ks (rename_sig (lifts ks r) s) (rename_abs (lifts ks r) x) ≡ Sig.Meta y = e ∙ eb in cc
 
-pub sig-escapes : (f : Effect) (x : Abs) (ts : List Ty) (e : Term) (y : Abs) (count i : ℕ) → body_of x ≡ Sig.Meta y → length (kinds_of x) ≡ count → i < count → MentionsSig i (body_of x) → (ctx : List Kind) → OkModule ctx (made f x ts e) → SigPathRefuses ctx (made f x ts e) Escapes
+pub sig-escapes : (f : Effect) (x : Abs) (ts : List Ty) (e : Term) (y : Abs) (count i : ℕ) → body_of x ≡ Sig.Meta y → length (kinds_of x) ≡ count → i < count → MentionsSig i (body_of x) → (ctx : List Kind) → KindedModule ctx (made f x ts e) → SigPathRefuses ctx (made f x ts e) Escapes
 sig-escapes f (Abs.Ex ks b) ts e y count i eb len lt m ctx ok =
     subst (λ b. SigPathRefuses ctx (made f (Abs.Ex ks b) ts e) Escapes) (sym eb) (SigPathRefuses.escapes (sig-inside ctx ks count y len (subst (NormalSig (extend ctx ks)) eb ok.0.1) i lt (subst (MentionsSig i) eb m)))
 
-pub sig-escapes-at : (f : Effect) (x : Abs) (ts : List Ty) (e : Term) (b b2 : Sig) (y : Abs) (count i : ℕ) → b ≡ body_of x → b2 ≡ body_of x → b ≡ Sig.Meta y → length (kinds_of x) ≡ count → i < count → MentionsSig i b2 → (ctx : List Kind) → OkModule ctx (made f x ts e) → SigPathRefuses ctx (made f x ts e) Escapes
+pub sig-escapes-at : (f : Effect) (x : Abs) (ts : List Ty) (e : Term) (b b2 : Sig) (y : Abs) (count i : ℕ) → b ≡ body_of x → b2 ≡ body_of x → b ≡ Sig.Meta y → length (kinds_of x) ≡ count → i < count → MentionsSig i b2 → (ctx : List Kind) → KindedModule ctx (made f x ts e) → SigPathRefuses ctx (made f x ts e) Escapes
 sig-escapes-at f x ts e b b2 y count i eb eb2 is len lt m = sig-escapes f x ts e y count i (sym eb ∙ is) len lt (subst (MentionsSig i) eb2 m)
 
-pub sig-path-at : (f : Effect) (x : Abs) (ts : List Ty) (e : Term) (b b2 : Sig) (y n m : Abs) (shown : Sig) (count : ℕ) → b ≡ body_of x → b2 ≡ body_of x → b ≡ Sig.Meta y → length (kinds_of x) ≡ count → rename_sig (bump count 0) shown ≡ b2 → shown ≡ Sig.Meta m → n ≡ m → ((inner ctx : List Kind) → length inner ≡ count → NormalSig (inner ++ ctx) b2 → NormalSig ctx shown) → (ctx : List Kind) → OkModule ctx (made f x ts e) → SigOfPath ctx (made f x ts e) n
+pub sig-path-at : (f : Effect) (x : Abs) (ts : List Ty) (e : Term) (b b2 : Sig) (y n m : Abs) (shown : Sig) (count : ℕ) → b ≡ body_of x → b2 ≡ body_of x → b ≡ Sig.Meta y → length (kinds_of x) ≡ count → rename_sig (bump count 0) shown ≡ b2 → shown ≡ Sig.Meta m → n ≡ m → ((inner ctx : List Kind) → length inner ≡ count → NormalSig (inner ++ ctx) b2 → NormalSig ctx shown) → (ctx : List Kind) → KindedModule ctx (made f x ts e) → SigOfPath ctx (made f x ts e) n
 sig-path-at f x ts e b b2 y n m shown count eb eb2 is len back found en lower =
     sig-path f x ts e y n shown count (sym eb ∙ is) len (back ∙ eb2) (found ∙ ap Sig.Meta (sym en)) (λ inner ctx l h. lower inner ctx l (subst (NormalSig (inner ++ ctx)) (sym eb2) h))
 
 -- paths of another form
 
-pub type-wrong : (f : Effect) (x : Abs) (ts : List Ty) (e : Term) (b : Sig) → b ≡ body_of x → ((t : Ty) (k : Kind) → b ≡ Sig.Typ t k → ⊥) → (ctx : List Kind) → OkModule ctx (made f x ts e) → TypePathRefuses ctx (made f x ts e) WrongPath
+pub type-wrong : (f : Effect) (x : Abs) (ts : List Ty) (e : Term) (b : Sig) → b ≡ body_of x → ((t : Ty) (k : Kind) → b ≡ Sig.Typ t k → ⊥) → (ctx : List Kind) → KindedModule ctx (made f x ts e) → TypePathRefuses ctx (made f x ts e) WrongPath
 type-wrong f (Abs.Ex ks s) ts e b eb h ctx ok = TypePathRefuses.no_type (λ t k q. h t k (eb ∙ q))
 
-pub value-wrong : (f : Effect) (x : Abs) (ts : List Ty) (e : Term) (b : Sig) → b ≡ body_of x → ((t : Ty) → b ≡ Sig.Val t → ⊥) → (ctx : List Kind) → OkModule ctx (made f x ts e) → ValuePathRefuses ctx (made f x ts e) WrongPath
+pub value-wrong : (f : Effect) (x : Abs) (ts : List Ty) (e : Term) (b : Sig) → b ≡ body_of x → ((t : Ty) → b ≡ Sig.Val t → ⊥) → (ctx : List Kind) → KindedModule ctx (made f x ts e) → ValuePathRefuses ctx (made f x ts e) WrongPath
 value-wrong f (Abs.Ex ks s) ts e b eb h ctx ok = ValuePathRefuses.no_value (λ t q. h t (eb ∙ q))
 
-pub sig-wrong : (f : Effect) (x : Abs) (ts : List Ty) (e : Term) (b : Sig) → b ≡ body_of x → ((y : Abs) → b ≡ Sig.Meta y → ⊥) → (ctx : List Kind) → OkModule ctx (made f x ts e) → SigPathRefuses ctx (made f x ts e) WrongPath
+pub sig-wrong : (f : Effect) (x : Abs) (ts : List Ty) (e : Term) (b : Sig) → b ≡ body_of x → ((y : Abs) → b ≡ Sig.Meta y → ⊥) → (ctx : List Kind) → KindedModule ctx (made f x ts e) → SigPathRefuses ctx (made f x ts e) WrongPath
 sig-wrong f (Abs.Ex ks s) ts e b eb h ctx ok = SigPathRefuses.no_signature (λ y q. h y (eb ∙ q))
 
 -- functors
 
 pub generative-made : (x y : Abs) (sg : Sig) (f : Effect) (ts : List Ty) (e d term : Term) (m : Module)
-    → ((ctx : List Kind) → OkModule ctx (made f y ts e) → Packed ctx (made f y ts e) d)
+    → ((ctx : List Kind) → KindedModule ctx (made f y ts e) → Packed ctx (made f y ts e) d)
     → term ≡ ty_lam_over (kinds_of x) (Term.Lam (enc (body_of x)) (one_field Label.Gen d))
     → sg ≡ Sig.Fun Impure (kinds_of x) (body_of x) y → m ≡ made Pure (Abs.Ex [] sg) [] term
-    → (ctx : List Kind) → OkModule (extend ctx (kinds_of x)) (made f y ts e) → GenerativeGives ctx (kinds_of x) (body_of x) (made f y ts e) m
+    → (ctx : List Kind) → KindedModule (extend ctx (kinds_of x)) (made f y ts e) → GenerativeGives ctx (kinds_of x) (body_of x) (made f y ts e) m
 generative-made x y sg f ts e d term m pack et es em ctx ok =
     let whole : m ≡ made Pure (Abs.Ex [] (Sig.Fun Impure (kinds_of x) (body_of x) y)) [] (ty_lam_over (kinds_of x) (Term.Lam (enc (body_of x)) (one_field Label.Gen d))) = em ∙ (ap (λ u. made Pure (Abs.Ex [] u) [] term) es ∙ ap (made Pure (Abs.Ex [] (Sig.Fun Impure (kinds_of x) (body_of x) y)) []) et) in
     subst (GenerativeGives ctx (kinds_of x) (body_of x) (made f y ts e)) (sym whole) (GenerativeGives.generative (pack (extend ctx (kinds_of x)) ok))
@@ -239,16 +241,6 @@ pub parts-given : (sg s : Sig) (f : Effect) (ks js : List Kind) (p : Sig) (from 
 parts-given sg s f ks js p from y z es ej ep ef ez =
     let whole : Abs.Ex ks s ≡ from = cc in
     subst (λ u. PartsGive u f from z) (sym es) (subst (λ u. PartsGive (Sig.Fun f ks s y) f u z) whole (subst (PartsGive (Sig.Fun f ks s y) f (Abs.Ex ks s)) (sym ez) PartsGive.parts))
-
--- a signature part at types is one, with its signature at these types
-abs-within : (ctx : List Kind) (y w : Abs) (ts : List Ty) → IsSigAt ctx (Sig.Meta y) ts (Sig.Meta w) → IsAbsAt ctx y ts w
-abs-within ctx y w ts (AlikeSig.meta a) = a
-
-pub abs-put : (x y : Abs) (ks js : List Kind) (part put : Sig) (w v : Abs) (ts : List Ty) → part ≡ Sig.Meta y → js ≡ ks → x ≡ Abs.Ex js part → ((ctx : List Kind) → NormalAbs ctx x → NormalForms ctx ts (kinds_of x) ts → IsSigAt ctx (body_of x) ts put) → put ≡ Sig.Meta w → v ≡ w → (ctx : List Kind) → NormalAbs (extend ctx ks) y → NormalForms ctx ts ks ts → IsAbsAt ctx y ts v
-abs-put x y ks js part put w v ts ep ej ex at eput ev ctx n ns =
-    let whole : x ≡ Abs.Ex ks (Sig.Meta y) = ex ∙ (ap (λ u. Abs.Ex u part) ej ∙ ap (Abs.Ex ks) ep) in
-    let given : IsSigAt ctx (Sig.Meta y) ts put = subst (λ z. IsSigAt ctx (body_of z) ts put) whole (at ctx (subst (NormalAbs ctx) (sym whole) n) (subst (λ z. NormalForms ctx ts (kinds_of z) ts) (sym whole) ns)) in
-    subst (IsAbsAt ctx y ts) (sym ev) (abs-within ctx y w ts (subst (IsSigAt ctx (Sig.Meta y) ts) eput given))
 
 pub applied : (b s : Sig) (f : Effect) (ks : List Kind) (y w : Abs) (ts us : List Ty) (d c e term : Term)
     → b ≡ Sig.Fun f ks s y
@@ -297,34 +289,34 @@ pub sequence-pure : (f h : Effect) (x y z : Abs) (ts us ns : List Ty) (e d c ter
     → ((ctx ks : List Kind) → NormalTerm (extend ctx ks) d → NormalForms ctx ts ks ts → Instance (extend ctx ks) ctx (puts ts Ty.Var) d c)
     → z ≡ Abs.Ex (kinds_of x ++ kinds_of y) (body_of y) → ns ≡ ts ++ map (ty_in (putting ts)) us → term ≡ let_in (enc n) e c
     → f ≡ Pure → h ≡ Pure
-    → (ctx : List Kind) → OkModule ctx (made f x ts e) → OkModule (extend ctx (kinds_of x)) (made h y us d)
+    → (ctx : List Kind) → KindedModule ctx (made f x ts e) → KindedModule (extend ctx (kinds_of x)) (made h y us d)
     → Seq ctx (made f x ts e) (made h y us d) (made Pure z ns term)
 sequence-pure f h (Abs.Ex ks s) (Abs.Ex js t) z ts us ns e d c term n at put ez en et ef eh ctx a b =
-    let first : OkModule ctx (made Pure (Abs.Ex ks s) ts e) = subst (λ g. OkModule ctx (made g (Abs.Ex ks s) ts e)) ef a in
-    let rest : OkModule (extend ctx ks) (made Pure (Abs.Ex js t) us d) = subst (λ g. OkModule (extend ctx ks) (made g (Abs.Ex js t) us d)) eh b in
+    let first : KindedModule ctx (made Pure (Abs.Ex ks s) ts e) = subst (λ g. KindedModule ctx (made g (Abs.Ex ks s) ts e)) ef a in
+    let rest : KindedModule (extend ctx ks) (made Pure (Abs.Ex js t) us d) = subst (λ g. KindedModule (extend ctx ks) (made g (Abs.Ex js t) us d)) eh b in
     let all : made Pure (Abs.Ex (ks ++ js) t) (ts ++ map (ty_in (putting ts)) us) (let_in (enc n) e c) ≡ made Pure z ns term = sym (ap (λ u. made Pure u ns term) ez ∙ (ap (λ u. made Pure (Abs.Ex (ks ++ js) t) u term) en ∙ ap (made Pure (Abs.Ex (ks ++ js) t) (ts ++ map (ty_in (putting ts)) us)) et)) in
     subst (λ g. Seq ctx (made g (Abs.Ex ks s) ts e) (made h (Abs.Ex js t) us d) (made Pure z ns term)) (sym ef)
     (subst (λ g. Seq ctx (made Pure (Abs.Ex ks s) ts e) (made g (Abs.Ex js t) us d) (made Pure z ns term)) (sym eh)
     (subst (Seq ctx (made Pure (Abs.Ex ks s) ts e) (made Pure (Abs.Ex js t) us d)) all
     (Seq.both_pure (at ctx first.0.1 first.1) (types-put ts us ctx ks js first.1 rest.1) (put ctx ks rest.2 first.1))))
 
-both-ok : (ctx ks js : List Kind) (t : Sig) → OkAbs (extend ctx ks) (Abs.Ex js t) → OkAbs ctx (Abs.Ex (ks ++ js) t)
-both-ok ctx ks js t ok = (abs (subst (λ c. WellFormed c t) (sym (extend-append ks js ctx)) (abs-body ok.0)), subst (λ c. NormalSig c t) (sym (extend-append ks js ctx)) ok.1)
+both-kinded : (ctx ks js : List Kind) (t : Sig) → KindedAbs (extend ctx ks) (Abs.Ex js t) → KindedAbs ctx (Abs.Ex (ks ++ js) t)
+both-kinded ctx ks js t ok = (ok.0, subst (λ c. NormalSig c t) (sym (extend-append ks js ctx)) ok.1)
 
 pub sequence-impure : (f h : Effect) (x y z : Abs) (ts us ns : List Ty) (e d term : Term)
     → z ≡ Abs.Ex (kinds_of x ++ kinds_of y) (body_of y) → ns ≡ [] → OpenedTerm x (made f x ts e) (made h y us d) z term
     → joined f h ≡ Impure
-    → (ctx : List Kind) → OkModule ctx (made f x ts e) → OkModule (extend ctx (kinds_of x)) (made h y us d)
+    → (ctx : List Kind) → KindedModule ctx (made f x ts e) → KindedModule (extend ctx (kinds_of x)) (made h y us d)
     → Seq ctx (made f x ts e) (made h y us d) (made Impure z ns term)
 sequence-impure f h (Abs.Ex ks s) (Abs.Ex js t) z ts us ns e d term ez en o j ctx a b =
-    let whole : OkAbs ctx (Abs.Ex (ks ++ js) t) = both-ok ctx ks js t b.0 in
+    let whole : KindedAbs ctx (Abs.Ex (ks ++ js) t) = both-kinded ctx ks js t b.0 in
     let again : PackedAgain ks (Abs.Ex (ks ++ js) t) (past_opens ks o.1) o.2 = subst (λ u. PackedAgain ks u (past_opens ks o.1) o.2) ez o.5 in
     let packs : Packs (extend ctx ks) (vars ks) (past_opens ks o.1) (raise ks (enc_abs (Abs.Ex (ks ++ js) t))) o.2 = again ctx (fills_both ctx ks js t whole.0 whole.1) in
     let all : made Impure (Abs.Ex (ks ++ js) t) [] (opens ks o.0 (enc_abs (Abs.Ex ks s)) o.2) ≡ made Impure z ns term = sym (ap (λ u. made Impure u ns term) ez ∙ (ap (λ u. made Impure (Abs.Ex (ks ++ js) t) u term) en ∙ ap (made Impure (Abs.Ex (ks ++ js) t) []) o.6)) in
     subst (Seq ctx (made f (Abs.Ex ks s) ts e) (made h (Abs.Ex js t) us d)) all (Seq.some_impure j (o.3 ctx a) (o.4 (extend ctx ks) b) packs)
 
 pub opened-term : (x : Abs) (first rest : Module) (z : Abs) (ks js : List Kind) (p q r last term : Term)
-    → ((ctx : List Kind) → OkModule ctx first → Packed ctx first p) → ((ctx : List Kind) → OkModule ctx rest → Packed ctx rest q)
+    → ((ctx : List Kind) → KindedModule ctx first → Packed ctx first p) → ((ctx : List Kind) → KindedModule ctx rest → Packed ctx rest q)
     → last ≡ past_opens ks q → ks ≡ kinds_of x → PackedAgain js z last r → js ≡ kinds_of x → term ≡ opens (kinds_of x) p (enc_abs x) r
     → OpenedTerm x first rest z term
 opened-term x first rest z ks js p q r last term hp hq el ek hr ej et =
@@ -335,19 +327,21 @@ opened-term x first rest z ks js p q r last term hp hq el ek hr ej et =
 pub include_no-structure : (f : Effect) (x : Abs) (ts : List Ty) (e : Term) (b : Sig) → b ≡ body_of x → ((fs : SigRow) → b ≡ Sig.Str fs → ⊥) → IncludeRefuses (made f x ts e) NotStructure
 include_no-structure f (Abs.Ex ks s) ts e b eb h = IncludeRefuses.no_structure (λ fs q. h fs (eb ∙ q))
 
-lets-ok : (ctx : List Kind) (fs : SigRow) (i : ℕ) (d : Term) → WellFormedRow ctx fs → NormalSigRow ctx fs → NormalTerm ctx d → NormalTerm ctx (field_lets i fs d)
-lets-ok ctx fs i d w n nd = lets-normal ctx i fs d (w, n) nd
+lets-kinded : (ctx : List Kind) (i : ℕ) (fs : SigRow) (d : Term) → DistinctRow fs → NormalSigRow ctx fs → NormalTerm ctx d → NormalTerm ctx (field_lets i fs d)
+lets-kinded ctx i SigRow.End d w n h = h
+lets-kinded ctx i (SigRow.More l s rest) d w n h =
+    Instance.call (Instance.lam (type-self (distinct-normal s w.1 n.0)) (lets-kinded ctx (suc i) rest d w.2 n.1 h)) (Instance.get Instance.var)
 
 pub include-given : (f h : Effect) (x y : Abs) (ts us : List Ty) (e d c : Term) (b : Sig) (fs : SigRow) (m : Module)
     → b ≡ body_of x → b ≡ Sig.Str fs → c ≡ field_lets 0 fs d
-    → ((ctx : List Kind) → OkModule ctx (made f x ts e) → OkModule (extend ctx (kinds_of x)) (made h y us c) → Seq ctx (made f x ts e) (made h y us c) m)
-    → (ctx : List Kind) → OkModule ctx (made f x ts e) → OkModule (extend ctx (kinds_of x)) (made h y us d) → IncludeGives ctx (made f x ts e) (made h y us d) m
+    → ((ctx : List Kind) → KindedModule ctx (made f x ts e) → KindedModule (extend ctx (kinds_of x)) (made h y us c) → Seq ctx (made f x ts e) (made h y us c) m)
+    → (ctx : List Kind) → KindedModule ctx (made f x ts e) → KindedModule (extend ctx (kinds_of x)) (made h y us d) → IncludeGives ctx (made f x ts e) (made h y us d) m
 include-given f h (Abs.Ex ks s) (Abs.Ex js t) ts us e d c b fs m eb es ec seq ctx ok rest =
     let same : s ≡ Sig.Str fs = sym eb ∙ es in
-    let good : OkModule ctx (made f (Abs.Ex ks (Sig.Str fs)) ts e) = subst (λ s. OkModule ctx (made f (Abs.Ex ks s) ts e)) same ok in
-    let lets : NormalTerm (extend ctx ks) (field_lets 0 fs d) = lets-ok (extend ctx ks) fs 0 d (str-fields (abs-body good.0.0)) good.0.1 rest.2 in
-    let inner : OkModule (extend ctx ks) (made h (Abs.Ex js t) us (field_lets 0 fs d)) = (rest.0, rest.1, lets) in
+    let good : KindedModule ctx (made f (Abs.Ex ks (Sig.Str fs)) ts e) = subst (λ s. KindedModule ctx (made f (Abs.Ex ks s) ts e)) same ok in
+    let lets : NormalTerm (extend ctx ks) (field_lets 0 fs d) = lets-kinded (extend ctx ks) 0 fs d good.0.0 good.0.1 rest.2 in
+    let inner : KindedModule (extend ctx ks) (made h (Abs.Ex js t) us (field_lets 0 fs d)) = (rest.0, rest.1, lets) in
     let told : made h (Abs.Ex js t) us c ≡ made h (Abs.Ex js t) us (field_lets 0 fs d) = ap (made h (Abs.Ex js t) us) ec in
-    let given : Seq ctx (made f (Abs.Ex ks s) ts e) (made h (Abs.Ex js t) us (field_lets 0 fs d)) m = subst (λ r. OkModule (extend ctx ks) r → Seq ctx (made f (Abs.Ex ks s) ts e) r m) told (seq ctx ok) inner in
+    let given : Seq ctx (made f (Abs.Ex ks s) ts e) (made h (Abs.Ex js t) us (field_lets 0 fs d)) m = subst (λ r. KindedModule (extend ctx ks) r → Seq ctx (made f (Abs.Ex ks s) ts e) r m) told (seq ctx ok) inner in
     subst (λ s. IncludeGives ctx (made f (Abs.Ex ks s) ts e) (made h (Abs.Ex js t) us d) m) (sym same)
     (IncludeGives.include (subst (λ s. Seq ctx (made f (Abs.Ex ks s) ts e) (made h (Abs.Ex js t) us (field_lets 0 fs d)) m) same given))

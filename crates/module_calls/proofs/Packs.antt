@@ -14,24 +14,24 @@ use Rattle.omega_types.proofs.Preservation.{normal-rename}
 use Rattle.signatures.specs.Signatures.Sig.{Sig, Abs}
 use Rattle.signatures.specs.Signatures.Alike.{NormalAbs}
 use Rattle.signatures.specs.Signatures.Encoding.{enc, enc_abs}
-use Rattle.signatures.specs.Explicit.WellFormed.{WellFormedAbs}
-use Rattle.sig_laws.proofs.Encoded.EncodingLaws.{enc_well_formed-normal}
+use Rattle.sig_laws.specs.Good.{DistinctAbs}
+use Rattle.sig_laws.proofs.Encoded.EncodingTyping.{distinct_abs-normal}
 use Rattle.omega_terms.specs.Term.{Term}
 use Rattle.omega_terms.specs.Shorthands.{Packs}
 use Rattle.term_shorthands.specs.Packed.{Fills}
 use Rattle.module_calls.specs.Shown.{PackedAgain}
 
-pub fills_own : (ctx ks : List Kind) (s : Sig) (ts : List Ty) → WellFormedAbs ctx (Abs.Ex ks s) → NormalAbs ctx (Abs.Ex ks s) → NormalForms ctx ts ks ts → Fills ctx ts (enc_abs (Abs.Ex ks s))
-fills_own ctx ks s ts w n ns = (ks, enc s, refl, enc_well_formed-normal w n, ns)
+pub fills_own : (ctx ks : List Kind) (s : Sig) (ts : List Ty) → DistinctAbs (Abs.Ex ks s) → NormalAbs ctx (Abs.Ex ks s) → NormalForms ctx ts ks ts → Fills ctx ts (enc_abs (Abs.Ex ks s))
+fills_own ctx ks s ts d n ns = (ks, enc s, refl, distinct_abs-normal (Abs.Ex ks s) d n, ns)
 
 pub fills_raised : (ctx ks : List Kind) (v : Ty) → Normal ctx (ex_over ks v) Kind.Star → Fills (extend ctx ks) (vars ks) (raise ks (ex_over ks v))
 fills_raised ctx ks v n = (ks, rename (lifts ks (past ks)) v, rename-ex_over (past ks) ks v, normal-rename (past ks) (past-maps ks ctx) n, vars-kinds ctx ks)
 
 -- the types of a binding, under which those of the rest come
-pub fills_both : (ctx ks js : List Kind) (t : Sig) → WellFormedAbs ctx (Abs.Ex (ks ++ js) t) → NormalAbs ctx (Abs.Ex (ks ++ js) t) → Fills (extend ctx ks) (vars ks) (raise ks (enc_abs (Abs.Ex (ks ++ js) t)))
-fills_both ctx ks js t w n =
+pub fills_both : (ctx ks js : List Kind) (t : Sig) → DistinctAbs (Abs.Ex (ks ++ js) t) → NormalAbs ctx (Abs.Ex (ks ++ js) t) → Fills (extend ctx ks) (vars ks) (raise ks (enc_abs (Abs.Ex (ks ++ js) t)))
+fills_both ctx ks js t d n =
     let e = ex_over-append ks js (enc t) in
-    subst (λ u. Fills (extend ctx ks) (vars ks) (raise ks u)) (sym e) (fills_raised ctx ks (ex_over js (enc t)) (subst (λ u. Normal ctx u Kind.Star) e (enc_well_formed-normal w n)))
+    subst (λ u. Fills (extend ctx ks) (vars ks) (raise ks u)) (sym e) (fills_raised ctx ks (ex_over js (enc t)) (subst (λ u. Normal ctx u Kind.Star) e (distinct_abs-normal (Abs.Ex (ks ++ js) t) d n)))
 
 -- a shift past binders, by their number
 pub bump-past : (ks : List Kind) (count : ℕ) → length ks ≡ count → bump count 0 ≡ past ks

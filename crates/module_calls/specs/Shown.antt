@@ -14,7 +14,7 @@ use Rattle.signatures.specs.Signatures.Sig.{Sig, Abs, Module}
 use Rattle.signatures.specs.Signatures.SigMentions.{MentionsSig}
 use Rattle.signatures.specs.Signatures.SigSubst.{rename_sig}
 use Rattle.signatures.specs.Packing.{Packed}
-use Rattle.sig_laws.specs.Good.{OkModule}
+use Rattle.sig_laws.specs.Good.{KindedModule}
 use Rattle.semantic_sigs.specs.View.{kinds_of}
 use Rattle.module_rules.specs.Sequence.{past_opens}
 use Rattle.term_shorthands.specs.Packed.{Fills}
@@ -41,7 +41,7 @@ PackedAgain ks x e d = (ctx : List Kind) → Fills (extend ctx ks) (vars ks) (ra
 abbrev pub OpenedTerm : Abs → Module → Module → Abs → Term → Type 0
 OpenedTerm x first rest whole e =
     (p : Term) × (q : Term) × (r : Term)
-    × ((ctx : List Kind) → OkModule ctx first → Packed ctx first p)
-    × ((ctx : List Kind) → OkModule ctx rest → Packed ctx rest q)
+    × ((ctx : List Kind) → KindedModule ctx first → Packed ctx first p)
+    × ((ctx : List Kind) → KindedModule ctx rest → Packed ctx rest q)
     × PackedAgain (kinds_of x) whole (past_opens (kinds_of x) q) r
     × (e ≡ opens (kinds_of x) p (enc_abs x) r)

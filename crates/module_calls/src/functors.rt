@@ -11,29 +11,28 @@ ghost use Rattle.omega_terms.specs.Shorthands.{insts as insts_of, ty_lam_over as
 ghost use Rattle.omega_terms.specs.Term.{Call, Get, Lam, Term as TermTree};
 ghost use Rattle.signatures.specs.Packing.{Packed};
 ghost use Rattle.signatures.specs.Signatures.Encoding.{enc};
-ghost use Rattle.signatures.specs.Signatures.Alike.{IsAbsAt, NormalAbs, NormalSig};
+ghost use Rattle.signatures.specs.Signatures.Alike.{NormalSig};
 ghost use Rattle.signatures.specs.Signatures.Sig.{Fun, Sig as SigTree, Abs as AbsTree};
-ghost use Rattle.sig_laws.specs.Good.{OkModule};
+ghost use Rattle.sig_laws.specs.Good.{KindedModule};
 ghost use Rattle.semantic_sigs.specs.Made.{module_of};
 ghost use Rattle.semantic_sigs.specs.View.{kinds_of, body_of};
 ghost use Rattle.module_rules.specs.ModRules.{GenerativeGives, PartsGive, FunctorRefuses, ApplyGives, SealGives};
 ghost use Rattle.module_calls.specs.Plain.{plain_why};
 
-use crate::forms::shown_sig;
 use crate::naming::open_module;
 use crate::projecting::packed_term;
 use crate::refusal::ModRefusal;
-use omega_kinds::{Effect, Kinds, Label, Mem};
+use omega_kinds::{Effect, Label, Mem};
 use omega_terms::{Term, TermNode};
-use semantic_sigs::{Abs, Module, Sig, SigNode, Witnesses, encode_sig, instantiate};
+use semantic_sigs::{Abs, Module, Sig, SigNode, Witnesses, encode_sig, instantiate_abs};
 use std::alloc::Global;
 use term_shorthands::{insts, one_field, ty_lam_over};
 use type_normal::NormalTy;
 
-/// `gen (X : S) => M`, and `fun (X : S) => M` where M is impure; M stands under the hidden types of S and X, and is well
-/// formed there with normal types. `Err` is want of memory.
+/// `gen (X : S) => M`, and `fun (X : S) => M` where M is impure; M stands under the hidden types of S and X, and its types
+/// are normal and have their kinds there. `Err` is want of memory.
 pub fn gen_functor(alloc: Global, param: &Abs, body: Module) -> Result<Module, Mem>
-    ensures { IfOk result (λ m. (ctx : List KindTree) → OkModule (extend ctx (kinds_of param.now)) (module_of body) → GenerativeGives ctx (kinds_of param.now) (body_of param.now) (module_of body) (module_of m)) }
+    ensures { IfOk result (λ m. (ctx : List KindTree) → KindedModule (extend ctx (kinds_of param.now)) (module_of body) → GenerativeGives ctx (kinds_of param.now) (body_of param.now) (module_of body) (module_of m)) }
 {
     let term = generative_term(alloc, param, &body)?;
     let sig = generative_sig(alloc, param, body.sig)?;
@@ -42,7 +41,7 @@ pub fn gen_functor(alloc: Global, param: &Abs, body: Module) -> Result<Module, M
 
 // The term of a generative functor.
 fn generative_term(alloc: Global, param: &Abs, body: &Module) -> Result<Term, Mem>
-    ensures { IfOk result (λ e. (d : TermTree) × ((ctx : List KindTree) → OkModule ctx (module_of body.now) → Packed ctx (module_of body.now) d) × (e ≡ ty_lam_over_of (kinds_of param.now) (Lam (enc (body_of param.now)) (one_field_of label.Gen d)))) }
+    ensures { IfOk result (λ e. (d : TermTree) × ((ctx : List KindTree) → KindedModule ctx (module_of body.now) → Packed ctx (module_of body.now) d) × (e ≡ ty_lam_over_of (kinds_of param.now) (Lam (enc (body_of param.now)) (one_field_of label.Gen d)))) }
 {
     let packed = packed_term(alloc, body)?;
     let result = one_field(alloc, Label::Gen, packed)?;
@@ -122,16 +121,10 @@ pub fn apply(
         → ApplyGives ctx (body_of functor.now.sig) functor.now.term types coercion arg (module_of m)) }
     ensures refused { IfErr result (λ e. IfSome (plain_why e) (λ why. FunctorRefuses (body_of functor.now.sig) why)) }
 {
-    let SigNode::Fun {
-        effect,
-        kinds,
-        result,
-        ..
-    } = functor.sig.body().node()
-    else {
+    let SigNode::Fun { effect, result, .. } = functor.sig.body().node() else {
         return Err(ModRefusal::NotFunctor);
     };
-    let sig = abs_at(alloc, kinds, result, types.items())?;
+    let sig = instantiate_abs(alloc, result, types.items())?;
     let term = applied(alloc, *effect, &functor.term, arg, types.items(), coercion)?;
     let none = Witnesses::new(alloc);
     Ok(Module {
@@ -158,21 +151,6 @@ fn applied(
     let coerced = Term::make(alloc, TermNode::Call(coercion, arg))?;
     let called = Term::make(alloc, TermNode::Call(function, coerced))?;
     Term::make(alloc, TermNode::Get(called, result_label(effect)))
-}
-
-// An abstract signature below binders, at normal types for their variables. `Err` is want of memory.
-fn abs_at(alloc: Global, kinds: &Kinds, abs: &Abs, types: &[NormalTy]) -> Result<Abs, Mem>
-    ensures { IfOk result (λ w. (ctx : List KindTree) → NormalAbs (extend ctx kinds.now) abs.now → NormalForms ctx types.now kinds.now types.now → IsAbsAt ctx abs.now types.now w) }
-{
-    let shared = abs.share()?;
-    let part = Sig::make(alloc, SigNode::Meta(shared))?;
-    let binders = kinds.share(alloc)?;
-    let whole = Abs::make(alloc, binders, part)?;
-    let put = instantiate(alloc, &whole, types)?;
-    let Some(found) = shown_sig(&put) else {
-        return Err(Mem);
-    };
-    found.share()
 }
 
 // The label round the result of a functor of this effect.

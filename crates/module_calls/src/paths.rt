@@ -4,7 +4,7 @@ ghost use Rattle.omega_kinds.specs.Kind.{Kind as KindTree};
 ghost use Rattle.omega_kinds.specs.View.{kind_tree};
 ghost use Rattle.omega_kinds.specs.declared.effect.Effect.TheVariants.{Impure};
 ghost use Rattle.signatures.specs.Signatures.Encoding.{enc_abs};
-ghost use Rattle.sig_laws.specs.Good.{OkModule};
+ghost use Rattle.sig_laws.specs.Good.{KindedModule};
 ghost use Rattle.semantic_sigs.specs.Made.{module_of};
 ghost use Rattle.semantic_sigs.specs.View.{kinds_of};
 ghost use Rattle.module_rules.specs.ModRules.{TypePathRefuses, ValuePathRefuses, SigPathRefuses};
@@ -21,11 +21,11 @@ use semantic_sigs::{Abs, Kinded, Module, Typed};
 use std::alloc::Global;
 use term_shorthands::variable;
 
-/// A path as a type, of a module that is well formed with normal types. `WrongPath` comes exactly where the module is no
-/// type part, and `Escapes` where the type mentions a hidden type, whatever it is converted to.
+/// A path as a type, of a module whose types are normal and have their kinds. `WrongPath` comes exactly where the
+/// module is no type part, and `Escapes` where the type mentions a hidden type, whatever it is converted to.
 pub fn path_type(alloc: Global, whole: Module) -> Result<Kinded, ModRefusal>
-    ensures given { IfOk result (λ o. (ctx : List KindTree) → OkModule ctx (module_of whole) → TypeOfPath ctx (module_of whole) o.ty (kind_tree o.kind)) }
-    ensures refused { IfErr result (λ e. IfSome (plain_why e) (λ why. (ctx : List KindTree) → OkModule ctx (module_of whole) → TypePathRefuses ctx (module_of whole) why)) }
+    ensures given { IfOk result (λ o. (ctx : List KindTree) → KindedModule ctx (module_of whole) → TypeOfPath ctx (module_of whole) o.ty (kind_tree o.kind)) }
+    ensures refused { IfErr result (λ e. IfSome (plain_why e) (λ why. (ctx : List KindTree) → KindedModule ctx (module_of whole) → TypePathRefuses ctx (module_of whole) why)) }
 {
     let Some(shown) = kinded_type(whole.sig.body()) else {
         return Err(ModRefusal::WrongPath);
@@ -38,12 +38,12 @@ pub fn path_type(alloc: Global, whole: Module) -> Result<Kinded, ModRefusal>
     Ok(Kinded { ty, kind })
 }
 
-/// A path as a value, of a module that is well formed with normal types; the hidden types of an impure one are opened.
-/// `WrongPath` comes exactly where the module is no value part, and `Escapes` where the type mentions a hidden type,
-/// whatever it is converted to.
+/// A path as a value, of a module whose types are normal and have their kinds; the hidden types of an impure one are
+/// opened. `WrongPath` comes exactly where the module is no value part, and `Escapes` where the type mentions a hidden
+/// type, whatever it is converted to.
 pub fn path_value(alloc: Global, whole: Module) -> Result<Typed, ModRefusal>
-    ensures given { IfOk result (λ o. (ctx : List KindTree) → OkModule ctx (module_of whole) → ValueOfPath ctx (module_of whole) o.ty o.term) }
-    ensures refused { IfErr result (λ e. IfSome (plain_why e) (λ why. (ctx : List KindTree) → OkModule ctx (module_of whole) → ValuePathRefuses ctx (module_of whole) why)) }
+    ensures given { IfOk result (λ o. (ctx : List KindTree) → KindedModule ctx (module_of whole) → ValueOfPath ctx (module_of whole) o.ty o.term) }
+    ensures refused { IfErr result (λ e. IfSome (plain_why e) (λ why. (ctx : List KindTree) → KindedModule ctx (module_of whole) → ValuePathRefuses ctx (module_of whole) why)) }
 {
     let Some(shown) = value_type(whole.sig.body()) else {
         return Err(ModRefusal::WrongPath);
@@ -56,11 +56,11 @@ pub fn path_value(alloc: Global, whole: Module) -> Result<Typed, ModRefusal>
     Ok(Typed { ty, term })
 }
 
-/// A path as a signature, of a module that is well formed with normal types. `WrongPath` comes exactly where the module is
-/// no signature part, and `Escapes` where the signature mentions a hidden type, whatever it is converted to.
+/// A path as a signature, of a module whose types are normal and have their kinds. `WrongPath` comes exactly where the
+/// module is no signature part, and `Escapes` where the signature mentions a hidden type, whatever it is converted to.
 pub fn path_sig(alloc: Global, whole: Module) -> Result<Abs, ModRefusal>
-    ensures given { IfOk result (λ x. (ctx : List KindTree) → OkModule ctx (module_of whole) → SigOfPath ctx (module_of whole) x) }
-    ensures refused { IfErr result (λ e. IfSome (plain_why e) (λ why. (ctx : List KindTree) → OkModule ctx (module_of whole) → SigPathRefuses ctx (module_of whole) why)) }
+    ensures given { IfOk result (λ x. (ctx : List KindTree) → KindedModule ctx (module_of whole) → SigOfPath ctx (module_of whole) x) }
+    ensures refused { IfErr result (λ e. IfSome (plain_why e) (λ why. (ctx : List KindTree) → KindedModule ctx (module_of whole) → SigPathRefuses ctx (module_of whole) why)) }
 {
     let Some(_hiding) = shown_sig(whole.sig.body()) else {
         return Err(ModRefusal::WrongPath);

@@ -7,7 +7,7 @@ ghost use Rattle.omega_terms.specs.Term.{Get, Term as TermTree, Var};
 ghost use Rattle.signatures.specs.Signatures.Encoding.{enc_abs};
 ghost use Rattle.signatures.specs.Signatures.Sig.{Ex, HasField, Sig as SigTree, SigRow, Str};
 ghost use Rattle.signatures.specs.Packing.{Packed};
-ghost use Rattle.sig_laws.specs.Good.{OkModule};
+ghost use Rattle.sig_laws.specs.Good.{KindedModule};
 ghost use Rattle.semantic_sigs.specs.Made.{module_of};
 ghost use Rattle.semantic_sigs.specs.View.{kinds_of, body_of};
 ghost use Rattle.module_rules.specs.ModRules.{ProjectRefuses};
@@ -27,10 +27,11 @@ use semantic_sigs::{Abs, Module, Sig, Witnesses, encode, find_field};
 use std::alloc::Global;
 use term_shorthands::{opens, pack_up, variable};
 
-/// `M.X`, M being well formed with normal types. An impure module is opened, and what it hides is packed again with the
-/// part. `NotStructure` comes exactly where M is no structure, and `NoPart` where the structure has no part X.
+/// `M.X`, where the types of M are normal and have their kinds. An impure module is opened, and what it hides is packed
+/// again with the part. `NotStructure` comes exactly where M is no structure, and `NoPart` where the structure has no part
+/// X.
 pub fn project(alloc: Global, whole: Module, name: &Name) -> Result<Module, ModRefusal>
-    ensures given { IfOk result (λ m. (ctx : List KindTree) → OkModule ctx (module_of whole) → Projected ctx (module_of whole) name.now (module_of m)) }
+    ensures given { IfOk result (λ m. (ctx : List KindTree) → KindedModule ctx (module_of whole) → Projected ctx (module_of whole) name.now (module_of m)) }
     ensures refused { IfErr result (λ e. IfSome (plain_why e) (λ why. ProjectRefuses (module_of whole) name.now why)) }
 {
     let Some(fields) = fields_of(whole.sig.body()) else {
@@ -44,7 +45,7 @@ pub fn project(alloc: Global, whole: Module, name: &Name) -> Result<Module, ModR
 
 // The module that a part of a structure is. `Err` is want of memory, as for all calls below.
 fn part_of(alloc: Global, whole: &Module, name: &Name, part: &Sig) -> Result<Module, Mem>
-    ensures { IfOk result (λ m. (fs : SigRow) → body_of whole.now.sig ≡ Str fs → HasField fs name.now part.now → (ctx : List KindTree) → OkModule ctx (module_of whole.now) → Projected ctx (module_of whole.now) name.now (module_of m)) }
+    ensures { IfOk result (λ m. (fs : SigRow) → body_of whole.now.sig ≡ Str fs → HasField fs name.now part.now → (ctx : List KindTree) → KindedModule ctx (module_of whole.now) → Projected ctx (module_of whole.now) name.now (module_of m)) }
 {
     let kinds = whole.sig.kinds().share(alloc)?;
     let body = part.share()?;
@@ -57,7 +58,7 @@ fn part_of(alloc: Global, whole: &Module, name: &Name, part: &Sig) -> Result<Mod
 
 // The part of a pure module.
 fn pure_part(alloc: Global, whole: &Module, name: &Name, sig: &Abs) -> Result<Module, Mem>
-    ensures { IfOk result (λ m. (fs : SigRow) (s : SigTree) → whole.now.effect ≡ Pure → body_of whole.now.sig ≡ Str fs → HasField fs name.now s → sig.now ≡ Ex (kinds_of whole.now.sig) s → (ctx : List KindTree) → OkModule ctx (module_of whole.now) → Projected ctx (module_of whole.now) name.now (module_of m)) }
+    ensures { IfOk result (λ m. (fs : SigRow) (s : SigTree) → whole.now.effect ≡ Pure → body_of whole.now.sig ≡ Str fs → HasField fs name.now s → sig.now ≡ Ex (kinds_of whole.now.sig) s → (ctx : List KindTree) → KindedModule ctx (module_of whole.now) → Projected ctx (module_of whole.now) name.now (module_of m)) }
 {
     let types = whole.types.share(alloc)?;
     let term = named_part(alloc, &whole.term, name)?;
@@ -72,7 +73,7 @@ fn pure_part(alloc: Global, whole: &Module, name: &Name, sig: &Abs) -> Result<Mo
 
 // The part of an impure module.
 fn impure_part(alloc: Global, whole: &Module, name: &Name, sig: &Abs) -> Result<Module, Mem>
-    ensures { IfOk result (λ m. (fs : SigRow) (s : SigTree) → whole.now.effect ≡ Impure → body_of whole.now.sig ≡ Str fs → HasField fs name.now s → sig.now ≡ Ex (kinds_of whole.now.sig) s → (ctx : List KindTree) → OkModule ctx (module_of whole.now) → Projected ctx (module_of whole.now) name.now (module_of m)) }
+    ensures { IfOk result (λ m. (fs : SigRow) (s : SigTree) → whole.now.effect ≡ Impure → body_of whole.now.sig ≡ Str fs → HasField fs name.now s → sig.now ≡ Ex (kinds_of whole.now.sig) s → (ctx : List KindTree) → KindedModule ctx (module_of whole.now) → Projected ctx (module_of whole.now) name.now (module_of m)) }
 {
     let term = opened_part(alloc, whole, name, sig)?;
     let sig = sig.share()?;
@@ -97,7 +98,7 @@ fn opened_part(alloc: Global, whole: &Module, name: &Name, sig: &Abs) -> Result<
 }
 
 // The part of a term under a name.
-fn named_part(alloc: Global, term: &Term, name: &Name) -> Result<Term, Mem>
+pub(crate) fn named_part(alloc: Global, term: &Term, name: &Name) -> Result<Term, Mem>
     ensures { IfOk result (λ e. e ≡ Get term.now (label.Name name.now)) }
 {
     let whole = term.share()?;
@@ -139,17 +140,17 @@ pub(crate) fn opened(alloc: Global, term: Term, sig: &Abs, body: Term) -> Result
     opens(alloc, count_of(sig.kinds()), term, &from, body)
 }
 
-/// The term of a module, which is well formed with normal types, with the types that its signature hides packed into it;
-/// an impure one has them packed already. `Err` is want of memory.
+/// The term of a module, whose types are normal and have their kinds, with the types that its signature hides packed into
+/// it; an impure one has them packed already. `Err` is want of memory.
 pub fn packed(alloc: Global, whole: Module) -> Result<Term, Mem>
-    ensures { IfOk result (λ e. (ctx : List KindTree) → OkModule ctx (module_of whole) → Packed ctx (module_of whole) e) }
+    ensures { IfOk result (λ e. (ctx : List KindTree) → KindedModule ctx (module_of whole) → Packed ctx (module_of whole) e) }
 {
     packed_term(alloc, &whole)
 }
 
 // The same, the module being kept.
 pub(crate) fn packed_term(alloc: Global, whole: &Module) -> Result<Term, Mem>
-    ensures { IfOk result (λ e. (ctx : List KindTree) → OkModule ctx (module_of whole.now) → Packed ctx (module_of whole.now) e) }
+    ensures { IfOk result (λ e. (ctx : List KindTree) → KindedModule ctx (module_of whole.now) → Packed ctx (module_of whole.now) e) }
 {
     match whole.effect {
         Effect::Pure => packed_pure(alloc, whole),

@@ -11,7 +11,7 @@ ghost use Rattle.signatures.specs.Packing.{Packed};
 ghost use Rattle.signatures.specs.Signatures.Alike.{IsSigAt, NormalAbs};
 ghost use Rattle.signatures.specs.Signatures.Encoding.{enc};
 ghost use Rattle.signatures.specs.Signatures.Sig.{Abs as AbsTree, Sig as SigTree};
-ghost use Rattle.sig_laws.specs.Good.{NormalTerm, OkModule};
+ghost use Rattle.sig_laws.specs.Good.{NormalTerm, KindedModule};
 ghost use Rattle.semantic_sigs.specs.Changes.{putting, ty_in};
 ghost use Rattle.semantic_sigs.specs.Fields.{sig_row};
 ghost use Rattle.semantic_sigs.specs.Made.{module_of};
@@ -34,11 +34,11 @@ use term_shorthands::{let_in, variable};
 
 /// A binding and the rest of a structure, which stands under the hidden types of the binding and its name. Where both are
 /// pure, the types that the first one keeps are put into the rest; else both are packed, the first one is opened, and
-/// what both hide is packed again. Both are well formed with normal types. `Err` is want of memory.
+/// what both hide is packed again. The types of both are normal and have their kinds. `Err` is want of memory.
 ///
 /// Rossberg, Russo and Dreyer, "F-ing modules", sections 4 and 7.
 pub fn seq_bind(alloc: Global, first: Module, rest: Module) -> Result<Module, Mem>
-    ensures { IfOk result (λ m. (ctx : List KindTree) → OkModule ctx (module_of first) → OkModule (extend ctx (kinds_of first.sig)) (module_of rest) → Seq ctx (module_of first) (module_of rest) (module_of m)) }
+    ensures { IfOk result (λ m. (ctx : List KindTree) → KindedModule ctx (module_of first) → KindedModule (extend ctx (kinds_of first.sig)) (module_of rest) → Seq ctx (module_of first) (module_of rest) (module_of m)) }
 {
     if both_pure(first.effect, rest.effect) {
         return pure_sequence(alloc, first, rest);
@@ -61,9 +61,9 @@ fn both_pure(first: Effect, rest: Effect) -> bool
 }
 
 /// `include M` and the rest, which stands under the hidden types of M, a name of its own and then the labels of M in their
-/// order. Both are well formed with normal types. `NotStructure` comes exactly where M is no structure.
+/// order. The types of both are normal and have their kinds. `NotStructure` comes exactly where M is no structure.
 pub fn include_bind(alloc: Global, first: Module, rest: Module) -> Result<Module, ModRefusal>
-    ensures given { IfOk result (λ m. (ctx : List KindTree) → OkModule ctx (module_of first) → OkModule (extend ctx (kinds_of first.sig)) (module_of rest) → IncludeGives ctx (module_of first) (module_of rest) (module_of m)) }
+    ensures given { IfOk result (λ m. (ctx : List KindTree) → KindedModule ctx (module_of first) → KindedModule (extend ctx (kinds_of first.sig)) (module_of rest) → IncludeGives ctx (module_of first) (module_of rest) (module_of m)) }
     ensures refused { IfErr result (λ e. IfSome (plain_why e) (λ why. IncludeRefuses (module_of first) why)) }
 {
     let Some(fields) = fields_of(first.sig.body()) else {
@@ -133,7 +133,7 @@ fn both_sigs(alloc: Global, first: &Abs, rest: &Abs) -> Result<Abs, Mem>
 
 // Two pure ones.
 fn pure_sequence(alloc: Global, first: Module, rest: Module) -> Result<Module, Mem>
-    ensures { IfOk result (λ m. first.effect ≡ Pure → rest.effect ≡ Pure → (ctx : List KindTree) → OkModule ctx (module_of first) → OkModule (extend ctx (kinds_of first.sig)) (module_of rest) → Seq ctx (module_of first) (module_of rest) (module_of m)) }
+    ensures { IfOk result (λ m. first.effect ≡ Pure → rest.effect ≡ Pure → (ctx : List KindTree) → KindedModule ctx (module_of first) → KindedModule (extend ctx (kinds_of first.sig)) (module_of rest) → Seq ctx (module_of first) (module_of rest) (module_of m)) }
 {
     let sig = both_sigs(alloc, &first.sig, &rest.sig)?;
     let types = both_types(alloc, &first.types, &rest.types)?;
@@ -162,7 +162,7 @@ fn bound_term(alloc: Global, first: &Module, rest: &Term) -> Result<Term, Mem>
 
 // Two of which one is impure, or both are.
 fn impure_sequence(alloc: Global, first: Module, rest: Module) -> Result<Module, Mem>
-    ensures { IfOk result (λ m. joined first.effect rest.effect ≡ Impure → (ctx : List KindTree) → OkModule ctx (module_of first) → OkModule (extend ctx (kinds_of first.sig)) (module_of rest) → Seq ctx (module_of first) (module_of rest) (module_of m)) }
+    ensures { IfOk result (λ m. joined first.effect rest.effect ≡ Impure → (ctx : List KindTree) → KindedModule ctx (module_of first) → KindedModule (extend ctx (kinds_of first.sig)) (module_of rest) → Seq ctx (module_of first) (module_of rest) (module_of m)) }
 {
     let sig = both_sigs(alloc, &first.sig, &rest.sig)?;
     let term = opened_term(alloc, &first, &rest, &sig)?;
@@ -187,7 +187,7 @@ fn opened_term(alloc: Global, first: &Module, rest: &Module, whole: &Abs) -> Res
 
 // The rest, packed, below the opens of binders of these kinds.
 fn last_term(alloc: Global, kinds: &Kinds, rest: &Module) -> Result<Term, Mem>
-    ensures { IfOk result (λ e. (q : TermTree) × ((ctx : List KindTree) → OkModule ctx (module_of rest.now) → Packed ctx (module_of rest.now) q) × (e ≡ past_opens_of kinds.now q)) }
+    ensures { IfOk result (λ e. (q : TermTree) × ((ctx : List KindTree) → KindedModule ctx (module_of rest.now) → Packed ctx (module_of rest.now) q) × (e ≡ past_opens_of kinds.now q)) }
 {
     let packed = packed_term(alloc, rest)?;
     past_opens(alloc, packed, count_of(kinds))

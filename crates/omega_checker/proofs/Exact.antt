@@ -5,6 +5,7 @@ use Rattle.std.specs.Ordering.{is_eq}
 use Rattle.omega_kinds.specs.Kind.{Kind}
 use Rattle.omega_kinds.specs.LabelOrder.{label_cmp}
 use Rattle.omega_kinds.specs.declared.label.Label.{Label}
+use Rattle.omega_kinds.proofs.LabelLaws.{label-yes, label-self}
 use Rattle.std.proofs.Math.Path.{fun_ext}
 use Rattle.omega_types.specs.Ty.{Ty, Row, lift}
 use Rattle.omega_types.specs.Index.{i_here}
@@ -26,7 +27,7 @@ use Rattle.omega_laws.specs.Synthesis.{Synth, SynthFields}
 use Rattle.omega_laws.proofs.Synthesised.{sound, exact, synth-normal, synth_cast, revar, same_cons, same_refl, nf_nf, nf_kind, nf_shifted, all_body}
 use Rattle.omega_checker.specs.Found.{and_then, normal_at, put_normal, call_type, let_type, inst_type, get_type, if_same, pack_type, lowered, of_package, if_type, op_type, fix_type, more_type, is_new, labels_differ, synth_in, synth_row}
 use Rattle.omega_checker.specs.SameTy.{same_ty}
-use Rattle.omega_checker.proofs.Trees.{truths, both-true, true-both, same_ty-yes, same_ty-self, label-yes, label-self, no}
+use Rattle.omega_checker.proofs.Trees.{truths, both-true, true-both, same_ty-yes, same_ty-self, no}
 use Rattle.omega_checker.proofs.Inverted.{some-same, if-yes, and_then-yes, map-yes, normal_at-yes, normal_at-of, call-yes, let-cases, inst-yes, part_at-of, get-yes, pack-yes, package-yes, lowered-yes, if_type-yes, op-yes, fix-yes, more-yes, get-at}
 
 -- ---- normal types in the context

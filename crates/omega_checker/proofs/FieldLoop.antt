@@ -3,16 +3,17 @@ use Rattle.std.proofs.Common.{◌≡◌, ℕ, zero, suc, ◌+◌, ◌<◌, ◌�
 use Rattle.std.proofs.lemmas.List.{drop_all}
 use Rattle.std.proofs.Math.Seq.{take-suc}
 use Rattle.std.specs.Option.{option_map}
+use Rattle.std.specs.Ordering.{is_eq}
 use Rattle.omega_kinds.specs.Kind.{Kind}
-use Rattle.omega_kinds.specs.LabelOrder.{LabelBefore}
+use Rattle.omega_kinds.specs.LabelOrder.{LabelBefore, label_cmp}
 use Rattle.omega_kinds.specs.declared.label.Label.{Label}
 use Rattle.omega_kinds.proofs.LabelLaws.{transitive}
 use Rattle.omega_types.specs.Ty.{Ty, Row}
-use Rattle.omega_types.specs.Fields.{Pairs, row, Rises, MayFollow}
+use Rattle.omega_types.specs.Fields.{Pairs, row, Rises, MayFollow, at_label}
 use Rattle.omega_types.proofs.KindsFound.{before-not}
 use Rattle.omega_terms.specs.Term.{Term, TermRow}
 use Rattle.omega_terms.specs.Fields.{TermPairs, term_row}
-use Rattle.omega_checker.specs.Found.{synth_in, synth_row, more_type, is_new, labels_differ}
+use Rattle.omega_checker.specs.Found.{synth_in, synth_row, more_type, part_at, is_new, labels_differ}
 
 next : (n : ℕ) → suc n ≡ n + 1
 next n = omega arith
@@ -109,3 +110,8 @@ labels-more i xs types more x l t e p is j m =
 pub none-is : {A : Type 0} (o : Option A) → ((x : A) → o ≡ Some x → ⊥) → None ≡ o
 none-is None h = refl
 none-is (Some x) h = absurd (h x refl)
+
+-- the type at a label, in a list and in its row
+pub part_at-row : (xs : Pairs) (l : Label) → part_at (row xs) l ≡ at_label xs l
+part_at-row [] l = refl
+part_at-row (x ∷ xs) l = ap (λ (o : Option Ty). if is_eq (label_cmp x.0 l) then Some x.1 else o) (part_at-row xs l)

@@ -5,6 +5,7 @@ use Rattle.std.specs.Ordering.{is_eq}
 use Rattle.omega_kinds.specs.Kind.{Kind, kind_eq}
 use Rattle.omega_kinds.specs.LabelOrder.{label_cmp}
 use Rattle.omega_kinds.specs.declared.label.Label.{Label}
+use Rattle.omega_kinds.proofs.LabelLaws.{label-yes, label-self}
 use Rattle.omega_types.specs.Ty.{Ty, Row}
 use Rattle.omega_types.specs.KindIn.{kind_in}
 use Rattle.omega_types.specs.Kinding.{HasKind}
@@ -20,7 +21,7 @@ use Rattle.omega_terms.specs.declared.op.Op.{Op}
 use Rattle.omega_terms.specs.Typing.{At, HasPart, result_type}
 use Rattle.omega_checker.specs.Found.{and_then, if_kind, normal_at, put_normal, called, call_type, let_type, instantiated, inst_type, part_at, part_of, get_type, if_same, packed, pack_type, lowered, of_package, if_type, op_type, fix_type, more_type}
 use Rattle.omega_checker.specs.SameTy.{same_ty}
-use Rattle.omega_checker.proofs.Trees.{both-true, kind_eq-yes, kind_eq-self, same_ty-yes, label-yes, label-self, no}
+use Rattle.omega_checker.proofs.Trees.{both-true, kind_eq-yes, kind_eq-self, same_ty-yes, no}
 
 none-some : {A B : Type 0} {x : A} → None ≡ Some x → B
 none-some {x = x} e = absurd (let f : None ≡ Some x → ⊥ = λ p. cc in f e)

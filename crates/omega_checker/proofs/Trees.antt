@@ -1,13 +1,9 @@
 -- Equality of types is decided by comparing them form by form; small facts on truth values.
 use Rattle.std.proofs.Common.{◌≡◌, ◌↔◌, ℕ, Bool as Truth, true, false, ◌&&◌, IsTrue, refl, ap, ap₂, subst, eqb-true, eq-eqb}
-use Rattle.std.proofs.lemmas.Cmp.{tied_itself}
 use Rattle.std.specs.Ordering.{is_eq}
-use Rattle.std.specs.declared.cmp.Ordering.{Ordering}
-use Rattle.std.specs.declared.cmp.Ordering.TheVariants.{Less, Equal, Greater}
 use Rattle.omega_kinds.specs.Kind.{Kind, kind_eq}
 use Rattle.omega_kinds.specs.LabelOrder.{label_cmp}
-use Rattle.omega_kinds.specs.declared.label.Label.{Label}
-use Rattle.omega_kinds.proofs.LabelLaws.{label_total, label_exact}
+use Rattle.omega_kinds.proofs.LabelLaws.{label-yes, label-self}
 use Rattle.omega_types.specs.Ty.{Ty, Row}
 use Rattle.omega_types.specs.Mentions.{Mentions}
 use Rattle.type_normal.specs.Mentioned.{is_mentioned}
@@ -40,17 +36,6 @@ kind_eq-yes (Kind.Arrow a b) (Kind.Arrow c d) e =
 pub kind_eq-self : (a : Kind) → kind_eq a a ≡ true
 kind_eq-self Kind.Star = refl
 kind_eq-self (Kind.Arrow a b) = true-both (kind_eq a a) (kind_eq b b) (kind_eq-self a) (kind_eq-self b)
-
-eq-yes : (o : Ordering) → is_eq o ≡ true → o ≡ Equal
-eq-yes Less e = no e
-eq-yes Equal e = refl
-eq-yes Greater e = no e
-
-pub label-yes : (l m : Label) → is_eq (label_cmp l m) ≡ true → l ≡ m
-label-yes l m e = label_exact l m (eq-yes (label_cmp l m) e)
-
-pub label-self : (l : Label) → is_eq (label_cmp l l) ≡ true
-label-self l = ap is_eq (tied_itself label_total l)
 
 mutual
   pub same_ty-yes : (s t : Ty) → same_ty s t ≡ true → s ≡ t

@@ -1,8 +1,6 @@
 // The typing rule of each form, from the types of its parts.
 ghost use Rattle.std.specs.Prelude.{◌≡◌, zero, IfOk};
 ghost use Rattle.std.specs.Option.{option_map};
-ghost use Rattle.std.specs.Ordering.{is_eq};
-ghost use Rattle.omega_kinds.specs.LabelOrder.{label_cmp};
 ghost use Rattle.omega_kinds.specs.View.{kind_tree};
 ghost use Rattle.omega_types.specs.Fields.{row};
 ghost use Rattle.omega_types.specs.KindIn.{kind_in};
@@ -16,7 +14,7 @@ ghost use Rattle.omega_checker.specs.SameTy.{same_ty};
 
 use crate::normality::is_normal;
 use crate::putting::is_put;
-use omega_kinds::{Kind, Label, Mem, compare, same_kind};
+use omega_kinds::{Kind, Label, Mem, same_kind};
 use omega_terms::Op;
 use omega_types::{Ty, TyFields, TyNode, kind_of};
 use std::alloc::Global;
@@ -139,19 +137,10 @@ pub(crate) fn instantiated(
 fn part_at(fields: &TyFields, label: &Label) -> Result<Option<NormalTy>, Mem>
     ensures { IfOk result (λ o. o ≡ part_at_of (row fields.now) label.now) }
 {
-    for field in fields.items() {
-        if is_at(&field.0, label) {
-            return Ok(Some(part(&field.1)?));
-        }
+    match fields.find(label) {
+        Some(ty) => Ok(Some(part(ty)?)),
+        None => Ok(None),
     }
-    Ok(None)
-}
-
-// Whether a label is the one that is looked for.
-fn is_at(label: &Label, wanted: &Label) -> bool
-    ensures { result ≡ is_eq (label_cmp label.now wanted.now) }
-{
-    compare(label, wanted).is_eq()
 }
 
 /// The type of a field.

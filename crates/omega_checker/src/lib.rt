@@ -4,7 +4,7 @@
 // exists only for a closed term with a closed type that it has.
 #![tactic(auto)]
 
-pub mod checked;
+mod checked;
 mod forms;
 mod normality;
 mod putting;

@@ -6,7 +6,7 @@ use Rattle.std.proofs.lemmas.Bool.{false≢true}
 use Rattle.std.proofs.lemmas.Cmp.{then_total, on_total, nat_cmp_total, nat_list_cmp_total, tied_itself}
 use Rattle.std.proofs.lemmas.Map.Lookups.{CmpEqualImpliesEq, exact_bytes}
 use Rattle.std.specs.Cmp.{IsTotalOrder}
-use Rattle.std.specs.Ordering.{nat_cmp, is_lt, ordering_then, ordering_reverse}
+use Rattle.std.specs.Ordering.{nat_cmp, is_eq, is_lt, ordering_then, ordering_reverse}
 use Rattle.std.specs.declared.cmp.Ordering.{Ordering}
 use Rattle.std.specs.declared.cmp.Ordering.TheVariants.{Less, Equal, Greater}
 use Rattle.omega_kinds.specs.declared.label.Label.{Label}
@@ -38,6 +38,17 @@ by_rank l m e f = absurd (cc)
 
 pub label_exact : CmpEqualImpliesEq label_cmp
 label_exact l m e = let both = equal_from_then (nat_cmp (rank l) (rank m)) (name_cmp (spelling l) (spelling m)) e in by_rank l m both.0 (exact_bytes (spelling l) (spelling m) both.1)
+
+equal_from_is_eq : (o : Ordering) → is_eq o ≡ true → o ≡ Equal
+equal_from_is_eq Less e = absurd (false≢true e)
+equal_from_is_eq Equal e = refl
+equal_from_is_eq Greater e = absurd (false≢true e)
+
+pub label-yes : (l m : Label) → is_eq (label_cmp l m) ≡ true → l ≡ m
+label-yes l m e = label_exact l m (equal_from_is_eq (label_cmp l m) e)
+
+pub label-self : (l : Label) → is_eq (label_cmp l l) ≡ true
+label-self l = ap is_eq (tied_itself label_total l)
 
 pub irreflexive : (l : Label) → LabelBefore l l → ⊥
 irreflexive l h = absurd (false≢true (sym (ap is_lt (tied_itself label_total l)) ∙ h))

@@ -4,14 +4,14 @@
 // ones first and then the names by their bytes; lists of kinds and of names are lists; `share` gives the same value.
 #![tactic(auto)]
 
-pub mod effect;
-pub mod extent;
-pub mod kind;
-pub mod kinds;
-pub mod label;
-pub mod memory;
-pub mod name;
-pub mod names;
+mod effect;
+mod extent;
+mod kind;
+mod kinds;
+mod label;
+mod memory;
+mod name;
+mod names;
 
 pub use effect::Effect;
 pub use extent::{Extent, NOTHING};

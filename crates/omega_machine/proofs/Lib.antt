@@ -1,7 +1,6 @@
 pub mod TermAlgebra
 pub mod Puts
 pub mod Canonical
-pub mod FieldSearch
 pub mod Numbers
 pub mod Reduced
 pub mod Plugs

@@ -9,7 +9,7 @@ ghost use Rattle.omega_machine.specs.Reducts.{Reduces};
 use crate::arithmetic::compute;
 use crate::frames::{Focus, Ready};
 use crate::outcome::Arith;
-use omega_kinds::{Label, Mem, same_label};
+use omega_kinds::{Label, Mem};
 use omega_terms::{Op, Term, TermNode, put_term, put_type, shift_term};
 use omega_types::Ty;
 use std::alloc::Global;
@@ -77,12 +77,10 @@ fn get(whole: &Term, label: &Label) -> Result<Term, Mem>
     let TermNode::Fields(fields) = whole.node() else {
         unreachable!()
     };
-    for field in fields.items() {
-        if same_label(&field.0, label) {
-            return field.1.share();
-        }
+    match fields.find(label) {
+        Some(part) => part.share(),
+        None => unreachable!(),
     }
-    unreachable!()
 }
 
 // The body of an open with the hidden type and the packed value put in.

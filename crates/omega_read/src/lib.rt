@@ -1,5 +1,5 @@
 // The text of System Fω, read into a type and a term.
-// Stands on omega_spelling, whose definitions say what is read and why bytes are refused.
+// Stands on omega_spelling, whose definitions say what is read and why bytes are refused, and on thiserror.
 // Proved: `read` gives exactly the type and the term whose text the bytes are, and each refusal exactly where it is
 // the first that holds; a written text is read back to the same type and term. Want of memory alone is free.
 #![tactic(auto)]

@@ -5,13 +5,13 @@
 // where its parts are.
 #![tactic(auto)]
 
-pub mod counting;
-pub mod op;
-pub mod putting_terms;
-pub mod putting_types;
-pub mod shifting;
-pub mod theory;
-pub mod tree;
+mod counting;
+mod op;
+mod putting_terms;
+mod putting_types;
+mod shifting;
+mod theory;
+mod tree;
 
 pub use counting::nodes;
 pub use op::Op;

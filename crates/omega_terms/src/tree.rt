@@ -1,7 +1,7 @@
 // Terms, whose parts are shared.
 ghost use Rattle.std.specs.Prelude.{◌≡◌, ◌↔◌, ◌≤◌, ◌+◌, ◌++◌, ◌∷◌, [], IsTrue, IfOk, OnOk, OnErr, slice_get};
 ghost use Rattle.std.specs.Option.{option_copied};
-ghost use Rattle.omega_types.specs.Fields.{Rises, MayFollow};
+ghost use Rattle.omega_types.specs.Fields.{Rises, MayFollow, at_label};
 ghost use Rattle.omega_terms.specs.Bound.{type_bound, term_bound, pairs_type_bound, pairs_term_bound};
 ghost use Rattle.omega_terms.specs.Height.{term_height};
 ghost use Rattle.omega_terms.specs.Steps.{IsValue};
@@ -9,7 +9,7 @@ ghost use Rattle.omega_terms.specs.ValueTest.{value_test};
 ghost use Rattle.omega_terms.specs.View.{term_of};
 
 use crate::op::Op;
-use omega_kinds::{Extent, Kind, Label, Mem, NOTHING, Name};
+use omega_kinds::{Extent, Kind, Label, Mem, NOTHING, Name, compare};
 use omega_types::{Ty, next_level};
 use std::alloc::Global;
 use std::marker::Model;
@@ -334,6 +334,20 @@ impl TermFields {
         ensures { option_copied result ≡ slice_get self.now i }
     {
         self.pairs.get(i)
+    }
+
+    /// The term at a label; `None` exactly where no field has it. Takes no memory, and so many comparisons as the
+    /// number of fields has binary digits.
+    pub fn find(&self, label: &Label) -> Option<&Term>
+        ensures { option_copied result ≡ at_label self.now label.now }
+    {
+        match self
+            .pairs
+            .binary_search_by(|field| compare(&field.0, label))
+        {
+            Ok(at) => Some(&self.pairs[at].1),
+            Err(_) => None,
+        }
     }
 
     // The least number above all free type indexes of the fields.

@@ -1,6 +1,6 @@
 // Worked terms that are shared, raised and filled.
 use crate::texts::{below_functions, term};
-use omega_kinds::Mem;
+use omega_kinds::{Label, Mem};
 use omega_terms::{Term, TermNode, nodes, put_term, put_type, shift_term};
 use omega_types::{Ty, TyNode};
 use std::alloc::Global;
@@ -29,6 +29,26 @@ fn a_record_is_shared(rt: HostRuntime) -> Result<(), Fail> {
     let shared = term(rt.alloc(), "(rec (.val -1) (x true))")?.share()?;
     assert!(rt; shared.is_value());
     assert_eq!(rt; nodes(&shared), 3);
+    Ok(())
+}
+
+// Each label finds the number of its own field, and no other label finds any.
+#[test]
+fn a_field_by_its_label(rt: HostRuntime) -> Result<(), Fail> {
+    let record = term(rt.alloc(), "(rec (.val 0) (.typ 1) (a 2) (b 3) (bb 4))")?;
+    let TermNode::Fields(fields) = record.node() else {
+        return Err("no record")?;
+    };
+    for (at, (label, _)) in fields.items().iter().enumerate() {
+        let found = fields.find(label).ok_or("no field")?;
+        assert!(rt;
+            matches!(found.node(), TermNode::Int(number) if *number == at as i64),
+            "at {at}"
+        );
+    }
+    for absent in [Label::Sig, Label::Gen] {
+        assert!(rt; fields.find(&absent).is_none());
+    }
     Ok(())
 }
 

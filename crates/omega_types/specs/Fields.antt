@@ -1,7 +1,8 @@
 -- The fields of a record, as a list of labels with their types, and as the row of the plain tree.
-use Rattle.std.specs.Prelude.{List, [], ◌∷◌}
+use Rattle.std.specs.Prelude.{List, [], ◌∷◌, Option, Some, None, if◌then◌else◌}
+use Rattle.std.specs.Ordering.{is_eq}
 use Rattle.omega_kinds.specs.declared.label.Label.{Label}
-use Rattle.omega_kinds.specs.LabelOrder.{LabelBefore}
+use Rattle.omega_kinds.specs.LabelOrder.{LabelBefore, label_cmp}
 use Rattle.omega_types.specs.Ty.{Ty, Row}
 
 abbrev pub Pairs : Type 0
@@ -22,3 +23,8 @@ abbrev pub MayFollow : {T : Type 0} → List (Label × T) → Label → Type 0
 MayFollow [] l = Unit {0}
 MayFollow (x ∷ []) l = LabelBefore x.0 l
 MayFollow (x ∷ y ∷ xs) l = MayFollow (y ∷ xs) l
+
+-- what stands at a label, in the first field that has it
+abbrev pub at_label : {T : Type 0} → List (Label × T) → Label → Option T
+at_label [] l = None
+at_label (x ∷ xs) l = if is_eq (label_cmp x.0 l) then Some x.1 else at_label xs l

@@ -4,12 +4,12 @@
 // one normal form, which hereditary substitution computes, and conversion is decided by it.
 #![tactic(auto)]
 
-pub mod kinding;
-pub mod levels;
-pub mod putting;
-pub mod shifting;
-pub mod theory;
-pub mod tree;
+mod kinding;
+mod levels;
+mod putting;
+mod shifting;
+mod theory;
+mod tree;
 
 pub use kinding::{kind_of, share_context, variable_kind};
 pub use levels::next_level;

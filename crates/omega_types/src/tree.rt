@@ -2,12 +2,12 @@
 ghost use Rattle.std.specs.Prelude.{◌≡◌, ◌≤◌, ◌+◌, ◌++◌, ◌∷◌, [], IfOk, OnOk, OnErr, slice_get};
 ghost use Rattle.std.specs.Option.{option_copied};
 ghost use Rattle.omega_types.specs.Bound.{bound_of, bound_pairs};
-ghost use Rattle.omega_types.specs.Fields.{Rises, MayFollow};
+ghost use Rattle.omega_types.specs.Fields.{Rises, MayFollow, at_label};
 ghost use Rattle.omega_types.specs.Height.{height};
 ghost use Rattle.omega_types.specs.View.{ty_of};
 
 use crate::levels::next_level;
-use omega_kinds::{Extent, Kind, Label, Mem, NOTHING};
+use omega_kinds::{Extent, Kind, Label, Mem, NOTHING, compare};
 use std::alloc::Global;
 use std::marker::Model;
 use std::rc::Rc;
@@ -235,6 +235,20 @@ impl TyFields {
         ensures { option_copied result ≡ slice_get self.now i }
     {
         self.pairs.get(i)
+    }
+
+    /// The type at a label; `None` exactly where no field has it. Takes no memory, and so many comparisons as the
+    /// number of fields has binary digits.
+    pub fn find(&self, label: &Label) -> Option<&Ty>
+        ensures { option_copied result ≡ at_label self.now label.now }
+    {
+        match self
+            .pairs
+            .binary_search_by(|field| compare(&field.0, label))
+        {
+            Ok(at) => Some(&self.pairs[at].1),
+            Err(_) => None,
+        }
     }
 
     // The least number above all free indexes of the fields.

@@ -1,5 +1,5 @@
 -- The entry at the place of a name, and what it stands for.
-use Rattle.std.specs.Prelude.{ℕ, zero, suc, ◌+◌, ◌-◌, ◌<◌, ◌≤◌, ◌≡◌, ◌==◌, List, [], ◌∷◌, ◌++◌, ◌↔◌, Bool, true, false, Some, None, length, take}
+use Rattle.std.specs.Prelude.{ℕ, zero, suc, ◌+◌, ◌-◌, ◌<◌, ◌≤◌, ◌≡◌, ◌==◌, List, [], ◌∷◌, ◌++◌, ◌↔◌, Bool, true, false, Option, Some, None, length, take}
 use Rattle.std.specs.HashMap.{HashMap, get}
 use Rattle.std.specs.Cmp.Lexicographic.{pointwise}
 use Rattle.std.proofs.Common.{get_or, arith, subst}
@@ -11,7 +11,7 @@ use Rattle.omega_kinds.specs.Name.{Name}
 use Rattle.omega_types.specs.Ty.{Ty}
 use Rattle.omega_types.specs.EtaLong.{eta}
 use Rattle.omega_types.specs.Index.{bump, shift}
-use Rattle.omega_terms.specs.Term.{Term}
+use Rattle.omega_terms.specs.Term.{Term, TermRow}
 use Rattle.omega_terms.specs.PartTerms.{type_term, value_term}
 use Rattle.signatures.specs.Signatures.Sig.{Sig}
 use Rattle.signatures.specs.Signatures.SigSubst.{rename_sig}
@@ -197,3 +197,23 @@ pub found-param : (slots : List Slot) (at types terms : ℕ) (x : Slot) (y : Nam
     → sig ≡ Sig.Typ (shift types 0 (eta k (Ty.Var zero))) k → term ≡ type_term (shift types 0 (eta k (Ty.Var zero))) k → Some (sig, term) ≡ seen types terms (here_first (with_slots [] (take (at + 1) slots)))
 found-param slots at types terms x y k sig term lt ee ek es et =
     ap₂ (λ s e. Some (s, e)) es et ∙ (sym (seen-param types terms k) ∙ (ap (λ j. seen types terms (Some (type_param j))) ek ∙ entry-stands slots at types terms x (entry.TypeParam y) lt ee))
+
+fields-other : (s t : Sig) (r : TermRow) (d : Term) (n : ℕ) → d ≡ Term.Fields r → Some (s, d) ≡ (let found : Option (Sig × Term) = Some (t, Term.Var n) in found) → ⊥
+fields-other s t r d n e h = let same : d ≡ Term.Var n = ap_snd h in cc
+  where
+    ap_snd : {a b : Sig × Term} → Some a ≡ Some b → a.1 ≡ b.1
+    ap_snd h = let same : _ ≡ _ = some-of _ _ h in ap (λ (x : Sig × Term). x.1) same
+
+-- where the entry at a place is no module, no variable is found
+pub no-variable : (slots : List Slot) (at types terms : ℕ) (x : Slot) → at < length slots → x ≡ get_or slots at x → ((y : Name) (s : Sig) → x.entry ≡ entry.Named y s → ⊥)
+    → (s : Sig) (n : ℕ) → seen types terms (here_first (with_slots [] (take (at + 1) slots))) ≡ Some (s, Term.Var n) → ⊥
+no-variable slots at types terms x lt is other s n q = by x.entry other (entry-stands slots at types terms x x.entry lt (ap (λ y. y.entry) (sym is)) ∙ q)
+  where
+    by : (e : CodeEntry) → ((y : Name) (s : Sig) → e ≡ entry.Named y s → ⊥) → seen types terms (here (entry_of e) (with_slots [] (take at slots))) ≡ Some (s, Term.Var n) → ⊥
+    by (entry.TypeVar k) o p = not-some (s, Term.Var n) p
+    by (entry.Named y t) o p = o y t refl
+    by (entry.Value y t) o p = fields-other _ s _ _ n refl p
+    by (entry.TypeParam y) o p = fields-other _ s _ _ n refl p
+
+pub nothing-found : {o : Option (Sig × Term)} → o ≡ None → (s : Sig) (n : ℕ) → o ≡ Some (s, Term.Var n) → ⊥
+nothing-found e s n q = not-some (s, Term.Var n) (sym e ∙ q)

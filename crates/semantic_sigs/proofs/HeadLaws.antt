@@ -24,7 +24,7 @@ use Rattle.omega_types.proofs.Hereditary.{hsubst-gives}
 use Rattle.omega_types.proofs.Preservation.{maps-suc, normal-rename, neutral-rename, conv-rename, normal-kind, fresh-substitute}
 use Rattle.signatures.specs.Signatures.Sig.{Sig, Abs, SigRow}
 use Rattle.signatures.specs.Signatures.SigSubst.{rename_sig, rename_abs, rename_sig_row, substitute_sig, substitute_abs, substitute_sig_row}
-use Rattle.signatures.specs.Signatures.Alike.{AlikeSig, AlikeAbs, AlikeRow, IsSigAt, NormalSig, NormalAbs, NormalSigRow}
+use Rattle.signatures.specs.Signatures.Alike.{AlikeSig, AlikeAbs, AlikeRow, IsAbsAt, IsSigAt, NormalSig, NormalAbs, NormalSigRow}
 use Rattle.sig_laws.proofs.Algebra.AlikeLaws.{normal_sig-rename, normal_abs-rename}
 use Rattle.semantic_sigs.specs.View.{kinds_of, body_of}
 use Rattle.semantic_sigs.proofs.SigSteps.{sinks-sunk}
@@ -193,6 +193,10 @@ instantiated (Abs.Ex ks b) ts body s eb es ctx n ns =
 
 pub instantiated-value : (x : Abs) (ts : List Ty) (body s : Sig) → body ≡ body_of x → s ≡ sig_in (sunk 0 (putting ts)) body → s ≡ sig_in (putting ts) (body_of x)
 instantiated-value x ts body s eb es = es ∙ ap (sig_in (putting ts)) eb
+
+-- the same for an abstract signature
+pub instantiated-abs : (y : Abs) (ts : List Ty) (x : Abs) → x ≡ abs_in (putting ts) y → (ctx ks : List Kind) → NormalAbs (extend ctx ks) y → NormalForms ctx ts ks ts → IsAbsAt ctx y ts x
+instantiated-abs y ts x e ctx ks n ns = subst (AlikeAbs NormalForm ctx (substitute_abs (puts ts Ty.Var) y)) (sym e) (abs-in (good-puts ns (good-vars ctx)) y n)
 
 -- a normal type below binders, at normal types of the right kinds for the variables outside of them
 pub ty-put : (depth : ℕ) (ts : List Ty) (t put : Ty) → put ≡ ty_in (sunk depth (putting ts)) t → (inner ctx ks : List Kind) (k : Kind) → length inner ≡ depth → NormalForms ctx ts ks ts → Normal (extend (extend ctx ks) inner) t k → NormalForm (extend ctx inner) (substitute (unders inner (puts ts Ty.Var)) t) k put

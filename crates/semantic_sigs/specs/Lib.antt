@@ -13,3 +13,4 @@ pub mod Made
 pub mod Entries
 pub mod EnvCode
 pub mod Slots
+pub mod Standing

@@ -7,7 +7,7 @@ ghost use Rattle.omega_types.specs.Normalises.{Maps, NormalForm};
 ghost use Rattle.omega_types.specs.Normality.{Normal};
 ghost use Rattle.omega_types.specs.Substitution.{substitute};
 ghost use Rattle.omega_types.specs.Ty.{Var};
-ghost use Rattle.signatures.specs.Signatures.Alike.{IsSigAt, NormalSig, NormalAbs};
+ghost use Rattle.signatures.specs.Signatures.Alike.{IsAbsAt, IsSigAt, NormalSig, NormalAbs};
 ghost use Rattle.signatures.specs.Signatures.SigMentions.{MentionsSig};
 ghost use Rattle.signatures.specs.Signatures.SigSubst.{rename_sig, rename_abs};
 ghost use Rattle.semantic_sigs.specs.Change.{change_of};
@@ -32,6 +32,14 @@ pub fn instantiate(alloc: Global, abs: &Abs, types: &[NormalTy]) -> Result<Sig, 
     ensures normal { IfOk result (λ s. (ctx : List KindTree) → NormalAbs ctx abs.now → NormalForms ctx types.now (kinds_of abs.now) types.now → IsSigAt ctx (body_of abs.now) types.now s) }
 {
     changed_sig(alloc, abs.body(), Change::Put(types), 0)
+}
+
+/// The same for an abstract signature below the variables.
+pub fn instantiate_abs(alloc: Global, abs: &Abs, types: &[NormalTy]) -> Result<Abs, Mem>
+    ensures value { IfOk result (λ x. x ≡ abs_in (putting types.now) abs.now) }
+    ensures normal { IfOk result (λ x. (ctx ks : List KindTree) → NormalAbs (extend ctx ks) abs.now → NormalForms ctx types.now ks types.now → IsAbsAt ctx abs.now types.now x) }
+{
+    changed_abs(alloc, abs, Change::Put(types), 0)
 }
 
 /// A type below `depth` binders, with normal types put in for the innermost variables outside these binders, one for

@@ -1,21 +1,24 @@
 // Environments of elaboration.
-ghost use Rattle.std.specs.Prelude.{◌≡◌, ◌==◌, ◌+◌, ◌<◌, ◌∷◌, [], IfOk, IsSome, Some, OnOk, OnErr, MatchOption, length, take};
+ghost use Rattle.std.specs.Prelude.{ℕ, ◌≡◌, ◌==◌, ◌+◌, ◌<◌, ◌∷◌, [], IfOk, IsSome, Some, OnOk, OnErr, MatchOption, length, take};
 ghost use Rattle.std.specs.HashMap.{Updates, get};
 ghost use Rattle.std.specs.Cmp.Lexicographic.{pointwise};
 ghost use Rattle.omega_kinds.specs.View.{kind_tree};
 ghost use Rattle.omega_types.specs.EtaLong.{eta as eta_of};
-ghost use Rattle.omega_types.specs.Index.{shift};
+ghost use Rattle.omega_types.specs.Index.{bump, shift};
 ghost use Rattle.omega_types.specs.Scope.{scope_of};
 ghost use Rattle.omega_types.specs.Ty.{Var};
 ghost use Rattle.omega_terms.specs.PartTerms.{type_term as type_term_of};
+ghost use Rattle.omega_terms.specs.Term.{Var as VarTerm};
 ghost use Rattle.signatures.specs.Env.{Env as EnvTree, find as find_in, kinds as kinds_in, first_kind as first_kind_in};
-ghost use Rattle.signatures.specs.Signatures.Sig.{Typ};
+ghost use Rattle.signatures.specs.Signatures.Sig.{Sig as SigTree, Typ};
+ghost use Rattle.signatures.specs.Signatures.SigSubst.{rename_sig};
 ghost use Rattle.semantic_sigs.specs.Entries.{here_first, entry_of, seen, term_vars};
 ghost use Rattle.semantic_sigs.specs.Slots.{Keeps, hidden_by, with_slots};
 
 use crate::changing::raise_sig;
 use crate::heads::sum;
 use crate::part_terms::{type_term, value_term};
+use crate::standing::Standing;
 use crate::tree::{Sig, SigNode};
 use omega_kinds::{Kind, Mem, Name};
 use omega_terms::{Term, TermNode};
@@ -149,6 +152,29 @@ impl Env {
         let types = kinds.len() as u64 - slot.types;
         let terms = self.terms - slot.terms;
         found(alloc, slots, at, types, terms)
+    }
+
+    /// The module that the last entry of the name is, at the place of the entry, so that its signature is not shifted;
+    /// `None` exactly where the last entry of the name is no module, or there is none. `Err` is want of memory.
+    pub fn standing(&self, alloc: Global, name: &Name) -> Result<Option<Standing<'_>>, Mem>
+        ensures { IfOk result (λ o. MatchOption o
+            ((s : SigTree) (n : ℕ) → find_in self.now name.now ≡ Some (s, VarTerm n) → ⊥)
+            (λ m. find_in self.now name.now ≡ Some (rename_sig (bump m.types 0) m.sig.now, m.term))) }
+    {
+        let Some(place) = self.places.get(name) else {
+            return Ok(None);
+        };
+        let at = *place;
+        let slots = self.slots.as_slice();
+        let slot = &slots[at];
+        let Entry::Named(_, sig) = &slot.entry else {
+            return Ok(None);
+        };
+        let kinds = self.kinds.as_slice();
+        let types = kinds.len() as u64 - slot.types;
+        let terms = self.terms - slot.terms;
+        let term = Term::make(alloc, TermNode::Var(terms))?;
+        Ok(Some(Standing { sig, types, term }))
     }
 }
 

@@ -1,7 +1,7 @@
 // Semantic signatures in code: shared trees, what elaboration makes of phrases, environments, and operations on them.
 // Stands on the crates of types and terms, and on signatures and sig_laws, whose definitions its contracts cite.
-// Proved: `raise_sig`, `raise_abs` and `lower_sig` rename as the definitions do, `instantiate` gives the normal form of a
-// signature at types, `sig_mentions` decides mentions, `field` finds a part by its name and `part` by a path, `encode` and
+// Proved: `raise_sig`, `raise_abs` and `lower_sig` rename as the definitions do, `instantiate` and `instantiate_abs` give
+// the normal form of a signature at types, `sig_mentions` decides mentions, `field` finds a part by its name and `part` by a path, `encode` and
 // `encode_sig` give the encoding, and `find` gives exactly what an environment has for a name.
 #![tactic(auto)]
 
@@ -14,10 +14,11 @@ mod mentioning;
 mod part_terms;
 mod parts;
 mod path;
+mod standing;
 mod tree;
 mod witnesses;
 
-pub use changing::{instantiate, lower_sig, put_types, raise_abs, raise_sig};
+pub use changing::{instantiate, instantiate_abs, lower_sig, put_types, raise_abs, raise_sig};
 pub use encoding::{encode, encode_sig};
 pub use env::{Entry, Env};
 pub use made::{Kinded, Module, Typed, Why};
@@ -25,5 +26,6 @@ pub use mentioning::sig_mentions;
 pub use part_terms::{type_term, value_term};
 pub use parts::{field, find_field, part};
 pub use path::{Item, Path};
+pub use standing::Standing;
 pub use tree::{Abs, Sig, SigFields, SigNode};
 pub use witnesses::Witnesses;

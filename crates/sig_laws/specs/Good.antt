@@ -9,7 +9,7 @@ use Rattle.omega_types.specs.Normality.{Normal}
 use Rattle.omega_types.specs.Binders.{NormalForms}
 use Rattle.omega_terms.specs.Term.{Term}
 use Rattle.omega_terms.specs.Instance.{Instance}
-use Rattle.signatures.specs.Signatures.Sig.{Sig, Abs, SigRow, Module, made}
+use Rattle.signatures.specs.Signatures.Sig.{Sig, Abs, SigRow, NoField, Module, made}
 use Rattle.signatures.specs.Signatures.Alike.{NormalSig, NormalAbs, NormalSigRow}
 use Rattle.signatures.specs.Explicit.WellFormed.{WellFormed, WellFormedRow, WellFormedAbs, Explicit}
 use Rattle.signatures.specs.Env.{Env, Entry, kinds, find}
@@ -64,3 +64,27 @@ NormalTerm ctx e = Instance ctx ctx Ty.Var e e
 
 abbrev pub OkModule : List Kind → Module → Type 0
 OkModule ctx (made f (Abs.Ex ks s) ts e) = OkAbs ctx (Abs.Ex ks s) × Fits ctx f ts ks × NormalTerm ctx e
+
+-- the names of each structure in a signature differ
+abbrev mutual
+  pub Distinct : Sig → Type 0
+  Distinct (Sig.Val t) = Unit {0}
+  Distinct (Sig.Typ t k) = Unit {0}
+  Distinct (Sig.Meta x) = DistinctAbs x
+  Distinct (Sig.Str fs) = DistinctRow fs
+  Distinct (Sig.Fun f ks s x) = Distinct s × DistinctAbs x
+
+  pub DistinctAbs : Abs → Type 0
+  DistinctAbs (Abs.Ex ks s) = Distinct s
+
+  pub DistinctRow : SigRow → Type 0
+  DistinctRow SigRow.End = Unit {0}
+  DistinctRow (SigRow.More l s rest) = NoField l rest × Distinct s × DistinctRow rest
+
+-- of normal types, which have their kinds, and of names that differ
+abbrev pub KindedAbs : List Kind → Abs → Type 0
+KindedAbs ctx x = DistinctAbs x × NormalAbs ctx x
+
+-- a module whose types are normal and have their kinds
+abbrev pub KindedModule : List Kind → Module → Type 0
+KindedModule ctx (made f (Abs.Ex ks s) ts e) = KindedAbs ctx (Abs.Ex ks s) × Fits ctx f ts ks × NormalTerm ctx e

@@ -10,7 +10,7 @@ mod forms;
 mod made;
 mod matching;
 mod putting;
-pub mod refusal;
+mod refusal;
 mod refusing;
 
 pub use calls::{match_sig, sub_abs};

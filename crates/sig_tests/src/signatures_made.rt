@@ -258,6 +258,22 @@ fn a_name_has_a_term(rt: HostRuntime) -> Result<(), Fail> {
     Ok(())
 }
 
+// What stands at the place of m is not shifted past the type variable after it; t and x are no modules.
+#[test]
+fn a_module_at_its_place(rt: HostRuntime) -> Result<(), Fail> {
+    let env = scope(rt.alloc())?;
+    let m = name(rt.alloc(), "m")?;
+    let found = env.standing(rt.alloc(), &m)?.ok_or("no m")?;
+    assert_eq!(rt; found.types, 1);
+    assert!(rt; matches!(found.term.node(), TermNode::Var(1)));
+    assert!(rt; is_lit(rt.alloc(), found.sig, &HOLDING_0)?);
+    for text in ["t", "x", "y"] {
+        let other = name(rt.alloc(), text)?;
+        assert!(rt; env.standing(rt.alloc(), &other)?.is_none(), "at {text}");
+    }
+    Ok(())
+}
+
 // Another m hides the first one until it is taken away.
 #[test]
 fn a_name_is_hidden(rt: HostRuntime) -> Result<(), Fail> {

@@ -4,6 +4,6 @@
 // pack at the normal form of the rest of the type.
 #![tactic(auto)]
 
-pub mod shorthands;
+mod shorthands;
 
 pub use shorthands::{insts, let_in, one_field, opens, pack_up, ty_lam_over, variable};

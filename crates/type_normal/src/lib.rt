@@ -1,15 +1,16 @@
 // Normal types of System Fω: the normal form of each type, and what is decided by it.
 // Stands on omega_kinds and omega_types.
 // Proved: `normal` gives the one beta-normal eta-long form, `hsubst` that of a substitution; `same` decides conversion
-// between normal types, `mentions` whether a convertible type can do without a variable; `lower` and `raise` are inverse.
+// between normal types, `mentions` whether a convertible type can do without a variable; `raise` undoes `lower` where
+// nothing that is left out is mentioned.
 #![tactic(auto)]
 
-pub mod comparing;
-pub mod filling;
-pub mod lowering;
-pub mod mentioning;
-pub mod normal_ty;
-pub mod normalising;
+mod comparing;
+mod filling;
+mod lowering;
+mod mentioning;
+mod normal_ty;
+mod normalising;
 
 pub use comparing::same;
 pub use filling::hsubst;

@@ -1,4 +1,4 @@
-use Rattle.elab_laws.proofs.Kept.{bind_ok, mod_ok, sig_ok}
+use Rattle.elab_laws.proofs.Kept.{sig_ok}
 use Rattle.elab_rules.specs.Judgments.Meaning.{ArgTysMean, ArgsMean, BindsMean, DeclMeans, OpsMean, SigMeans}
 use Rattle.elab_rules.specs.Judgments.Meaning.ArgTysMean.{next_arg, no_args}
 use Rattle.elab_rules.specs.Judgments.Meaning.ArgsMean.{next_type, next_value, no_arg}
@@ -15,12 +15,13 @@ use Rattle.elaboration.proofs.FieldSteps.{ExpsLeft, TypesLeft, exps-later, exps-
 use Rattle.elaboration.proofs.FixSteps.{entered, fix-env-in, left, value-env-in}
 use Rattle.elaboration.proofs.Given.{err-at, err-map, exit, no_star, no_type, ok-at, ok-map, stays}
 use Rattle.elaboration.proofs.Included.{bind-include, body-module, ended, include-in, include-means, include-none, include-rest, include-size, included-env, included-names, left-included, left-under as mods-left-under, means-bind, placed-at, refused-bind}
-use Rattle.elaboration.proofs.Means.{bind-env, bind-names, binds-in, binds-mean, decls-again-in, decls-in, functor-means, generative-means, mod_functor-in, param-env, refine-in, rest-module, sig_fun-in}
+use Rattle.elaboration.proofs.Means.{bind-env, bind-kinded, bind-names, binds-in, binds-mean, decls-again-in, decls-in, functor-means, generative-means, mod-kinded, mod_functor-in, param-env, refine-in, rest-module, sig_fun-in}
 use Rattle.elaboration.proofs.Moved.{refused-in, rule-at, test-at}
 use Rattle.elaboration.proofs.Refuse.Expressions.{arg-later, arg-no_arrow, arg-rule, arg-value, exp_apply-args, exp_apply-function, exp_field-again, exp_field-value, exp_fix-body, exp_fix-param, exp_fix-result, exp_fix-rule, exp_get-no_record, exp_get-record, exp_get-rule, exp_if-no, exp_if-rule, exp_if-test, exp_if-test_type, exp_if-yes, exp_lam-body, exp_lam-param, exp_lam-rule, exp_ops-first, exp_ops-rest, exp_pack-name, exp_pack-sig, exp_path-module, exp_path-use, exp_ty_lam-body, operand-later, operand-left, operand-right, operand-rule, ty_arg-later as exps-ty_arg-later, ty_arg-no_all, ty_arg-rule as exps-ty_arg-rule, ty_arg-type as exps-ty_arg-type}
 use Rattle.elaboration.proofs.Refuse.Modules.{bind_module-module, bind_signature-sig, bind_ty-type, bind_val-value, binds-first, include-module, mod_functor-param, mod_project-rule, mod_project-whole, mod_seal-match, mod_seal-name, mod_seal-sig, mod_struct-list, mod_unpack-rule, mod_unpack-sig, mod_unpack-value}
 use Rattle.elaboration.proofs.Refuse.Signatures.{decl_include-rule, decl_include-sig, decl_is-type, decl_module-sig, decl_signature-sig, decl_val-rule, decl_val-type, decls-first, sig_decls-list, sig_fun-param, sig_path-module, sig_path-use, sig_refine-sig, sig_refine-type}
 use Rattle.elaboration.proofs.Refuse.Types.{ty_all-body, ty_all-rule, ty_apply-args, ty_apply-operator, ty_arg-later, ty_arg-no_operator, ty_arg-rule, ty_arg-type, ty_arrow-from, ty_arrow-rule, ty_arrow-to, ty_field-again, ty_field-type, ty_lam-body, ty_pack-sig, ty_path-module, ty_path-use}
+use Rattle.elaboration.proofs.Ruled.{is-structure}
 use Rattle.elaboration.proofs.SigLaws.{abstract-means, decl-body, decl-in, decls-mean, fields-env, left-decl, left-under, lifted-means, module-in, no-row, param-in, refused-row, row-means, row-size, sig-in}
 use Rattle.elaboration.proofs.Slices.{empty}
 use Rattle.elaboration.proofs.UseSteps.{found-in, pack-means, pack-unmatched}
@@ -550,9 +551,7 @@ sigs::sig_refine-returns-clause-refused t c =
     err-at _ (rw (c.in_ok-fixed.ensures.same ∙ same) at c.where_rule.ensures.refused) (λ e r at. refine-in c.in_ok-found.found c.in_ok-found.ensures.given (rw same at c.in_ok-fixed.ensures.given) r)
 
 pub sigs::sig_refine-returns-clause-given : goal.sigs::sig_refine-returns-clause-given
-sigs::sig_refine-returns-clause-given t c =
-    let same = c.in_ok-found.ensures.same in
-    ok-at _ (rw (c.in_ok-fixed.ensures.same ∙ same) at c.where_rule.ensures.given) (λ x p at. SigMeans.sig_refine c.in_ok-found.ensures.given (rw same at c.in_ok-fixed.ensures.given) p)
+sigs::sig_refine-returns-clause-given t c = ok-at _ (rw (c.in_ok-fixed.ensures.same ∙ c.in_ok-found.ensures.same) at c.where_rule.ensures.given) (λ x p at. SigMeans.sig_refine c.in_ok-found.ensures.given (rw c.in_ok-found.ensures.same at c.in_ok-fixed.ensures.given) p)
 
 -- structures
 
@@ -565,13 +564,13 @@ modules::mod_struct-returns-clause-given t c = ok-at _ (rw c.new.ensures at c.bi
 -- projections
 
 pub modules::mod_project-returns-in_err-found-clause-refused : goal.modules::mod_project-returns-in_err-found-clause-refused
-modules::mod_project-returns-in_err-found-clause-refused t c = exit _ c.from_residual.result c.in_err-found.field-0.0 c.from_residual.ensures.1 (λ at. mod_project-whole c.in_err-found.ensures.refused)
+modules::mod_project-returns-in_err-found-clause-refused t c = exit _ c.from_residual-in_err-found.result c.in_err-found.field-0.0 c.from_residual-in_err-found.ensures.1 (λ at. mod_project-whole c.in_err-found.ensures.refused)
 
 pub modules::mod_project-returns-clause-refused : goal.modules::mod_project-returns-clause-refused
 modules::mod_project-returns-clause-refused t c = err-at _ (rw c.in_ok-found.ensures.same at c.project_rule.ensures.refused) (λ e r at. mod_project-rule c.in_ok-found.ensures.given r)
 
 pub modules::mod_project-returns-clause-given : goal.modules::mod_project-returns-clause-given
-modules::mod_project-returns-clause-given t c = ok-at _ c.project_rule.ensures.given (λ m p at. mod_project c.in_ok-found.ensures.given (p _ (mod_ok _ _ _ c.requires c.in_ok-found.ensures.given)))
+modules::mod_project-returns-clause-given t c = ok-at _ c.project_rule.ensures.given (λ m p at. mod_project c.in_ok-found.ensures.given (p _ (mod-kinded _ _ _ c.requires c.in_ok-found.ensures.given)))
 
 -- functors
 
@@ -646,16 +645,17 @@ bindings::included-included_under-requires t c =
     (omega (arith, c.decreases), (rw same (included-env _ _ _ c.in_ok-head.head.sig _ _ _ c.requires.env c.in_ok-head.ensures.given is), rw same (included-names c.args.env.now c.in_ok-head.head.sig (sig_row c.in-Some.fields.now) c.args.before c.requires.names)))
 
 pub bindings::included-returns-in_err-tail-clause-refused : goal.bindings::included-returns-in_err-tail-clause-refused
-bindings::included-returns-in_err-tail-clause-refused t c =
-    let is = sym c.body.ensures ∙ c.in-Some.ensures in
-    exit _ c.from_residual-in_err-tail.result c.in_err-tail.field-0.0 c.from_residual-in_err-tail.ensures.1 (λ at. include-in c.in_ok-head.head.sig c.in_ok-head.ensures.given is (rw c.in_ok-head.ensures.same at c.in_err-tail.ensures.refused))
+bindings::included-returns-in_err-tail-clause-refused t c = exit _ c.from_residual-in_err-tail.result c.in_err-tail.field-0.0 c.from_residual-in_err-tail.ensures.1 (λ at. include-in c.in_ok-head.head.sig c.in_ok-head.ensures.given (sym c.body.ensures ∙ c.in-Some.ensures) (rw c.in_ok-head.ensures.same at c.in_err-tail.ensures.refused))
+
+pub bindings::included-include_rule-requires : goal.bindings::included-include_rule-requires
+bindings::included-include_rule-requires t c = is-structure c.in_ok-head.head.effect c.in_ok-head.head.sig c.in_ok-head.head.types c.in_ok-head.head.term _ (sym c.body.ensures ∙ c.in-Some.ensures)
 
 pub bindings::included-returns-clause-given : goal.bindings::included-returns-clause-given
 bindings::included-returns-clause-given t c =
     let means = c.in_ok-head.ensures.given in
     let is = sym c.body.ensures ∙ c.in-Some.ensures in
     let rest = rw c.in_ok-head.ensures.same at c.in_ok-tail.ensures.given in
-    λ at. include-means c.in_ok-head.head.sig means is rest (c.in_ok-include_rule.ensures _ (mod_ok _ _ _ c.requires.env means) (include-rest _ _ _ _ c.in_ok-head.head.sig _ _ _ _ _ c.requires.env c.requires.names means is rest))
+    λ at. include-means c.in_ok-head.head.sig means is rest (c.in_ok-include_rule.ensures _ (mod-kinded _ _ _ c.requires.env means) (include-rest _ _ _ _ c.in_ok-head.head.sig _ _ _ _ _ c.requires.env c.requires.names means is rest))
 
 pub bindings::included_under-returns-clause-same : goal.bindings::included_under-returns-clause-same
 bindings::included_under-returns-clause-same t c = left-included c.args.env.now c.items-2.result.now c.args.head.now c.args.fields.now c.items.result.now _ _ _ c.items.ensures.value (c.items-2.ensures ∙ c.kinds.ensures) (c.in_ok-found.ensures.same ∙ c.in_ok-push_included.ensures) c.leave.ensures c.leave-2.ensures
@@ -684,7 +684,7 @@ pub bindings::bound-returns-clause-given : goal.bindings::bound-returns-clause-g
 bindings::bound-returns-clause-given t c =
     let means = c.in_ok-own.ensures.given in
     let rest = rw c.in_ok-own.ensures.same at c.in_ok-tail.ensures.given in
-    binds-mean c.in_ok-own.own.1.sig means rest (c.in_ok-seq_bind.ensures _ (bind_ok _ _ _ _ c.requires.env means) (rest-module _ _ _ _ _ c.in_ok-own.own.1.sig _ _ _ _ c.requires.env c.requires.names means rest))
+    binds-mean c.in_ok-own.own.1.sig means rest (c.in_ok-seq_bind.ensures _ (bind-kinded _ _ _ _ c.requires.env means) (rest-module _ _ _ _ _ c.in_ok-own.own.1.sig _ _ _ _ c.requires.env c.requires.names means rest))
 
 pub declarations::decl_val-returns-in_err-found-clause-refused : goal.declarations::decl_val-returns-in_err-found-clause-refused
 declarations::decl_val-returns-in_err-found-clause-refused t c = exit _ c.from_residual.result c.in_err-found.field-0.0 c.from_residual.ensures.1 (λ at. decl_val-type c.in_err-found.ensures.refused)

@@ -1,5 +1,5 @@
--- The encoding goes with renaming, substitution and normal forms. What it needs of a signature is that the labels of
--- each structure differ; that the result of a pure functor hides nothing is kept beside it.
+-- The encoding goes with renaming, substitution and normal forms. What it needs of a signature is that the names of each
+-- structure differ; that the result of a pure functor hides nothing is kept beside it.
 use Rattle.std.specs.Prelude.{ℕ, suc, List, [], ◌∷◌, ◌≢◌, zero}
 use Rattle.std.proofs.Math.Path.{ap}
 use Rattle.omega_kinds.specs.Kind.{Kind}
@@ -25,6 +25,7 @@ use Rattle.signatures.specs.Signatures.Sig.{Sig, Abs, SigRow, HasField, NoField}
 use Rattle.signatures.specs.Signatures.SigSubst.{rename_sig, rename_abs, rename_sig_row, substitute_sig, substitute_abs}
 use Rattle.signatures.specs.Signatures.Alike.{Between, AlikeSig, AlikeAbs, AlikeRow, NormalSigForm, NormalAbsForm, NormalSig, NormalAbs, NormalSigRow}
 use Rattle.signatures.specs.Signatures.Encoding.{enc, enc_abs, enc_row, one_part, shown_type}
+use Rattle.sig_laws.specs.Good.{Distinct, DistinctAbs, DistinctRow}
 use Rattle.sig_laws.proofs.Algebra.AlikeLaws.{form_sig-normal, form_abs-normal, normal_sig-rename, alike-sym_abs, alike-substitute, alike_abs-substitute, alike-rename, alike_abs-rename, alike_row-rename}
 use Rattle.omega_types.specs.Substitution.{rename}
 
@@ -126,19 +127,40 @@ shown_type-normal {ctx} {t} {k} h = n_all (n_arrow u u)
     u = n_neutral (n_apply (n_var here) (normal-rename suc (maps-suc (Kind.Arrow k Kind.Star) ctx) h))
 
 mutual
-  pub enc-normal : {ctx : List Kind} (s : Sig) → NormalSig ctx s → Shape s → Normal ctx (enc s) Kind.Star
-  enc-normal (Sig.Val t) n h = one_part-normal Label.Val n
-  enc-normal (Sig.Typ t k) n h = one_part-normal Label.Typ (shown_type-normal n)
-  enc-normal (Sig.Meta x) n h = let m = enc_abs-normal x n h in one_part-normal Label.Sig (n_arrow m m)
-  enc-normal (Sig.Str fs) n h = n_fields (enc_row-normal fs n h)
-  enc-normal (Sig.Fun e ks s x) n h = all_over-normal ks (n_arrow (enc-normal s n.0 h.0) (one_part-normal (result_label e) (enc_abs-normal x n.1 h.1)))
+  pub distinct-normal : {ctx : List Kind} (s : Sig) → Distinct s → NormalSig ctx s → Normal ctx (enc s) Kind.Star
+  distinct-normal (Sig.Val t) d n = one_part-normal Label.Val n
+  distinct-normal (Sig.Typ t k) d n = one_part-normal Label.Typ (shown_type-normal n)
+  distinct-normal (Sig.Meta x) d n = let m = distinct_abs-normal x d n in one_part-normal Label.Sig (n_arrow m m)
+  distinct-normal (Sig.Str fs) d n = n_fields (distinct_row-normal fs d n)
+  distinct-normal (Sig.Fun e ks s x) d n = all_over-normal ks (n_arrow (distinct-normal s d.0 n.0) (one_part-normal (result_label e) (distinct_abs-normal x d.1 n.1)))
 
-  pub enc_abs-normal : {ctx : List Kind} (x : Abs) → NormalAbs ctx x → ShapeAbs x → Normal ctx (enc_abs x) Kind.Star
-  enc_abs-normal (Abs.Ex ks s) n h = ex_over-normal ks (enc-normal s n h)
+  pub distinct_abs-normal : {ctx : List Kind} (x : Abs) → DistinctAbs x → NormalAbs ctx x → Normal ctx (enc_abs x) Kind.Star
+  distinct_abs-normal (Abs.Ex ks s) d n = ex_over-normal ks (distinct-normal s d n)
 
-  pub enc_row-normal : {ctx : List Kind} (fs : SigRow) → NormalSigRow ctx fs → ShapeRow fs → Normals ctx (enc_row fs)
-  enc_row-normal SigRow.End n h = n_end
-  enc_row-normal (SigRow.More l s rest) n h = n_more (fresh-row l rest h.0) (enc-normal s n.0 h.1) (enc_row-normal rest n.1 h.2)
+  distinct_row-normal : {ctx : List Kind} (fs : SigRow) → DistinctRow fs → NormalSigRow ctx fs → Normals ctx (enc_row fs)
+  distinct_row-normal SigRow.End d n = n_end
+  distinct_row-normal (SigRow.More l s rest) d n = n_more (fresh-row l rest d.0) (distinct-normal s d.1 n.0) (distinct_row-normal rest d.2 n.1)
+
+mutual
+  pub shape-distinct : (s : Sig) → Shape s → Distinct s
+  shape-distinct (Sig.Val t) h = tt
+  shape-distinct (Sig.Typ t k) h = tt
+  shape-distinct (Sig.Meta x) h = shape_abs-distinct x h
+  shape-distinct (Sig.Str fs) h = shape_row-distinct fs h
+  shape-distinct (Sig.Fun e ks s x) h = (shape-distinct s h.0, shape_abs-distinct x h.1)
+
+  pub shape_abs-distinct : (x : Abs) → ShapeAbs x → DistinctAbs x
+  shape_abs-distinct (Abs.Ex ks s) h = shape-distinct s h
+
+  shape_row-distinct : (fs : SigRow) → ShapeRow fs → DistinctRow fs
+  shape_row-distinct SigRow.End h = tt
+  shape_row-distinct (SigRow.More l s rest) h = (h.0, shape-distinct s h.1, shape_row-distinct rest h.2)
+
+pub enc-normal : {ctx : List Kind} (s : Sig) → NormalSig ctx s → Shape s → Normal ctx (enc s) Kind.Star
+enc-normal s n h = distinct-normal s (shape-distinct s h) n
+
+pub enc_abs-normal : {ctx : List Kind} (x : Abs) → NormalAbs ctx x → ShapeAbs x → Normal ctx (enc_abs x) Kind.Star
+enc_abs-normal x n h = distinct_abs-normal x (shape_abs-distinct x h) n
 
 -- signatures of one shape with convertible types have convertible encodings
 

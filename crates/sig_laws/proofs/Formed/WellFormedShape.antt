@@ -6,10 +6,11 @@ use Rattle.omega_kinds.specs.declared.label.Label.{Label}
 use Rattle.omega_kinds.specs.Name.{Name}
 use Rattle.omega_kinds.specs.LabelOrder.{name_before}
 use Rattle.omega_kinds.proofs.LabelLaws.{irreflexive}
-use Rattle.signatures.specs.Signatures.Sig.{Sig, Abs, SigRow, NoField, HasField}
+use Rattle.signatures.specs.Signatures.Sig.{Sig, Abs, SigRow, NoField, HasField, Module, made}
 use Rattle.signatures.specs.Signatures.Alike.{NormalSig, NormalAbs}
 use Rattle.signatures.specs.Explicit.WellFormed.{BeforeAll, Rising, WellFormed, WellFormedRow, WellFormedAbs, Explicit}
-use Rattle.sig_laws.proofs.Encoded.EncodingTyping.{Shape, ShapeAbs, ShapeRow, Good, GoodAbs}
+use Rattle.sig_laws.specs.Good.{KindedModule, OkModule}
+use Rattle.sig_laws.proofs.Encoded.EncodingTyping.{Shape, ShapeAbs, ShapeRow, Good, GoodAbs, shape_abs-distinct}
 use Rattle.sig_laws.proofs.Algebra.PathLaws.{field-not}
 
 pub before-no_field : (l : Name) (fs : SigRow) → BeforeAll l fs → NoField l fs
@@ -43,3 +44,7 @@ well_formed-good w n = record { normal = n; shape = well_formed-shape w }
 
 pub well_formed_abs-good : {ctx : List Kind} {x : Abs} → WellFormedAbs ctx x → NormalAbs ctx x → GoodAbs ctx x
 well_formed_abs-good w n = record { normal = n; shape = well_formed_abs-shape w }
+
+-- what is well formed with normal types has types of their kinds, and names that differ
+pub kinded : (ctx : List Kind) (M : Module) → OkModule ctx M → KindedModule ctx M
+kinded ctx (made f (Abs.Ex ks s) ts e) ok = ((shape_abs-distinct (Abs.Ex ks s) (well_formed_abs-shape ok.0.0), ok.0.1), ok.1, ok.2)

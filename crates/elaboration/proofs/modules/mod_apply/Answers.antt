@@ -2,6 +2,7 @@ use Rattle.premise_laws.proofs.Environments.{find-good}
 use Rattle.elab_rules.specs.Judgments.Meaning.ModMeans.{mod_apply}
 use Rattle.module_rules.proofs.Verdicts.{param-ok}
 use Rattle.elaboration.proofs.Given.{exit}
+use Rattle.elaboration.proofs.Ruled.{parts-functor}
 use Rattle.elaboration.proofs.Refuse.Modules.{mod_apply-functor, mod_apply-no_functor, mod_apply-arg, mod_apply-match}
 use Rattle.elaboration.proofs.modules.mod_apply.Goals as goal
 
@@ -27,6 +28,9 @@ pub returns-in_err-matched-clause-refused : goal.returns-in_err-matched-clause-r
 returns-in_err-matched-clause-refused c =
     exit _ c.from_residual-in_err-matched.result c.in_err-matched.field-0.0 c.from_residual-in_err-matched.ensures.1
     (λ at. mod_apply-match c.in_ok-functor.ensures.found (rw c.body.ensures at c.in_ok-parts.ensures.given) c.in_ok-found.ensures.found (rw c.body-2.ensures at c.in_err-matched.ensures.refused))
+
+pub apply_rule-requires : goal.apply_rule-requires
+apply_rule-requires c = parts-functor (rw c.body.ensures at c.in_ok-parts.ensures.given)
 
 pub returns-clause-given : goal.returns-clause-given
 returns-clause-given c =

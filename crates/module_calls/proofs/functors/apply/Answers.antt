@@ -10,4 +10,4 @@ returns-in_default c =
 pub returns-clause-given : goal.returns-clause-given
 returns-clause-given c =
     let f = c.in-Fun in
-    applied-at c.args.functor.now.sig c.body.result.now f.param f.effect f.kinds f.result c.in_ok-sig.sig c.items.result.now c.items-2.result.now c.args.types c.new-none.result c.args.functor.now.term c.args.coercion c.args.arg c.in_ok-term.term c.body.ensures (sym c.node.ensures ∙ ap sig_of f.is) c.items.ensures c.items-2.ensures c.in_ok-sig.ensures c.in_ok-term.ensures c.new-none.ensures
+    applied-at c.args.functor.now.sig c.body.result.now f.param f.effect f.kinds f.result c.in_ok-sig.sig c.items.result.now c.items-2.result.now c.args.types c.new-none.result c.args.functor.now.term c.args.coercion c.args.arg c.in_ok-term.term c.body.ensures (sym c.node.ensures ∙ ap sig_of f.is) c.items.ensures c.items-2.ensures (λ ctx. c.in_ok-sig.ensures.normal ctx _) c.in_ok-term.ensures c.new-none.ensures
