@@ -20,4 +20,4 @@ mod top;
 mod verifying;
 
 pub use status::{Status, exit_code};
-pub use top::{fing, one_reply};
+pub use top::{fing, one_reply, reply};

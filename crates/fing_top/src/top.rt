@@ -37,8 +37,15 @@ fn taken<S: Source>(alloc: Global, command: CommandLine, source: &mut S) -> Resu
     read_all(alloc, source, LIMIT)
 }
 
-// Answers a command for all its bytes.
-fn reply<K: Sink>(
+/// Answers a command for all its bytes, of which there are at most 1,048,576, and reads no source. The bytes are those
+/// that a source has, or for `gen` those of the generated program.
+///
+/// It writes the one reply to them, with the reply's own status: `Ok`, `Refused`, `Faulted` or `Spent`. `WriteFault`
+/// comes in place of this status only where the sink's count of faults rose, and then a prefix of the reply was written,
+/// and not all of it. `NoMemory` means out of memory, and then nothing was written. There is no other status. Where the
+/// reply's own status is `Ok`, `Faulted` or `Spent`, `confirmed` becomes what the checker made of the term and the type
+/// that were derived or read, also where a write failed; else it stays as it was.
+pub fn reply<K: Sink>(
     alloc: Global,
     command: CommandLine,
     bytes: &[u8],
