@@ -94,6 +94,15 @@ class Timer:
 # What it is tried on
 
 
+def pages():
+    """The pages of the repository, in order. What programs made, in folders `out`, is left out."""
+    found = []
+    for folder, inside, names in os.walk(TOP):
+        inside[:] = [name for name in inside if name != "out" and not name.startswith(".")]
+        found += [pathlib.Path(folder, name) for name in names if name.endswith(".md")]
+    return sorted(found)
+
+
 def examples():
     """The examples, by name."""
     return {path.stem: path.read_bytes() for path in sorted((TOP / "examples").glob("*.fing"))}
