@@ -1,0 +1,203 @@
+#!/usr/bin/env python3
+"""Makes the WebAssembly module out of the library crate fing_c and of the libraries that `rt ci` proved.
+
+build.py MODULE [--rlibs CHECKOUT]
+
+MODULE is the file to write. The libraries of the crates below fing_c are read from crates/*/out/rlib of this checkout,
+or of another checkout of the same files. `rattle build` checks fing_c over them and makes its LLVM module for x86-64.
+The toolchain makes no WebAssembly of a module that takes memory, so this script goes on from there:
+
+1. it keeps the LLVM module, by a toolchain folder whose clang copies its input and then does its work;
+2. it names WebAssembly with 64-bit addresses as the module's target, in place of x86-64;
+3. it compiles the module and the heap, heap.c, by the toolchain's clang, and links them by the toolchain's linker;
+4. it drops the function table, which is empty;
+5. it makes the addresses 32 bits wide by binaryen's wasm-opt, since every browser runs that form.
+
+The kept module must be the one of the library crates/fing_c/out/libfing_c.a, which tools/make-library makes: the objects
+of both are compared byte for byte. Where there is no such library, it is built a second time by the unchanged toolchain,
+and compared with that. Exit status 0 only where the module was written."""
+import argparse
+import os
+import pathlib
+import re
+import shutil
+import subprocess
+import sys
+import tempfile
+
+HERE = pathlib.Path(__file__).resolve().parent
+TOP = HERE.parent.parent
+CRATE = "fing_c"
+EXPORT = "fing_reply"
+TARGET = "wasm64-unknown-unknown"
+LAYOUT = "e-m:e-p:64:64-p10:8:8-p20:8:8-i64:64-i128:128-n32:64-S128"
+STACK = 33554432
+CLANG_FLAGS = [f"--target={TARGET}", "-mcpu=lime1", "-mbulk-memory", "-O2", "-ffreestanding", "-nostdlib"]
+FEATURES = ["memory64", "bulk-memory", "sign-ext", "nontrapping-float-to-int", "mutable-globals", "multivalue"]
+
+
+def kit():
+    """The folder of the toolchain."""
+    command = shutil.which("rt")
+    if not command:
+        sys.exit("build.py: the toolchain's command rt is not on the path")
+    return pathlib.Path(os.path.realpath(command)).parent.parent
+
+
+def run(*words, **how):
+    return subprocess.run([str(word) for word in words], check=True, **how)
+
+
+def used_crates():
+    """The libraries that each crate uses, by crates.txt."""
+    lines = [line.partition("#")[0].strip() for line in (TOP / "crates.txt").read_text().splitlines()]
+    rows = [line.partition(":") for line in lines if line]
+    return {names.split()[0]: used.split() for names, _, used in rows}
+
+
+def crates_below(crate, used):
+    """The crates of the repository that a crate stands on, each once."""
+    found, waiting = [], [crate]
+    while waiting:
+        for name in used[waiting.pop()]:
+            if name in used and name not in found:
+                found.append(name)
+                waiting.append(name)
+    return found
+
+
+def build_library(checkout, tools, library):
+    """Checks fing_c over the proved libraries of a checkout, and builds it by the tools of a folder."""
+    used, home = used_crates(), kit()
+    words = ["--crate-name", CRATE, "src/lib.rt"]
+    for name in ["core", "std", *(name for name in used[CRATE] if name not in used)]:
+        words += ["--extern", f"{name}={home}/rlibs/{name}.rlib"]
+    words += ["-L", f"dependency={home}/rlibs"]
+    for name in (name for name in used[CRATE] if name in used):
+        words += ["--extern", f"{name}={checkout}/crates/{name}/out/rlib/{name}.rlib"]
+    for name in crates_below(CRATE, used):
+        words += ["-L", f"dependency={checkout}/crates/{name}/out/rlib"]
+    words += ["--antt-project", home / "rattle/logic/antt-project.json", "--logic-built", home / "logic_built"]
+    words += ["--crate-type", "staticlib", "--toolchain", tools, "--backend", "llvm", "-o", library]
+    run("rattle", "build", *words, cwd=TOP / "crates" / CRATE)
+
+
+def keeping_tools(folder):
+    """The toolchain's tools with a clang that keeps its input as module.bc of the folder."""
+    home, tools = kit() / "toolchain", folder / "toolchain"
+    (tools / "bin").mkdir(parents=True)
+    (tools / "lib").symlink_to(home / "lib")
+    for tool in (home / "bin").iterdir():
+        if tool.name != "clang":
+            (tools / "bin" / tool.name).symlink_to(tool)
+    clang = tools / "bin/clang"
+    clang.write_text(f'#!/bin/sh\ncp module.bc "{folder}/module.bc" && exec "{home}/bin/clang" "$@"\n')
+    clang.chmod(0o755)
+    return tools
+
+
+def objects_of(library):
+    """The objects of a static library, by name."""
+    archiver = kit() / "toolchain/bin/llvm-ar"
+    names = run(archiver, "t", library, capture_output=True).stdout.decode().split()
+    return {name: run(archiver, "p", library, name, capture_output=True).stdout for name in names}
+
+
+def kept_module(checkout, folder):
+    """The LLVM module that the library is made of."""
+    made = TOP / "crates" / CRATE / "out" / f"lib{CRATE}.a"
+    build_library(checkout, keeping_tools(folder), folder / "kept.a")
+    if not made.is_file():
+        made = folder / "plain.a"
+        build_library(checkout, kit() / "toolchain", made)
+    if not objects_of(folder / "kept.a").items() <= objects_of(made).items():
+        sys.exit(f"build.py: the kept module is not the one that {made} was made of")
+    return folder / "module.bc"
+
+
+def retargeted(text, exports):
+    """The module for WebAssembly: its target, no attributes of x86-64, and the names that the host calls."""
+    text = re.sub(r"^target datalayout = .*$", f'target datalayout = "{LAYOUT}"', text, count=1, flags=re.M)
+    text = re.sub(r"^target triple = .*$", f'target triple = "{TARGET}"', text, count=1, flags=re.M)
+    text = re.sub(r' "(probe-stack|stack-probe-size|target-cpu|target-features)"="[^"]*"', "", text)
+    for name in exports:
+        begin = rf"^(define [^\n]*@{name}\([^\n]*\)[^\n]*) \{{$"
+        text, count = re.subn(begin, rf'\1 "wasm-export-name"="{name}" {{', text, flags=re.M)
+        if count != 1:
+            sys.exit(f"build.py: {name} is not defined once")
+    return text
+
+
+def number_at(data, at):
+    """A number in LEB128, and the place behind it."""
+    value = shift = 0
+    while True:
+        byte = data[at]
+        at += 1
+        value |= (byte & 127) << shift
+        shift += 7
+        if byte < 128:
+            return value, at
+
+
+def without_table(data):
+    """A WebAssembly module without its table, in which there are no functions, and without names for debuggers."""
+    custom, table, elements = 0, 4, 9
+    kept, at = bytearray(data[:8]), 8
+    while at < len(data):
+        kind = data[at]
+        length, start = number_at(data, at + 1)
+        if kind == elements:
+            sys.exit("build.py: there are functions in the table")
+        if kind not in (custom, table):
+            kept += data[at:start + length]
+        at = start + length
+    return bytes(kept)
+
+
+def check_binaryen():
+    """Stops where wasm-opt has another version than the one by which the sums of dist/ were made."""
+    wanted = (HERE / "BINARYEN").read_text()
+    if not shutil.which("wasm-opt"):
+        sys.exit("build.py: wasm-opt is missing; it is in the package binaryen")
+    found = subprocess.run(["wasm-opt", "--version"], capture_output=True, text=True, check=True).stdout
+    if found != wanted:
+        sys.exit(f"build.py: wasm-opt says {found.strip()}, and web/module/BINARYEN wants {wanted.strip()}")
+
+
+def compile_module(text, sources, module, folder):
+    """Compiles an LLVM module for WebAssembly and C sources, links them, and makes the addresses 32 bits wide."""
+    home = kit()
+    clang, linker, archiver = home / "toolchain/bin/clang", home / "bin/rattle-link", home / "toolchain/bin/llvm-ar"
+    (folder / "wasm.ll").write_text(text)
+    objects = [folder / "wasm.o"]
+    run(clang, *CLANG_FLAGS, "-c", "-x", "ir", folder / "wasm.ll", "-o", objects[0])
+    for source in sources:
+        objects.append(folder / f"{source.stem}.o")
+        run(clang, *CLANG_FLAGS, "-c", source, "-o", objects[-1])
+    run(archiver, "rcsD", folder / "wasm.a", *objects)
+    linked = folder / "linked.wasm"
+    words = ["--target", TARGET, "--toolchain", home / "toolchain", "--stack", STACK, "-o", linked]
+    run(linker, *words, folder / "wasm.a")
+    (folder / "wide.wasm").write_bytes(without_table(linked.read_bytes()))
+    enabled = [f"--enable-{feature}" for feature in FEATURES]
+    run("wasm-opt", *enabled, "--memory64-lowering", folder / "wide.wasm", "-o", module)
+
+
+def main():
+    words = argparse.ArgumentParser(description="Makes the WebAssembly module.")
+    words.add_argument("module", type=pathlib.Path)
+    words.add_argument("--rlibs", type=pathlib.Path, default=TOP)
+    given = words.parse_args()
+    check_binaryen()
+    clang = kit() / "toolchain/bin/clang"
+    with tempfile.TemporaryDirectory() as name:
+        folder = pathlib.Path(name)
+        module = kept_module(given.rlibs.resolve(), folder)
+        run(clang, "-S", "-emit-llvm", "-Xclang", "-disable-llvm-passes", "-x", "ir", module, "-o", folder / "module.ll")
+        text = retargeted((folder / "module.ll").read_text(), [EXPORT])
+        compile_module(text, [HERE / "heap.c"], given.module.resolve(), folder)
+
+
+if __name__ == "__main__":
+    main()
