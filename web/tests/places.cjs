@@ -75,7 +75,7 @@ async function tryNotes(fing) {
 
 // The reasons of refusals: those of the definition of lines, and those of a source without tokens or without a tree.
 function reasons() {
-  const lines = read("crates/refusal_lines/specs/Line.antt").matchAll(/^reason_text .*?ElabWhy\.(\w+)/gm);
+  const lines = read("crates/fing_refusals/specs/Line.antt").matchAll(/^reason_text .*?ElabWhy\.(\w+)/gm);
   return [...[...lines].map(it => it[1]), "BadText", "BadByte", "Wide", "TooDeep", "Syntax"];
 }
 

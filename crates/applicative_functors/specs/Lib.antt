@@ -1,2 +1,2 @@
-pub mod OneOutcome
-pub mod PureFunctor
+pub mod LiftedVars
+pub mod Lifted

@@ -1,14 +1,13 @@
-// Applicative functors: the hidden types of a pure body are lifted over the parameter.
-// Specifications and their laws only; the calls that follow them stand in a crate of their own above.
-// Stands on signatures and premise_laws.
-// Proved: the rule has exactly one conclusion (`pure_functors`).
+// Applicative functors in code: the hidden types of a pure body are lifted over the functor's parameter.
+// Stands on semantic_sigs and omega_shorthands, and on functor_judgments, whose definitions its contracts cite.
+// Proved: `lift` gives the signature of a pure functor, `lift_witness` the operators that a pure body's types become, and
+// `pure_functor` the conclusion of its rule. None of them is refused for another cause than want of memory.
 #![tactic(auto)]
 
-ghost use Rattle.applicative_functors.specs.OneOutcome.{OnePureFunctor};
+mod functors;
+mod lifting;
+mod operators;
+mod parameters;
 
-/// A functor with a pure body gives exactly one module; the rule is never refused.
-///
-/// Rossberg, Russo and Dreyer, "F-ing modules", section 7.
-pub fn pure_functors()
-    ensures { OnePureFunctor }
-{}
+pub use functors::pure_functor;
+pub use lifting::{lift, lift_witness};

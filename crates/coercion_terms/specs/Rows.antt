@@ -12,7 +12,7 @@ use Rattle.omega_terms.specs.Term.{Term, TermRow}
 use Rattle.omega_terms.specs.Typing.{HasType}
 use Rattle.omega_terms.specs.Coercions.{result_label, MatchPart, AbsPart}
 use Rattle.omega_terms.specs.CoercionRows.{of_field, PartsTyped, at_types}
-use Rattle.term_shorthands.specs.Packed.{Fills}
+use Rattle.omega_shorthands.specs.Packed.{Fills}
 
 -- the term is that of the rule, in each context where the types fill the quantifiers
 abbrev pub IsMatchPart : (from : Ty) (ts : List Ty) (f : Term) (to : Ty) → Term → Type 0

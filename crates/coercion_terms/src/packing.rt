@@ -1,14 +1,14 @@
 // The coercions to signatures that hide types.
 ghost use Rattle.std.specs.Prelude.{◌≡◌, IfOk};
 ghost use Rattle.omega_terms.specs.Term.{Call, Lam, Var};
-ghost use Rattle.term_shorthands.specs.Packed.{opened, pack_up as pack_up_of};
+ghost use Rattle.omega_shorthands.specs.Packed.{opened, pack_up as pack_up_of};
 ghost use Rattle.coercion_terms.specs.Rows.{HasAbsType, HasMatchType, IsAbsPart, IsMatchPart};
 
 use omega_kinds::Mem;
+use omega_shorthands::{opens, pack_up, variable};
 use omega_terms::{Term, TermNode};
 use omega_types::Ty;
 use std::alloc::Global;
-use term_shorthands::{opens, pack_up, variable};
 use type_normal::NormalTy;
 
 /// The coercion of a signature that hides nothing, whose encoding is `from`, to one that hides types, whose encoding

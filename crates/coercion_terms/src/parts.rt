@@ -7,10 +7,10 @@ ghost use Rattle.omega_terms.specs.Term.{Call, Get, Lam, Var};
 ghost use Rattle.coercion_terms.specs.Rows.{HasFieldsType, HasFunctorType, HasMetaType, HasSameType};
 
 use omega_kinds::{Effect, Kinds, Label, Mem};
+use omega_shorthands::{insts, one_field, ty_lam_over, variable};
 use omega_terms::{Term, TermFields, TermNode};
 use omega_types::Ty;
 use std::alloc::Global;
-use term_shorthands::{insts, one_field, ty_lam_over, variable};
 use type_normal::NormalTy;
 
 /// The coercion of a value part or a type part, whose encoding is `from`: the identity. `Err` is want of memory.

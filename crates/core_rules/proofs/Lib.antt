@@ -1,3 +1,5 @@
-pub mod Equal
-pub mod ExpVerdicts
-pub mod TypeVerdicts
+mod Conclusions
+mod Entries
+mod Forms
+mod Inserting
+mod RecordSteps

@@ -1,4 +1,2 @@
-pub mod CoreWhy
-pub mod ExpRules
-pub mod OneOutcome
-pub mod TypeRules
+pub mod Plain
+pub mod Records

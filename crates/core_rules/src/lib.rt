@@ -1,33 +1,20 @@
-// The rules of types and expressions: what each makes of premises that are elaborated already, and how it is refused.
-// Specifications and their laws only; the calls that follow them stand in a crate of their own above.
-// Stands on signatures and sig_laws.
-// Proved: each rule has exactly one conclusion or exactly one refusal (`type_rules`, `expression_rules`).
+// The rules of types and expressions in code: each call gives the conclusion of its rule out of premises that are handed
+// in, or the refusal of the first condition that fails.
+// Stands on core_judgments, whose definitions say what is given and what is refused, and on the crates of types and terms and
+// semantic_sigs, in whose handles it works.
+// Proved: what a call gives is the conclusion of its rule, and each refusal is one of its rule; want of memory alone is free.
 #![tactic(auto)]
 
-ghost use Rattle.core_rules.specs.OneOutcome.{OneBase, OneArrow, OneAll, OneOperator, OneApplied, OneRecordType, OneLiteral, OneFunction, OneTypeFunction, OneCall, OneInstance, OneGet, OneIf, OneOperation, OneFix, OneRecord};
+mod expressions;
+mod premises;
+mod records;
+mod refusal;
+mod types;
 
-/// Each rule of types gives exactly one type and kind, or has exactly one refusal, its first condition that fails; that
-/// of application where operator and argument have kinds in the context.
-pub fn type_rules()
-    ensures base { OneBase }
-    ensures arrow { OneArrow }
-    ensures all { OneAll }
-    ensures operator { OneOperator }
-    ensures applied { OneApplied }
-    ensures record_type { OneRecordType }
-{}
-
-/// Each rule of expressions gives exactly one type and term, or has exactly one refusal, its first condition that
-/// fails; that of instances where the function's type and the argument have kinds in the context.
-pub fn expression_rules()
-    ensures literal { OneLiteral }
-    ensures function { OneFunction }
-    ensures type_function { OneTypeFunction }
-    ensures call { OneCall }
-    ensures instance { OneInstance }
-    ensures get { OneGet }
-    ensures conditional { OneIf }
-    ensures operation { OneOperation }
-    ensures fixpoint { OneFix }
-    ensures record { OneRecord }
-{}
+pub use expressions::{
+    Literal, apply_exp, fix_exp, get_exp, if_exp, inst_exp, lam_exp, literal_exp, op_exp,
+    ty_lam_exp,
+};
+pub use records::{fields_exp, fields_ty};
+pub use refusal::CoreRefusal;
+pub use types::{Base, all_ty, apply_ty, arrow_ty, base_ty, lam_ty};

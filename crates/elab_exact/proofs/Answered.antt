@@ -12,49 +12,49 @@ use Rattle.omega_types.specs.Normality.Normal.{n_arrow}
 use Rattle.omega_types.specs.Binders.{extend}
 use Rattle.omega_types.proofs.Preservation.{normal-kind}
 use Rattle.omega_terms.specs.Term.{Term}
-use Rattle.signatures.specs.Signatures.Sig.{Sig, Abs, SigRow, Module, made}
-use Rattle.signatures.specs.Matching.Subtyping.{Match}
-use Rattle.signatures.specs.Env.{Env, Value, kinds, find, type_vars, with_module, named_fields}
-use Rattle.signatures.specs.Signatures.FieldOrder.{with_name, with_names}
-use Rattle.signatures.specs.Matching.MatchRefusal.{MatchRefusal, RefusesMatch}
-use Rattle.match_laws.proofs.LookUp.Good.{explicit-left}
+use Rattle.sig_definitions.specs.Signatures.Sig.{Sig, Abs, SigRow, Module, made}
+use Rattle.sig_definitions.specs.Matching.Subtyping.{Match}
+use Rattle.sig_definitions.specs.Env.{Env, Value, kinds, find, type_vars, with_module, named_fields}
+use Rattle.sig_definitions.specs.Signatures.FieldOrder.{with_name, with_names}
+use Rattle.sig_definitions.specs.Matching.MatchRefusal.{MatchRefusal, RefusesMatch}
+use Rattle.sig_match_laws.proofs.LookUp.Good.{explicit-left}
 use Rattle.sig_laws.proofs.Formed.Conditions.{abs-body, structure-row}
 use Rattle.fing_syntax.specs.Phrase.{Span, SpanName, Mod, ModAt, ModName, ModStruct, ModProject, ModFunctor, ModApply, ModSeal, ModUnpack, Bind, BindAt, BindVal, BindTy, BindModule, BindSignature, BindInclude, Binds, NoBinds, MoreBinds, SigEx, SigAt, PathSig, SigDecls, SigFun, SigRefine, Decl, DeclAt, DeclVal, DeclTyIs, DeclTyOf, DeclModule, DeclSignature, DeclInclude, Decls, NoDecls, MoreDecls, TyEx, TyAt, PathTy, TyInt, TyBool, TyText, TyArrow, TyApply, TyFields, TyAll, TyLam, TyPack, TyExs, NoTys, MoreTys, FieldTyExs, NoFieldTys, MoreFieldTys, Exp, ExpAt, PathExp, ExpInt, ExpBool, ExpText, ExpLam, ExpTyLam, ExpFix, ExpIf, ExpOps, ExpApply, ExpFields, ExpGet, ExpPack, OpExps, NoOps, MoreOps, ArgExp, ArgTy, Args, NoArgs, MoreArgs, FieldExps, NoFieldExps, MoreFieldExps}
 use Rattle.fing_syntax.specs.Place.{name_of, name_span, ty_span, exp_span, sig_span, up_to}
-use Rattle.core_rules.specs.CoreWhy.{CoreWhy}
-use Rattle.core_rules.specs.OneOutcome.{Never}
-use Rattle.core_rules.specs.TypeRules.{Base, AppliedGives}
-use Rattle.core_rules.specs.ExpRules.{Literal, CallGives, InstanceGives}
-use Rattle.core_rules.proofs.TypeVerdicts.{one_base, one_record_type, one_arrow, one_all, one_operator, one_applied}
-use Rattle.core_rules.proofs.ExpVerdicts.{one_literal, one_record, one_function, one_type_function, one_call, one_instance, one_get, one_if, one_operation, one_fix}
-use Rattle.sig_rules.specs.SigRules.{ValueGives, TypeGives, AbstractGives, ModuleGives, SignatureGives, IncludeGives, DeclarationsGive}
-use Rattle.sig_rules.proofs.Verdicts.{one_value, one_type, one_abstract, one_module, one_signature, one_include, one_generative, one_distinct, one_declarations}
-use Rattle.module_rules.proofs.Verdicts.{str-same, one_named, one_projected, one_type_path, one_value_path, one_sig_path, one_parts, one_generative as one_generative_module, found-one as bound-one, applies-one, include-one, included-structure, one_seal, one_value_module, one_type_module, one_signature_module, param-ok}
-use Rattle.module_rules.specs.ModWhy.{ModWhy}
-use Rattle.module_rules.specs.ModRules.{NamedRefuses}
-use Rattle.applicative_functors.proofs.Verdicts.{one_pure_functor}
-use Rattle.packages.proofs.Verdicts.{one_pack_type, one_pack, one_unpack}
-use Rattle.elab_rules.specs.Operators.{names_of, with_type, include_name, omega_op}
-use Rattle.fing_refusals.specs.Refusal.{Refusal}
-use Rattle.elab_rules.specs.Refusals.Refusal.{refuse, refuse_match, of_mod}
-use Rattle.elab_rules.specs.Judgments.Meaning.{DeclMeans, DeclsMean}
-use Rattle.signatures.specs.Verdict.{Verdict, holds, refuses, One}
-use Rattle.elab_rules.specs.Refusals.Task.{Task, a_type, type_args, type_fields, an_exp, operands, args, fields, a_sig, a_decl, decls, a_mod, a_bind, binds}
-use Rattle.elab_rules.specs.Refusals.Steps.{steps, functor_sig, refined, decls_from, generative, functor_of, functor_body, after_bind, after_include}
+use Rattle.core_judgments.specs.CoreWhy.{CoreWhy}
+use Rattle.core_judgments.specs.OneOutcome.{Never}
+use Rattle.core_judgments.specs.TypeRules.{Base, AppliedGives}
+use Rattle.core_judgments.specs.ExpRules.{Literal, CallGives, InstanceGives}
+use Rattle.core_judgments.proofs.TypeVerdicts.{one_base, one_record_type, one_arrow, one_all, one_operator, one_applied}
+use Rattle.core_judgments.proofs.ExpVerdicts.{one_literal, one_record, one_function, one_type_function, one_call, one_instance, one_get, one_if, one_operation, one_fix}
+use Rattle.sig_judgments.specs.SigRules.{ValueGives, TypeGives, AbstractGives, ModuleGives, SignatureGives, IncludeGives, DeclarationsGive}
+use Rattle.sig_judgments.proofs.Verdicts.{one_value, one_type, one_abstract, one_module, one_signature, one_include, one_generative, one_distinct, one_declarations}
+use Rattle.module_judgments.proofs.Verdicts.{str-same, one_named, one_projected, one_type_path, one_value_path, one_sig_path, one_parts, one_generative as one_generative_module, found-one as bound-one, applies-one, include-one, included-structure, one_seal, one_value_module, one_type_module, one_signature_module, param-ok}
+use Rattle.module_judgments.specs.ModWhy.{ModWhy}
+use Rattle.module_judgments.specs.ModRules.{NamedRefuses}
+use Rattle.functor_judgments.proofs.Verdicts.{one_pure_functor}
+use Rattle.package_judgments.proofs.Verdicts.{one_pack_type, one_pack, one_unpack}
+use Rattle.elab_judgments.specs.Operators.{names_of, with_type, include_name, omega_op}
+use Rattle.refusal_reasons.specs.Refusal.{Refusal}
+use Rattle.elab_judgments.specs.Refusals.Refusal.{refuse, refuse_match, of_mod}
+use Rattle.elab_judgments.specs.Judgments.Meaning.{DeclMeans, DeclsMean}
+use Rattle.sig_definitions.specs.Verdict.{Verdict, holds, refuses, One}
+use Rattle.elab_judgments.specs.Refusals.Task.{Task, a_type, type_args, type_fields, an_exp, operands, args, fields, a_sig, a_decl, decls, a_mod, a_bind, binds}
+use Rattle.elab_judgments.specs.Refusals.Steps.{steps, functor_sig, refined, decls_from, generative, functor_of, functor_body, after_bind, after_include}
 use Rattle.elab_exact.specs.Claims.{Exactly}
 use Rattle.sig_laws.specs.Good.{OkSig, OkRow, OkRight, OkEnv, OkModule, Names}
 use Rattle.elab_laws.proofs.FieldLaws.{rise-with_name, rise-with_names}
 use Rattle.elab_laws.proofs.Kept.{type_ok, exp_ok, sig_ok, decl_ok, mod_ok, bind_ok, binds_ok, norm_ok}
-use Rattle.sig_rules.proofs.WhereVerdict.{one_where}
+use Rattle.sig_judgments.proofs.WhereVerdict.{one_where}
 use Rattle.elab_exact.proofs.Places.{placed}
 use Rattle.elab_exact.proofs.Rules.Generic.{Ready, answer, perhaps-some, dec-test, one-the, stopped}
 use Rattle.elab_exact.proofs.Rules.Complete.{means-runs}
 use Rattle.elab_exact.proofs.Rules.Correct.{steps-sound}
 use Rattle.sig_laws.specs.Decide.{dec_ty}
 use Rattle.sig_laws.proofs.Formed.Forms.{kind-arrow, type-arrow, type-all, type-record, new_dec}
-use Rattle.premise_laws.proofs.Environments.{body-ok, good-module, good-fields, good-type_fields, find-good, bound-module, bound-bind, bound-fields}
-use Rattle.premise_laws.proofs.Determined.{lift-one, match-verdict, norm-one}
-use Rattle.module_rules.proofs.Determined.{collected-one, seq-one}
+use Rattle.sig_premise_laws.proofs.Environments.{body-ok, good-module, good-fields, good-type_fields, find-good, bound-module, bound-bind, bound-fields}
+use Rattle.sig_premise_laws.proofs.Determined.{lift-one, match-verdict, norm-one}
+use Rattle.module_judgments.proofs.Determined.{collected-one, seq-one}
 use Rattle.sig_laws.proofs.Encoded.EnvTyping.{kinds-named_fields}
 use Rattle.sig_laws.proofs.Algebra.FormLaws.{kinds-type_vars, module-under}
 

@@ -3,19 +3,19 @@ use Rattle.std.specs.Prelude.{List, ◌∷◌, ◌≡◌, length}
 use Rattle.std.proofs.Math.Path.{refl}
 use Rattle.omega_kinds.specs.Kind.{Kind}
 use Rattle.omega_kinds.specs.declared.effect.Effect.{Effect}
-use Rattle.signatures.specs.Signatures.Sig.{Sig, Abs, SigRow, here}
-use Rattle.signatures.specs.Explicit.SigPath.{Item}
-use Rattle.signatures.specs.Env.{Env, kinds}
-use Rattle.signatures.specs.Matching.MatchRefusal.{MatchRefusal, NoRoot, Clash, within, RefusesMatch, RefusesSub, RefusesFields, RefusesResult, RefusesSubAbs}
+use Rattle.sig_definitions.specs.Signatures.Sig.{Sig, Abs, SigRow, here}
+use Rattle.sig_definitions.specs.Explicit.SigPath.{Item}
+use Rattle.sig_definitions.specs.Env.{Env, kinds}
+use Rattle.sig_definitions.specs.Matching.MatchRefusal.{MatchRefusal, NoRoot, Clash, within, RefusesMatch, RefusesSub, RefusesFields, RefusesResult, RefusesSubAbs}
 use Rattle.sig_laws.proofs.Formed.Conditions.{match-kinds}
-use Rattle.match_laws.proofs.LookUp.Good.{GoodResult, good-param, good-left_result, good-right_param, good-right_result, good-pure, good-impure, good-body, good-at, good-raised, good-left_field, good-right_field, good-meta, good-rest, explicit-left}
-use Rattle.match_laws.proofs.LookUp.FoundKinds.{looked-normal}
+use Rattle.sig_match_laws.proofs.LookUp.Good.{GoodResult, good-param, good-left_result, good-right_param, good-right_result, good-pure, good-impure, good-body, good-at, good-raised, good-left_field, good-right_field, good-meta, good-rest, explicit-left}
+use Rattle.sig_match_laws.proofs.LookUp.FoundKinds.{looked-normal}
 use Rattle.omega_types.proofs.BinderPuts.{types-kinds}
 use Rattle.fing_syntax.specs.Phrase.{Span}
-use Rattle.fing_refusals.specs.Good.{GoodClash, GoodRefusal}
-use Rattle.elab_rules.specs.Refusals.Refusal.{refuse_match}
+use Rattle.refusal_reasons.specs.Good.{GoodClash, GoodRefusal}
+use Rattle.elab_judgments.specs.Refusals.Refusal.{refuse_match}
 use Rattle.sig_laws.specs.Good.{OkSig, OkAbs, OkRight}
-use Rattle.match_laws.specs.MatchClaims.{IsRightSig}
+use Rattle.sig_match_laws.specs.MatchClaims.{IsRightSig}
 
 abbrev GoodMatch : MatchRefusal → Type 0
 GoodMatch (NoRoot number path) = Unit {0}

@@ -11,31 +11,31 @@ use Rattle.omega_types.specs.Normality.Normal.{n_arrow, n_neutral, n_int, n_bool
 use Rattle.omega_types.specs.Binders.{extend}
 use Rattle.omega_terms.specs.declared.op.Op.{Op}
 use Rattle.omega_terms.specs.Term.{Term}
-use Rattle.signatures.specs.Signatures.Sig.{Sig, Abs, Module, made}
-use Rattle.signatures.specs.Env.{Env, Value, kinds, with_module}
-use Rattle.signatures.specs.Matching.MatchRefusal.{MatchRefusal, RefusesMatch}
+use Rattle.sig_definitions.specs.Signatures.Sig.{Sig, Abs, Module, made}
+use Rattle.sig_definitions.specs.Env.{Env, Value, kinds, with_module}
+use Rattle.sig_definitions.specs.Matching.MatchRefusal.{MatchRefusal, RefusesMatch}
 use Rattle.sig_laws.specs.Good.{OkSig, OkRow, OkRight, OkEnv, OkModule}
 use Rattle.sig_laws.proofs.Algebra.FormLaws.{kinds-type_vars}
 use Rattle.sig_laws.proofs.Encoded.EncodingLaws.{enc_well_formed-normal}
 use Rattle.sig_laws.proofs.Formed.Conditions.{explicit-abs, abs-body, structure-row}
 use Rattle.fing_syntax.specs.Phrase.{Span, SpanName, Mod, ModAt, ModName, ModStruct, ModProject, ModFunctor, ModApply, ModSeal, ModUnpack, Bind, BindAt, BindVal, BindTy, BindModule, BindSignature, BindInclude, Binds, NoBinds, MoreBinds, SigEx, SigAt, PathSig, SigDecls, SigFun, SigRefine, Decl, DeclAt, DeclVal, DeclTyIs, DeclTyOf, DeclModule, DeclSignature, DeclInclude, Decls, NoDecls, MoreDecls, TyEx, TyAt, PathTy, TyInt, TyBool, TyText, TyArrow, TyApply, TyFields, TyAll, TyLam, TyPack, TyExs, NoTys, MoreTys, FieldTyExs, NoFieldTys, MoreFieldTys, Exp, ExpAt, PathExp, ExpInt, ExpBool, ExpText, ExpLam, ExpTyLam, ExpFix, ExpIf, ExpOps, ExpApply, ExpFields, ExpGet, ExpPack, OpExps, NoOps, MoreOps, ArgExp, ArgTy, Args, NoArgs, MoreArgs, FieldExps, NoFieldExps, MoreFieldExps}
 use Rattle.fing_syntax.specs.Place.{name_of}
-use Rattle.fing_refusals.specs.Refusal.{Refusal, ElabWhy, NotArrow, NotAll, NotRecord, Differ, KindDiffer, DuplicateField, NotOperator, NotStructure}
-use Rattle.fing_refusals.specs.Good.{GoodWhy, GoodRefusal}
-use Rattle.core_rules.specs.CoreWhy.{CoreWhy}
-use Rattle.core_rules.specs.TypeRules.{FieldTy, RecordTypeRefuses, ArrowRefuses, AllRefuses, AppliedGives, AppliedRefuses}
-use Rattle.core_rules.specs.ExpRules.{FieldExp, RecordRefuses, FunctionRefuses, CallGives, CallRefuses, InstanceGives, InstanceRefuses, GetRefuses, IfRefuses, OperationGives, OperationRefuses, FixRefuses}
-use Rattle.sig_rules.specs.SigWhy.{SigWhy}
-use Rattle.module_rules.specs.ModWhy.{ModWhy}
-use Rattle.module_rules.proofs.Verdicts.{param-ok}
-use Rattle.packages.specs.Package.{UnpackWhy, UnpackRefuses}
-use Rattle.premise_laws.proofs.Environments.{body-ok, good-module, good-fields, good-type_fields, find-good}
-use Rattle.elab_rules.specs.Operators.{include_name}
-use Rattle.elab_rules.specs.Refusals.Refusal.{refuse, refuse_match, of_core, of_sig, of_mod, of_unpack}
-use Rattle.elab_rules.specs.Refusals.Task.{Task, Result, Means, a_type, type_args, type_fields, an_exp, operands, args, fields, a_sig, a_decl, decls, a_mod, a_bind, binds}
-use Rattle.elab_rules.specs.Refusals.Rule.{Rule, Fails, Enters}
-use Rattle.elab_rules.specs.Refusals.Steps.{steps, type_steps, type_args_steps, type_fields_steps, exp_steps, operands_steps, args_steps, fields_steps, functor_sig, refined, sig_steps, decl_steps, decls_from, decls_steps, functor_of, functor_body, mod_steps, bind_steps, after_bind, after_include, binds_steps}
-use Rattle.elab_rules.specs.Refusals.Refused.{Refused}
+use Rattle.refusal_reasons.specs.Refusal.{Refusal, ElabWhy, NotArrow, NotAll, NotRecord, Differ, KindDiffer, DuplicateField, NotOperator, NotStructure}
+use Rattle.refusal_reasons.specs.Good.{GoodWhy, GoodRefusal}
+use Rattle.core_judgments.specs.CoreWhy.{CoreWhy}
+use Rattle.core_judgments.specs.TypeRules.{FieldTy, RecordTypeRefuses, ArrowRefuses, AllRefuses, AppliedGives, AppliedRefuses}
+use Rattle.core_judgments.specs.ExpRules.{FieldExp, RecordRefuses, FunctionRefuses, CallGives, CallRefuses, InstanceGives, InstanceRefuses, GetRefuses, IfRefuses, OperationGives, OperationRefuses, FixRefuses}
+use Rattle.sig_judgments.specs.SigWhy.{SigWhy}
+use Rattle.module_judgments.specs.ModWhy.{ModWhy}
+use Rattle.module_judgments.proofs.Verdicts.{param-ok}
+use Rattle.package_judgments.specs.Package.{UnpackWhy, UnpackRefuses}
+use Rattle.sig_premise_laws.proofs.Environments.{body-ok, good-module, good-fields, good-type_fields, find-good}
+use Rattle.elab_judgments.specs.Operators.{include_name}
+use Rattle.elab_judgments.specs.Refusals.Refusal.{refuse, refuse_match, of_core, of_sig, of_mod, of_unpack}
+use Rattle.elab_judgments.specs.Refusals.Task.{Task, Result, Means, a_type, type_args, type_fields, an_exp, operands, args, fields, a_sig, a_decl, decls, a_mod, a_bind, binds}
+use Rattle.elab_judgments.specs.Refusals.Rule.{Rule, Fails, Enters}
+use Rattle.elab_judgments.specs.Refusals.Steps.{steps, type_steps, type_args_steps, type_fields_steps, exp_steps, operands_steps, args_steps, fields_steps, functor_sig, refined, sig_steps, decl_steps, decls_from, decls_steps, functor_of, functor_body, mod_steps, bind_steps, after_bind, after_include, binds_steps}
+use Rattle.elab_judgments.specs.Refusals.Refused.{Refused}
 use Rattle.elab_laws.proofs.Kept.{type_ok, exp_ok, sig_ok, decl_ok, mod_ok, bind_ok, norm_ok}
 use Rattle.elab_exact.specs.Claims.{RefusalsAreGood}
 use Rattle.elab_exact.proofs.GoodMatches.{refused-match}

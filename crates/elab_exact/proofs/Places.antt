@@ -4,19 +4,19 @@ use Rattle.std.proofs.Math.Path.{refl, sym, subst, ap, ◌∙◌}
 use Rattle.omega_kinds.specs.Kind.{Kind}
 use Rattle.omega_kinds.specs.Name.{Name}
 use Rattle.omega_types.specs.Ty.{Ty}
-use Rattle.signatures.specs.Signatures.Sig.{Sig, Abs}
-use Rattle.signatures.specs.Env.{Env, kinds}
-use Rattle.signatures.specs.Verdict.{Verdict, holds, refuses, One}
+use Rattle.sig_definitions.specs.Signatures.Sig.{Sig, Abs}
+use Rattle.sig_definitions.specs.Env.{Env, kinds}
+use Rattle.sig_definitions.specs.Verdict.{Verdict, holds, refuses, One}
 use Rattle.fing_syntax.specs.Phrase.{Span, SpanName, TyEx}
 use Rattle.fing_syntax.specs.Place.{name_of, name_span, ty_span, path_span}
-use Rattle.fing_refusals.specs.Refusal.{Refusal}
-use Rattle.sig_rules.specs.SigWhy.{SigWhy}
-use Rattle.sig_rules.specs.SigRules.{WhereRefuses}
-use Rattle.sig_rules.specs.Refinement.{Refined, Leads, LeavesAt}
-use Rattle.sig_rules.proofs.Paths.{leads}
-use Rattle.elab_rules.specs.Operators.{names_of}
-use Rattle.elab_rules.specs.Refusals.Refusal.{refuse, of_sig}
-use Rattle.elab_rules.specs.Refusals.Steps.{WhereAt}
+use Rattle.refusal_reasons.specs.Refusal.{Refusal}
+use Rattle.sig_judgments.specs.SigWhy.{SigWhy}
+use Rattle.sig_judgments.specs.SigRules.{WhereRefuses}
+use Rattle.sig_judgments.specs.Refinement.{Refined, Leads, LeavesAt}
+use Rattle.sig_judgments.proofs.Paths.{leads}
+use Rattle.elab_judgments.specs.Operators.{names_of}
+use Rattle.elab_judgments.specs.Refusals.Refusal.{refuse, of_sig}
+use Rattle.elab_judgments.specs.Refusals.Steps.{WhereAt}
 
 -- the path of names leaves where the path of places does
 Leaving : Sig → List SpanName → Name → Type 0

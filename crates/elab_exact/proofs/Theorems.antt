@@ -3,20 +3,20 @@ use Rattle.std.specs.Prelude.{[], ◌≡◌, ◌⊎◌}
 use Rattle.std.proofs.Common.{inl, inr}
 use Rattle.std.proofs.Math.Path.{refl, sym, subst, ap, ◌∙◌}
 use Rattle.omega_terms.specs.Term.{Term}
-use Rattle.signatures.specs.Signatures.Sig.{Module}
-use Rattle.signatures.specs.Packing.{Packed}
+use Rattle.sig_definitions.specs.Signatures.Sig.{Module}
+use Rattle.sig_definitions.specs.Packing.{Packed}
 use Rattle.fing_syntax.specs.Phrase.{Binds}
-use Rattle.elab_rules.specs.Judgments.Program.{ProgramMeans}
-use Rattle.elab_rules.specs.Judgments.Meaning.{BindsMean}
-use Rattle.signatures.specs.Verdict.{Verdict, holds, refuses, One}
-use Rattle.elab_rules.specs.Refusals.Task.{Means, a_type, type_args, type_fields, an_exp, operands, args, fields, a_sig, a_decl, decls, a_mod, a_bind, binds}
+use Rattle.elab_judgments.specs.Judgments.Program.{ProgramMeans}
+use Rattle.elab_judgments.specs.Judgments.Meaning.{BindsMean}
+use Rattle.sig_definitions.specs.Verdict.{Verdict, holds, refuses, One}
+use Rattle.elab_judgments.specs.Refusals.Task.{Means, a_type, type_args, type_fields, an_exp, operands, args, fields, a_sig, a_decl, decls, a_mod, a_bind, binds}
 use Rattle.elab_exact.specs.Claims.{Exactly, EachAnswered, OutcomesEqual, Exclusive, RefusalsEqual, Total, Ok, Err, Mem, AnswersExact, StepsSayTheRules, ProgramExactly, EachProgram}
 use Rattle.elab_laws.proofs.Kept.{binds_ok}
 use Rattle.elab_exact.proofs.Rules.Generic.{runs-sound}
 use Rattle.elab_exact.proofs.Rules.Complete.{means-runs}
 use Rattle.elab_exact.proofs.Rules.Correct.{steps-sound}
-use Rattle.elab_rules.specs.Refusals.Steps.{steps}
-use Rattle.premise_laws.proofs.Determined.{packed-one}
+use Rattle.elab_judgments.specs.Refusals.Steps.{steps}
+use Rattle.sig_premise_laws.proofs.Determined.{packed-one}
 use Rattle.elab_exact.proofs.Answered.{type-one, type_args-one, type_fields-one, exp-one, operands-one, args-one, fields-one, sig-one, decl-one, decls-one, mod-one, bind-one, binds-one}
 
 pub each-answered : EachAnswered

@@ -3,17 +3,17 @@ use Rattle.std.specs.Prelude.{◌≡◌, ◌⊎◌}
 use Rattle.omega_kinds.specs.Kind.{Kind}
 use Rattle.omega_types.specs.Kinding.{HasKind}
 use Rattle.omega_terms.specs.Term.{Term}
-use Rattle.signatures.specs.Signatures.Sig.{Module}
-use Rattle.signatures.specs.Env.{Env, kinds}
+use Rattle.sig_definitions.specs.Signatures.Sig.{Module}
+use Rattle.sig_definitions.specs.Env.{Env, kinds}
 use Rattle.fing_syntax.specs.Phrase.{Binds}
-use Rattle.fing_refusals.specs.Refusal.{Refusal}
-use Rattle.fing_refusals.specs.Good.{GoodRefusal}
-use Rattle.elab_rules.specs.Judgments.Program.{ProgramMeans, ProgramRefused}
-use Rattle.signatures.specs.Verdict.{Verdict}
-use Rattle.elab_rules.specs.Refusals.Task.{Task, Result, Means, type_args, args, binds}
-use Rattle.elab_rules.specs.Refusals.Rule.{Runs}
-use Rattle.elab_rules.specs.Refusals.Steps.{steps}
-use Rattle.elab_rules.specs.Refusals.Refused.{Refused}
+use Rattle.refusal_reasons.specs.Refusal.{Refusal}
+use Rattle.refusal_reasons.specs.Good.{GoodRefusal}
+use Rattle.elab_judgments.specs.Judgments.Program.{ProgramMeans, ProgramRefused}
+use Rattle.sig_definitions.specs.Verdict.{Verdict}
+use Rattle.elab_judgments.specs.Refusals.Task.{Task, Result, Means, type_args, args, binds}
+use Rattle.elab_judgments.specs.Refusals.Rule.{Runs}
+use Rattle.elab_judgments.specs.Refusals.Steps.{steps}
+use Rattle.elab_judgments.specs.Refusals.Refused.{Refused}
 use Rattle.sig_laws.specs.Good.{OkEnv, Names}
 
 -- what a task holds besides its phrases is right in the environment

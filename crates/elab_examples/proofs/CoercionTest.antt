@@ -14,10 +14,10 @@ use Rattle.omega_types.proofs.Preservation.{normal-kind}
 use Rattle.omega_terms.specs.Term.{Term, TermRow}
 use Rattle.omega_terms.specs.Shorthands.{Packs, opens}
 use Rattle.omega_terms.specs.Coercions.{same_part, fields_part, functor_part, AbsPart}
-use Rattle.signatures.specs.Signatures.Sig.{Sig, Abs, SigRow, HasField}
-use Rattle.signatures.specs.Signatures.Alike.{AlikeSig, AlikeAbs, AlikeRow}
-use Rattle.signatures.specs.Signatures.Encoding.{enc, enc_abs}
-use Rattle.signatures.specs.Matching.Subtyping.{Sub, SubFields, SubResult, SubAbs, Match}
+use Rattle.sig_definitions.specs.Signatures.Sig.{Sig, Abs, SigRow, HasField}
+use Rattle.sig_definitions.specs.Signatures.Alike.{AlikeSig, AlikeAbs, AlikeRow}
+use Rattle.sig_definitions.specs.Signatures.Encoding.{enc, enc_abs}
+use Rattle.sig_definitions.specs.Matching.Subtyping.{Sub, SubFields, SubResult, SubAbs, Match}
 use Rattle.omega_terms.proofs.NormalTyping.{typed-sound}
 use Rattle.sig_laws.proofs.Encoded.EncodingTyping.{Good, Shape}
 use Rattle.sig_laws.proofs.Encoded.CoercionTyping.{sub-typed}

@@ -21,14 +21,14 @@ use Rattle.omega_terms.specs.Term.{Term}
 use Rattle.omega_terms.specs.Shorthands.{let_in, Packs}
 use Rattle.omega_terms.specs.Instance.{TyInstance, Instance, Instances}
 use Rattle.omega_terms.specs.PartTerms.{one_field}
-use Rattle.signatures.specs.Signatures.Sig.{Sig, SigRow, made}
-use Rattle.signatures.specs.Signatures.Alike.{AlikeSig, AlikeAbs, AlikeRow, NormalSigForm}
-use Rattle.signatures.specs.Signatures.SigSubst.{sig_at}
-use Rattle.signatures.specs.Signatures.Encoding.{enc, enc_abs}
-use Rattle.signatures.specs.Packing.{Packed}
-use Rattle.module_rules.specs.Sequence.{Seq, Collected}
-use Rattle.elab_rules.specs.Judgments.Meaning.{BindMeans, BindsMean}
-use Rattle.elab_rules.specs.Judgments.Program.{ProgramMeans}
+use Rattle.sig_definitions.specs.Signatures.Sig.{Sig, SigRow, made}
+use Rattle.sig_definitions.specs.Signatures.Alike.{AlikeSig, AlikeAbs, AlikeRow, NormalSigForm}
+use Rattle.sig_definitions.specs.Signatures.SigSubst.{sig_at}
+use Rattle.sig_definitions.specs.Signatures.Encoding.{enc, enc_abs}
+use Rattle.sig_definitions.specs.Packing.{Packed}
+use Rattle.module_judgments.specs.Sequence.{Seq, Collected}
+use Rattle.elab_judgments.specs.Judgments.Meaning.{BindMeans, BindsMean}
+use Rattle.elab_judgments.specs.Judgments.Program.{ProgramMeans}
 use Rattle.elab_laws.proofs.TypedClaims.{whole_is_typed}
 use Rattle.elab_examples.specs.Rows.{t}
 use Rattle.elab_examples.specs.PackageRow.{u, A}

@@ -16,24 +16,24 @@ use Rattle.omega_types.proofs.Preservation.{normal-kind}
 use Rattle.omega_terms.specs.Term.{Term}
 use Rattle.omega_terms.specs.Shorthands.{let_in, Packs}
 use Rattle.omega_terms.specs.Instance.{Instance, Instances}
-use Rattle.signatures.specs.Signatures.Sig.{Abs, HasField, made}
-use Rattle.signatures.specs.Signatures.Alike.{AlikeSig, AlikeAbs, AlikeRow, NormalSigForm}
-use Rattle.signatures.specs.Signatures.Encoding.{enc, enc_abs}
-use Rattle.signatures.specs.Env.{Env, Entry}
-use Rattle.signatures.specs.Matching.Subtyping.{Sub, SubFields, Match}
+use Rattle.sig_definitions.specs.Signatures.Sig.{Abs, HasField, made}
+use Rattle.sig_definitions.specs.Signatures.Alike.{AlikeSig, AlikeAbs, AlikeRow, NormalSigForm}
+use Rattle.sig_definitions.specs.Signatures.Encoding.{enc, enc_abs}
+use Rattle.sig_definitions.specs.Env.{Env, Entry}
+use Rattle.sig_definitions.specs.Matching.Subtyping.{Sub, SubFields, Match}
 use Rattle.omega_terms.specs.PartTerms.{one_field}
-use Rattle.signatures.specs.Packing.{Packed}
-use Rattle.signatures.specs.Lifting.{Lift}
-use Rattle.module_rules.specs.PathUse.{TypeOfPath}
-use Rattle.module_rules.specs.Projection.{Projected}
-use Rattle.module_rules.specs.Sequence.{Seq, Collected}
-use Rattle.sig_rules.specs.SigRules.{AbstractGives, DeclarationsGive}
-use Rattle.module_rules.specs.ModRules.{SealGives, TypeGives as TypeModule, NamedGives, GenerativeGives, PartsGive, ApplyGives}
-use Rattle.core_rules.specs.TypeRules.{BaseGives}
-use Rattle.applicative_functors.specs.PureFunctor.{PureFunctorGives}
-use Rattle.elab_rules.specs.Judgments.Meaning.{TyMeans, SigMeans, DeclMeans, DeclsMean, ModMeans, BindMeans, BindsMean}
+use Rattle.sig_definitions.specs.Packing.{Packed}
+use Rattle.sig_definitions.specs.Lifting.{Lift}
+use Rattle.module_judgments.specs.PathUse.{TypeOfPath}
+use Rattle.module_judgments.specs.Projection.{Projected}
+use Rattle.module_judgments.specs.Sequence.{Seq, Collected}
+use Rattle.sig_judgments.specs.SigRules.{AbstractGives, DeclarationsGive}
+use Rattle.module_judgments.specs.ModRules.{SealGives, TypeGives as TypeModule, NamedGives, GenerativeGives, PartsGive, ApplyGives}
+use Rattle.core_judgments.specs.TypeRules.{BaseGives}
+use Rattle.functor_judgments.specs.PureFunctor.{PureFunctorGives}
+use Rattle.elab_judgments.specs.Judgments.Meaning.{TyMeans, SigMeans, DeclMeans, DeclsMean, ModMeans, BindMeans, BindsMean}
 use Rattle.omega_types.specs.Kinding.HasKind.{k_int}
-use Rattle.signatures.specs.Explicit.WellFormed.{WellFormed, WellFormedRow}
+use Rattle.sig_definitions.specs.Explicit.WellFormed.{WellFormed, WellFormedRow}
 use Rattle.elab_laws.proofs.TypedClaims.{module_is_typed}
 use Rattle.elab_examples.specs.Rows.{t, h1}
 use Rattle.elab_examples.specs.PackageRow.{u, A}

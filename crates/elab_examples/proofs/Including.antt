@@ -15,21 +15,21 @@ use Rattle.omega_terms.specs.Term.{Term, TermRow}
 use Rattle.omega_terms.specs.Shorthands.{let_in, opens, Packs}
 use Rattle.omega_terms.specs.PartTerms.{type_term}
 use Rattle.omega_terms.specs.Instance.{Instance, Instances}
-use Rattle.signatures.specs.Signatures.Sig.{Sig, Abs, SigRow, HasField, made}
-use Rattle.signatures.specs.Signatures.Alike.{AlikeSig}
-use Rattle.signatures.specs.Signatures.Encoding.{enc, enc_abs}
-use Rattle.signatures.specs.Explicit.SigPath.{PartAt}
-use Rattle.signatures.specs.Packing.{Packed}
-use Rattle.module_rules.specs.PathUse.{TypeOfPath, ValueOfPath}
-use Rattle.module_rules.specs.Projection.{Projected}
-use Rattle.module_rules.specs.Sequence.{Seq, Collected, field_lets, past_opens}
-use Rattle.module_rules.specs.ModRules.{TypeGives as TypeModule, NamedGives, IncludeGives as IncludeModule}
-use Rattle.packages.specs.Package.{UnpackGives}
-use Rattle.elab_rules.specs.Judgments.Meaning.{TyMeans, ExpMeans, ModMeans, BindMeans, BindsMean}
-use Rattle.sig_rules.specs.Refinement.{Refined}
+use Rattle.sig_definitions.specs.Signatures.Sig.{Sig, Abs, SigRow, HasField, made}
+use Rattle.sig_definitions.specs.Signatures.Alike.{AlikeSig}
+use Rattle.sig_definitions.specs.Signatures.Encoding.{enc, enc_abs}
+use Rattle.sig_definitions.specs.Explicit.SigPath.{PartAt}
+use Rattle.sig_definitions.specs.Packing.{Packed}
+use Rattle.module_judgments.specs.PathUse.{TypeOfPath, ValueOfPath}
+use Rattle.module_judgments.specs.Projection.{Projected}
+use Rattle.module_judgments.specs.Sequence.{Seq, Collected, field_lets, past_opens}
+use Rattle.module_judgments.specs.ModRules.{TypeGives as TypeModule, NamedGives, IncludeGives as IncludeModule}
+use Rattle.package_judgments.specs.Package.{UnpackGives}
+use Rattle.elab_judgments.specs.Judgments.Meaning.{TyMeans, ExpMeans, ModMeans, BindMeans, BindsMean}
+use Rattle.sig_judgments.specs.Refinement.{Refined}
 use Rattle.omega_kinds.specs.declared.effect.Effect.TheVariants.{Impure}
 use Rattle.omega_terms.specs.Typing.{HasType}
-use Rattle.signatures.specs.Explicit.WellFormed.{WellFormed}
+use Rattle.sig_definitions.specs.Explicit.WellFormed.{WellFormed}
 use Rattle.fing_syntax.specs.Phrase.{Mod, ModAt, ModUnpack, ExpAt, PathExp}
 use Rattle.elab_laws.proofs.TypedClaims.{module_is_typed}
 use Rattle.elab_examples.specs.Rows.{t, x}

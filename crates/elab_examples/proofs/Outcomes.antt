@@ -9,30 +9,30 @@ use Rattle.omega_kinds.specs.Name.{Name}
 use Rattle.omega_types.specs.Ty.{Ty}
 use Rattle.omega_types.specs.Binders.{extend}
 use Rattle.omega_terms.specs.Term.{Term, TermRow}
-use Rattle.signatures.specs.Signatures.Sig.{Sig, Abs, SigRow, HasField, Module, made}
-use Rattle.signatures.specs.Signatures.Alike.{NormalAbsForm}
+use Rattle.sig_definitions.specs.Signatures.Sig.{Sig, Abs, SigRow, HasField, Module, made}
+use Rattle.sig_definitions.specs.Signatures.Alike.{NormalAbsForm}
 use Rattle.omega_terms.specs.Shorthands.{opens}
-use Rattle.signatures.specs.Signatures.Encoding.{enc_abs}
-use Rattle.signatures.specs.Signatures.SigSubst.{abs_at}
-use Rattle.signatures.specs.Env.{Env, kinds, find, with_module}
-use Rattle.signatures.specs.Lifting.{Lift}
-use Rattle.signatures.specs.Matching.Subtyping.{Match}
-use Rattle.signatures.specs.Signatures.FieldOrder.{with_name}
+use Rattle.sig_definitions.specs.Signatures.Encoding.{enc_abs}
+use Rattle.sig_definitions.specs.Signatures.SigSubst.{abs_at}
+use Rattle.sig_definitions.specs.Env.{Env, kinds, find, with_module}
+use Rattle.sig_definitions.specs.Lifting.{Lift}
+use Rattle.sig_definitions.specs.Matching.Subtyping.{Match}
+use Rattle.sig_definitions.specs.Signatures.FieldOrder.{with_name}
 use Rattle.sig_laws.proofs.Algebra.FormLaws.{module-under}
 use Rattle.sig_laws.proofs.Formed.Conditions.{abs-body}
 use Rattle.fing_syntax.specs.Phrase.{Span, SpanName, Mod, ModAt, ModStruct, ModProject, ModFunctor, ModApply, Bind, BindAt, BindModule, Binds, NoBinds, MoreBinds, SigEx}
 use Rattle.fing_syntax.specs.Place.{name_of}
-use Rattle.module_rules.specs.Projection.{Projected}
-use Rattle.module_rules.specs.Sequence.{Seq, joined, Collected}
-use Rattle.module_rules.specs.ModRules.{GenerativeGives, PartsGive, ApplyGives}
-use Rattle.applicative_functors.specs.PureFunctor.{PureFunctorGives}
-use Rattle.elab_rules.specs.Judgments.Meaning.{SigMeans, ModMeans, BindMeans, BindsMean}
+use Rattle.module_judgments.specs.Projection.{Projected}
+use Rattle.module_judgments.specs.Sequence.{Seq, joined, Collected}
+use Rattle.module_judgments.specs.ModRules.{GenerativeGives, PartsGive, ApplyGives}
+use Rattle.functor_judgments.specs.PureFunctor.{PureFunctorGives}
+use Rattle.elab_judgments.specs.Judgments.Meaning.{SigMeans, ModMeans, BindMeans, BindsMean}
 use Rattle.sig_laws.specs.Good.{OkEnv, Names}
 use Rattle.elab_laws.proofs.Kept.{mod_ok, bind_ok, binds_ok}
 use Rattle.elab_laws.proofs.FieldLaws.{rise-with_name}
-use Rattle.premise_laws.proofs.Environments.{good-module, bound-bind}
-use Rattle.premise_laws.proofs.Determined.{packed-one}
-use Rattle.module_rules.proofs.Determined.{seq-one, projected-one}
+use Rattle.sig_premise_laws.proofs.Environments.{good-module, bound-bind}
+use Rattle.sig_premise_laws.proofs.Determined.{packed-one}
+use Rattle.module_judgments.proofs.Determined.{seq-one, projected-one}
 use Rattle.sig_laws.proofs.Algebra.PathLaws.{one-field}
 
 abbrev pub ModShows : Env → Mod → Effect → Abs → Type 0

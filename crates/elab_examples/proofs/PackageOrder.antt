@@ -12,11 +12,11 @@ use Rattle.omega_types.specs.Kinding.HasKind.{k_var}
 use Rattle.omega_types.specs.Conversion.{Conv}
 use Rattle.omega_types.specs.Conversion.Conv.{c_refl}
 use Rattle.omega_types.specs.Binders.{extend, own, applied}
-use Rattle.norm_laws.proofs.Orders.Heads.{one-variable}
-use Rattle.signatures.specs.Signatures.Sig.{Sig, SigRow, HasField}
-use Rattle.signatures.specs.Explicit.SigPath.{SigPath, Item, PartAt, ParamOn, PathBefore, ItemBefore}
-use Rattle.signatures.specs.Explicit.RootPath.{Rooted, ParamsAvoid}
-use Rattle.signatures.specs.QuantifierOrder.{Counts, Taking, NewOrder}
+use Rattle.sig_norm_laws.proofs.Orders.Heads.{one-variable}
+use Rattle.sig_definitions.specs.Signatures.Sig.{Sig, SigRow, HasField}
+use Rattle.sig_definitions.specs.Explicit.SigPath.{SigPath, Item, PartAt, ParamOn, PathBefore, ItemBefore}
+use Rattle.sig_definitions.specs.Explicit.RootPath.{Rooted, ParamsAvoid}
+use Rattle.sig_definitions.specs.QuantifierOrder.{Counts, Taking, NewOrder}
 use Rattle.elab_examples.specs.Rows.{t, x}
 use Rattle.elab_examples.specs.PackageRow.{u, two}
 use Rattle.elab_examples.proofs.Parts.{differ}

@@ -16,24 +16,24 @@ use Rattle.omega_terms.specs.Term.{Term}
 use Rattle.omega_terms.specs.Shorthands.{Packs}
 use Rattle.omega_terms.specs.PartTerms.{value_term, type_term}
 use Rattle.omega_terms.specs.Instance.{TyInstance, Instance, Instances}
-use Rattle.signatures.specs.Signatures.Sig.{Sig, Abs, HasField, made}
-use Rattle.signatures.specs.Signatures.Alike.{AlikeSig}
-use Rattle.signatures.specs.Signatures.Encoding.{enc_abs, one_part}
-use Rattle.signatures.specs.Env.{Env, Entry}
-use Rattle.signatures.specs.Matching.Subtyping.{Sub, SubFields, Match}
-use Rattle.signatures.specs.QuantifierOrder.{Norm, NormSig, NormRow}
-use Rattle.signatures.specs.Packing.{Packed}
+use Rattle.sig_definitions.specs.Signatures.Sig.{Sig, Abs, HasField, made}
+use Rattle.sig_definitions.specs.Signatures.Alike.{AlikeSig}
+use Rattle.sig_definitions.specs.Signatures.Encoding.{enc_abs, one_part}
+use Rattle.sig_definitions.specs.Env.{Env, Entry}
+use Rattle.sig_definitions.specs.Matching.Subtyping.{Sub, SubFields, Match}
+use Rattle.sig_definitions.specs.QuantifierOrder.{Norm, NormSig, NormRow}
+use Rattle.sig_definitions.specs.Packing.{Packed}
 use Rattle.fing_syntax.specs.Phrase.{MoreBinds, NoBinds}
-use Rattle.module_rules.specs.PathUse.{TypeOfPath, ValueOfPath}
-use Rattle.module_rules.specs.Projection.{Projected}
-use Rattle.module_rules.specs.Sequence.{Seq, Collected}
-use Rattle.sig_rules.specs.SigRules.{ValueGives, AbstractGives, DeclarationsGive}
-use Rattle.module_rules.specs.ModRules.{ValueGives as ValueModule, TypeGives as TypeModule, NamedGives}
-use Rattle.packages.specs.Package.{UnpackGives, PackGives}
-use Rattle.core_rules.specs.TypeRules.{BaseGives}
-use Rattle.core_rules.specs.ExpRules.{LiteralGives}
-use Rattle.elab_rules.specs.Judgments.Meaning.{TyMeans, ExpMeans, SigMeans, DeclMeans, DeclsMean, ModMeans, BindMeans, BindsMean}
-use Rattle.elab_rules.specs.Judgments.Program.{ProgramMeans}
+use Rattle.module_judgments.specs.PathUse.{TypeOfPath, ValueOfPath}
+use Rattle.module_judgments.specs.Projection.{Projected}
+use Rattle.module_judgments.specs.Sequence.{Seq, Collected}
+use Rattle.sig_judgments.specs.SigRules.{ValueGives, AbstractGives, DeclarationsGive}
+use Rattle.module_judgments.specs.ModRules.{ValueGives as ValueModule, TypeGives as TypeModule, NamedGives}
+use Rattle.package_judgments.specs.Package.{UnpackGives, PackGives}
+use Rattle.core_judgments.specs.TypeRules.{BaseGives}
+use Rattle.core_judgments.specs.ExpRules.{LiteralGives}
+use Rattle.elab_judgments.specs.Judgments.Meaning.{TyMeans, ExpMeans, SigMeans, DeclMeans, DeclsMean, ModMeans, BindMeans, BindsMean}
+use Rattle.elab_judgments.specs.Judgments.Program.{ProgramMeans}
 use Rattle.elab_laws.proofs.TypedClaims.{whole_is_typed}
 use Rattle.elab_examples.specs.Rows.{h1}
 use Rattle.elab_examples.specs.PackageRow.{p, A, two, t_first, u_first, hiding, showing, given, package_, packages, packages_sig, package_type, PackagesProgram, three_vars, given_term, coercion, packed_term, package_term, whole_type, record_term, repacked_term, unpacked_term, packages_term, unpacked_bind}

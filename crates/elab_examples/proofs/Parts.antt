@@ -20,12 +20,12 @@ use Rattle.omega_types.proofs.BinderPuts.{its-form}
 use Rattle.omega_terms.specs.Term.{Term, TermRow}
 use Rattle.omega_terms.specs.Instance.{Instance, Instances}
 use Rattle.omega_terms.proofs.InstanceLaws.{type-self}
-use Rattle.signatures.specs.Signatures.Sig.{Sig, SigRow}
-use Rattle.signatures.specs.Signatures.Alike.{AlikeSig, AlikeRow, NormalSigForm}
-use Rattle.signatures.specs.Signatures.Encoding.{enc, one_part, shown_type}
+use Rattle.sig_definitions.specs.Signatures.Sig.{Sig, SigRow}
+use Rattle.sig_definitions.specs.Signatures.Alike.{AlikeSig, AlikeRow, NormalSigForm}
+use Rattle.sig_definitions.specs.Signatures.Encoding.{enc, one_part, shown_type}
 use Rattle.sig_laws.proofs.Encoded.EncodingTyping.{one_part-normal, shown_type-normal}
 use Rattle.sig_laws.proofs.Encoded.EncodingTyping.{name-differs}
-use Rattle.module_rules.specs.PathUse.{Outside}
+use Rattle.module_judgments.specs.PathUse.{Outside}
 use Rattle.elab_examples.specs.CoercionRow.{result}
 
 pub differ : {l m : Name} → same_name l m ≡ false → l ≢ m

@@ -11,27 +11,27 @@ use Rattle.omega_types.specs.Kinding.{here}
 use Rattle.omega_types.specs.Kinding.HasKind.{k_var}
 use Rattle.omega_types.specs.Conversion.Conv.{c_refl}
 use Rattle.omega_types.specs.Normality.Normal.{n_int}
-use Rattle.signatures.specs.Signatures.Sig.{Sig, Abs, SigRow, HasField, made}
-use Rattle.signatures.specs.Explicit.SigPath.{SigPath, Item, PartAt, PathBefore, ItemBefore}
-use Rattle.signatures.specs.Explicit.RootPath.{Rooted, RootPath, LeastRoot, RootOf}
-use Rattle.signatures.specs.Matching.LookUp.{Found, FoundAt, FoundAfter}
-use Rattle.signatures.specs.Matching.MatchRefusal.{Why, MatchRefusal, RefusesMatch, RefusesSub, RefusesFields}
-use Rattle.signatures.specs.Signatures.Alike.{AlikeSig, AlikeRow}
-use Rattle.signatures.specs.Env.{Entry}
+use Rattle.sig_definitions.specs.Signatures.Sig.{Sig, Abs, SigRow, HasField, made}
+use Rattle.sig_definitions.specs.Explicit.SigPath.{SigPath, Item, PartAt, PathBefore, ItemBefore}
+use Rattle.sig_definitions.specs.Explicit.RootPath.{Rooted, RootPath, LeastRoot, RootOf}
+use Rattle.sig_definitions.specs.Matching.LookUp.{Found, FoundAt, FoundAfter}
+use Rattle.sig_definitions.specs.Matching.MatchRefusal.{Why, MatchRefusal, RefusesMatch, RefusesSub, RefusesFields}
+use Rattle.sig_definitions.specs.Signatures.Alike.{AlikeSig, AlikeRow}
+use Rattle.sig_definitions.specs.Env.{Entry}
 use Rattle.fing_syntax.specs.Phrase.{Span, Bytes, Spelled, Mod, ModAt, ModStruct, ModProject, ModSeal, BindAt, BindVal, BindModule, NoBinds, MoreBinds, ExpAt, ExpBool, SigEx}
 use Rattle.fing_syntax.specs.Place.{sig_span}
 use Rattle.omega_terms.specs.Term.{Term}
-use Rattle.elab_rules.specs.Judgments.Program.{ProgramRefused}
-use Rattle.elab_rules.specs.Refusals.Refusal.{refuse_match}
-use Rattle.module_rules.specs.PathUse.{ValueOfPath}
-use Rattle.module_rules.specs.Projection.{Projected}
-use Rattle.module_rules.specs.Sequence.{Collected}
-use Rattle.sig_rules.specs.SigRules.{ValueGives, AbstractGives, DeclarationsGive}
-use Rattle.module_rules.specs.ModRules.{ValueGives as ValueModule, NamedGives}
-use Rattle.core_rules.specs.TypeRules.{BaseGives}
-use Rattle.core_rules.specs.ExpRules.{LiteralGives}
-use Rattle.elab_rules.specs.Judgments.Meaning.{TyMeans, ExpMeans, SigMeans, DeclMeans, DeclsMean, ModMeans, BindMeans, BindsMean}
-use Rattle.elab_rules.specs.Refusals.Refused.{Refused}
+use Rattle.elab_judgments.specs.Judgments.Program.{ProgramRefused}
+use Rattle.elab_judgments.specs.Refusals.Refusal.{refuse_match}
+use Rattle.module_judgments.specs.PathUse.{ValueOfPath}
+use Rattle.module_judgments.specs.Projection.{Projected}
+use Rattle.module_judgments.specs.Sequence.{Collected}
+use Rattle.sig_judgments.specs.SigRules.{ValueGives, AbstractGives, DeclarationsGive}
+use Rattle.module_judgments.specs.ModRules.{ValueGives as ValueModule, NamedGives}
+use Rattle.core_judgments.specs.TypeRules.{BaseGives}
+use Rattle.core_judgments.specs.ExpRules.{LiteralGives}
+use Rattle.elab_judgments.specs.Judgments.Meaning.{TyMeans, ExpMeans, SigMeans, DeclMeans, DeclsMean, ModMeans, BindMeans, BindsMean}
+use Rattle.elab_judgments.specs.Refusals.Refused.{Refused}
 use Rattle.elab_examples.specs.Rows.{HiddenSumRefused, UnmatchedRefused, MissingRefused, OtherTypeRefused, t, x, M, h0, h1}
 use Rattle.elab_examples.proofs.Outcomes.{ModShows, show-struct, show-end, show-next}
 use Rattle.omega_kinds.specs.declared.effect.Effect.TheVariants.{Pure}

@@ -12,20 +12,20 @@ use Rattle.omega_types.specs.Binders.{NormalForms, OfKinds}
 use Rattle.omega_terms.specs.Term.{Term}
 use Rattle.omega_terms.specs.Shorthands.{Packs}
 use Rattle.omega_terms.specs.Instance.{Instance, Instances}
-use Rattle.signatures.specs.Signatures.Sig.{Sig, Abs, SigRow, HasField, made}
-use Rattle.signatures.specs.Signatures.Alike.{AlikeSig}
-use Rattle.signatures.specs.Env.{Env, Entry}
-use Rattle.signatures.specs.Matching.Subtyping.{Sub, SubFields, Match}
-use Rattle.signatures.specs.Packing.{Packed}
-use Rattle.module_rules.specs.PathUse.{TypeOfPath}
-use Rattle.module_rules.specs.Projection.{Projected}
-use Rattle.module_rules.specs.Sequence.{Seq, Collected}
-use Rattle.sig_rules.specs.SigRules.{ValueGives, AbstractGives, DeclarationsGive}
-use Rattle.module_rules.specs.ModRules.{SealGives, ValueGives as ValueModule, TypeGives as TypeModule, NamedGives}
-use Rattle.core_rules.specs.TypeRules.{BaseGives}
-use Rattle.core_rules.specs.ExpRules.{LiteralGives}
-use Rattle.elab_rules.specs.Judgments.Meaning.{TyMeans, ExpMeans, SigMeans, DeclMeans, DeclsMean, ModMeans, BindMeans, BindsMean}
-use Rattle.elab_rules.specs.Judgments.Program.{ProgramMeans}
+use Rattle.sig_definitions.specs.Signatures.Sig.{Sig, Abs, SigRow, HasField, made}
+use Rattle.sig_definitions.specs.Signatures.Alike.{AlikeSig}
+use Rattle.sig_definitions.specs.Env.{Env, Entry}
+use Rattle.sig_definitions.specs.Matching.Subtyping.{Sub, SubFields, Match}
+use Rattle.sig_definitions.specs.Packing.{Packed}
+use Rattle.module_judgments.specs.PathUse.{TypeOfPath}
+use Rattle.module_judgments.specs.Projection.{Projected}
+use Rattle.module_judgments.specs.Sequence.{Seq, Collected}
+use Rattle.sig_judgments.specs.SigRules.{ValueGives, AbstractGives, DeclarationsGive}
+use Rattle.module_judgments.specs.ModRules.{SealGives, ValueGives as ValueModule, TypeGives as TypeModule, NamedGives}
+use Rattle.core_judgments.specs.TypeRules.{BaseGives}
+use Rattle.core_judgments.specs.ExpRules.{LiteralGives}
+use Rattle.elab_judgments.specs.Judgments.Meaning.{TyMeans, ExpMeans, SigMeans, DeclMeans, DeclsMean, ModMeans, BindMeans, BindsMean}
+use Rattle.elab_judgments.specs.Judgments.Program.{ProgramMeans}
 use Rattle.elab_laws.proofs.TypedClaims.{whole_is_typed}
 use Rattle.elab_examples.specs.Rows.{structure, signature, sealed, structure_term, coercion, sealed_term, sealing, sealing_term, M, W, hidden_sig, two_terms, SealingProgram, x, t, h0, h1, R}
 use Rattle.omega_types.proofs.BinderPuts.{its-form}

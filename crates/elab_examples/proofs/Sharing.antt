@@ -13,28 +13,28 @@ use Rattle.omega_types.proofs.Preservation.{normal-kind}
 use Rattle.omega_types.proofs.BinderPuts.{its-form}
 use Rattle.omega_terms.specs.Term.{Term, TermRow}
 use Rattle.omega_terms.specs.Coercions.{same_part, fields_part}
-use Rattle.signatures.specs.Signatures.Encoding.{enc}
-use Rattle.signatures.specs.Explicit.WellFormed.{WellFormed, WellFormedRow}
-use Rattle.signatures.specs.Signatures.Sig.{Sig, Abs, HasField, made}
-use Rattle.signatures.specs.Signatures.Alike.{AlikeSig, AlikeAbs, AlikeRow}
-use Rattle.signatures.specs.Env.{Env, Entry, kinds, find, past_term}
-use Rattle.signatures.specs.Lifting.{Lift}
-use Rattle.signatures.specs.Matching.Subtyping.{Sub, SubFields, Match}
+use Rattle.sig_definitions.specs.Signatures.Encoding.{enc}
+use Rattle.sig_definitions.specs.Explicit.WellFormed.{WellFormed, WellFormedRow}
+use Rattle.sig_definitions.specs.Signatures.Sig.{Sig, Abs, HasField, made}
+use Rattle.sig_definitions.specs.Signatures.Alike.{AlikeSig, AlikeAbs, AlikeRow}
+use Rattle.sig_definitions.specs.Env.{Env, Entry, kinds, find, past_term}
+use Rattle.sig_definitions.specs.Lifting.{Lift}
+use Rattle.sig_definitions.specs.Matching.Subtyping.{Sub, SubFields, Match}
 use Rattle.fing_syntax.specs.Phrase.{Span, Bytes, Spelled, Mod, ModAt, ModName, ModStruct, ModProject, ModApply, BindAt, BindModule, NoBinds, MoreBinds}
-use Rattle.core_rules.specs.ExpRules.{FunctionGives, CallGives, CallRefuses, LiteralGives}
-use Rattle.module_rules.specs.PathUse.{TypeOfPath, ValueOfPath}
-use Rattle.module_rules.specs.Projection.{Projected}
-use Rattle.module_rules.specs.Sequence.{Collected}
-use Rattle.sig_rules.specs.SigRules.{ValueGives, AbstractGives, DeclarationsGive}
-use Rattle.module_rules.specs.ModRules.{SealGives, ValueGives as ValueModule, TypeGives as TypeModule, NamedGives}
-use Rattle.core_rules.specs.TypeRules.{BaseGives}
-use Rattle.elab_rules.specs.Judgments.Meaning.{TyMeans, ExpMeans, ArgsMean, SigMeans, DeclMeans, DeclsMean, ModMeans, BindMeans}
-use Rattle.elab_rules.specs.Judgments.Program.{ProgramMeans}
-use Rattle.elab_rules.specs.Refusals.Refused.{Refused}
+use Rattle.core_judgments.specs.ExpRules.{FunctionGives, CallGives, CallRefuses, LiteralGives}
+use Rattle.module_judgments.specs.PathUse.{TypeOfPath, ValueOfPath}
+use Rattle.module_judgments.specs.Projection.{Projected}
+use Rattle.module_judgments.specs.Sequence.{Collected}
+use Rattle.sig_judgments.specs.SigRules.{ValueGives, AbstractGives, DeclarationsGive}
+use Rattle.module_judgments.specs.ModRules.{SealGives, ValueGives as ValueModule, TypeGives as TypeModule, NamedGives}
+use Rattle.core_judgments.specs.TypeRules.{BaseGives}
+use Rattle.elab_judgments.specs.Judgments.Meaning.{TyMeans, ExpMeans, ArgsMean, SigMeans, DeclMeans, DeclsMean, ModMeans, BindMeans}
+use Rattle.elab_judgments.specs.Judgments.Program.{ProgramMeans}
+use Rattle.elab_judgments.specs.Refusals.Refused.{Refused}
 use Rattle.sig_laws.specs.Good.{OkEnv}
 use Rattle.elab_laws.proofs.TypedClaims.{whole_is_typed}
 use Rattle.elab_laws.proofs.Kept.{binds_ok}
-use Rattle.premise_laws.proofs.Determined.{packed-one}
+use Rattle.sig_premise_laws.proofs.Determined.{packed-one}
 use Rattle.elab_examples.specs.Rows.{t, h0, h1}
 use Rattle.elab_examples.specs.PackageRow.{A}
 use Rattle.elab_examples.specs.FunctorRow.{F, P, X, h2}

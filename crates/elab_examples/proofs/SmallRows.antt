@@ -9,14 +9,14 @@ use Rattle.omega_types.specs.Binders.{NormalForms}
 use Rattle.omega_terms.specs.Shorthands.{Packs}
 use Rattle.omega_terms.specs.Term.{Term, TermRow}
 use Rattle.omega_terms.specs.Instance.{Instance, Instances}
-use Rattle.signatures.specs.Signatures.Sig.{Sig, Abs, SigRow, made}
-use Rattle.signatures.specs.Signatures.Alike.{AlikeSig}
-use Rattle.signatures.specs.Packing.{Packed}
-use Rattle.core_rules.specs.ExpRules.{OperationGives, LiteralGives}
-use Rattle.module_rules.specs.Sequence.{Seq, Collected}
-use Rattle.module_rules.specs.ModRules.{ValueGives as ValueModule}
-use Rattle.elab_rules.specs.Judgments.Meaning.{ExpMeans, OpsMean, BindMeans, BindsMean}
-use Rattle.elab_rules.specs.Judgments.Program.{ProgramMeans}
+use Rattle.sig_definitions.specs.Signatures.Sig.{Sig, Abs, SigRow, made}
+use Rattle.sig_definitions.specs.Signatures.Alike.{AlikeSig}
+use Rattle.sig_definitions.specs.Packing.{Packed}
+use Rattle.core_judgments.specs.ExpRules.{OperationGives, LiteralGives}
+use Rattle.module_judgments.specs.Sequence.{Seq, Collected}
+use Rattle.module_judgments.specs.ModRules.{ValueGives as ValueModule}
+use Rattle.elab_judgments.specs.Judgments.Meaning.{ExpMeans, OpsMean, BindMeans, BindsMean}
+use Rattle.elab_judgments.specs.Judgments.Program.{ProgramMeans}
 use Rattle.elab_laws.proofs.TypedClaims.{whole_is_typed}
 use Rattle.fing_syntax.specs.Phrase.{NoBinds}
 use Rattle.omega_types.specs.Ty.{Ty}

@@ -5,9 +5,9 @@ use Rattle.omega_kinds.specs.declared.effect.Effect.TheVariants.{Impure}
 use Rattle.omega_types.specs.Ty.{Ty}
 use Rattle.omega_terms.specs.Term.{Term}
 use Rattle.omega_terms.specs.Typing.{HasType}
-use Rattle.signatures.specs.Signatures.Sig.{Sig, Abs, SigRow}
-use Rattle.signatures.specs.Signatures.Encoding.{enc}
-use Rattle.signatures.specs.Matching.Subtyping.{Sub}
+use Rattle.sig_definitions.specs.Signatures.Sig.{Sig, Abs, SigRow}
+use Rattle.sig_definitions.specs.Signatures.Encoding.{enc}
+use Rattle.sig_definitions.specs.Matching.Subtyping.{Sub}
 use Rattle.elab_examples.specs.Rows.{t, x}
 use Rattle.elab_examples.specs.PackageRow.{u, two, hiding}
 use Rattle.elab_examples.specs.FunctorRow.{one_type}

@@ -10,12 +10,12 @@ use Rattle.omega_terms.specs.Typing.{HasType}
 use Rattle.omega_terms.specs.Shorthands.{let_in}
 use Rattle.omega_terms.specs.PartTerms.{one_field, type_term}
 use Rattle.omega_terms.specs.Coercions.{same_part, fields_part}
-use Rattle.signatures.specs.Signatures.Sig.{Sig, Abs, SigRow, made}
-use Rattle.signatures.specs.Signatures.Encoding.{enc, enc_abs}
+use Rattle.sig_definitions.specs.Signatures.Sig.{Sig, Abs, SigRow, made}
+use Rattle.sig_definitions.specs.Signatures.Encoding.{enc, enc_abs}
 use Rattle.fing_syntax.specs.Phrase.{Mod, ModAt, ModStruct, ModProject, ModFunctor, ModApply, ModSeal, BindAt, BindTy, BindModule, Binds, NoBinds, MoreBinds, SigEx, SigAt, SigDecls, NoDecls, MoreDecls, TyAt, TyInt, PathTy}
-use Rattle.signatures.specs.Env.{Entry}
-use Rattle.elab_rules.specs.Judgments.Meaning.{ModMeans}
-use Rattle.elab_rules.specs.Judgments.Program.{ProgramMeans}
+use Rattle.sig_definitions.specs.Env.{Entry}
+use Rattle.elab_judgments.specs.Judgments.Meaning.{ModMeans}
+use Rattle.elab_judgments.specs.Judgments.Program.{ProgramMeans}
 use Rattle.elab_examples.specs.Rows.{t, h0, h1}
 use Rattle.elab_examples.specs.PackageRow.{u, A, o, n, named, type_decl}
 

@@ -5,12 +5,12 @@ use Rattle.omega_kinds.specs.declared.effect.Effect.TheVariants.{Impure}
 use Rattle.omega_types.specs.Ty.{Ty}
 use Rattle.omega_terms.specs.Term.{Term}
 use Rattle.omega_terms.specs.Typing.{HasType}
-use Rattle.signatures.specs.Signatures.Sig.{Sig, Abs, SigRow, made}
-use Rattle.signatures.specs.Signatures.Encoding.{enc, enc_abs}
-use Rattle.signatures.specs.Env.{Env, Entry}
+use Rattle.sig_definitions.specs.Signatures.Sig.{Sig, Abs, SigRow, made}
+use Rattle.sig_definitions.specs.Signatures.Encoding.{enc, enc_abs}
+use Rattle.sig_definitions.specs.Env.{Env, Entry}
 use Rattle.fing_syntax.specs.Phrase.{Mod, ModAt, ModStruct, ModProject, ModUnpack, BindAt, BindTy, BindInclude, NoBinds, MoreBinds, TyAt, PathTy, ExpAt, PathExp}
-use Rattle.elab_rules.specs.Judgments.Meaning.{ModMeans}
-use Rattle.sig_rules.specs.Refinement.{Refined}
+use Rattle.elab_judgments.specs.Judgments.Meaning.{ModMeans}
+use Rattle.sig_judgments.specs.Refinement.{Refined}
 use Rattle.elab_examples.specs.Rows.{t, x}
 use Rattle.elab_examples.specs.PackageRow.{u, p, A, o, n, named, two, t_first, hiding, package_type}
 

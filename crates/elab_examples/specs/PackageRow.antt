@@ -10,10 +10,10 @@ use Rattle.omega_terms.specs.Typing.{HasType}
 use Rattle.omega_terms.specs.Shorthands.{let_in}
 use Rattle.omega_terms.specs.PartTerms.{value_term, type_term}
 use Rattle.omega_terms.specs.Coercions.{same_part, fields_part}
-use Rattle.signatures.specs.Signatures.Sig.{Sig, Abs, SigRow, made}
-use Rattle.signatures.specs.Signatures.Encoding.{enc, enc_abs}
+use Rattle.sig_definitions.specs.Signatures.Sig.{Sig, Abs, SigRow, made}
+use Rattle.sig_definitions.specs.Signatures.Encoding.{enc, enc_abs}
 use Rattle.fing_syntax.specs.Phrase.{Span, Bytes, SpanName, Spelled, Mod, ModAt, ModStruct, ModProject, ModName, ModUnpack, Bind, BindAt, BindVal, BindTy, BindModule, Binds, NoBinds, MoreBinds, SigEx, SigAt, SigDecls, Decl, DeclAt, DeclVal, DeclTyOf, NoDecls, MoreDecls, TyAt, TyInt, TyBool, PathTy, Exp, ExpAt, ExpInt, PathExp, ExpPack}
-use Rattle.elab_rules.specs.Judgments.Program.{ProgramMeans}
+use Rattle.elab_judgments.specs.Judgments.Program.{ProgramMeans}
 use Rattle.elab_examples.specs.Rows.{t, x, h0, h1}
 
 abbrev pub u : Name

@@ -8,12 +8,12 @@ use Rattle.omega_types.specs.Ty.{Ty, Row}
 use Rattle.omega_terms.specs.declared.op.Op.{Op as TermOp}
 use Rattle.omega_terms.specs.Term.{Term, TermRow}
 use Rattle.omega_terms.specs.Typing.{HasType}
-use Rattle.signatures.specs.Signatures.Sig.{Sig, Abs, SigRow, made}
-use Rattle.signatures.specs.Explicit.SigPath.{Item}
+use Rattle.sig_definitions.specs.Signatures.Sig.{Sig, Abs, SigRow, made}
+use Rattle.sig_definitions.specs.Explicit.SigPath.{Item}
 use Rattle.fing_syntax.specs.Phrase.{Bytes, Spelled, Mod, ModAt, ModStruct, ModProject, ModName, ModSeal, BindAt, BindVal, BindTy, BindModule, Binds, NoBinds, MoreBinds, SigEx, SigAt, SigDecls, DeclAt, DeclVal, DeclTyOf, NoDecls, MoreDecls, TyAt, TyInt, PathTy, ExpAt, ExpInt, ExpBool, ExpOps, PathExp, Op, NoOps, MoreOps}
-use Rattle.signatures.specs.Matching.MatchRefusal.{Why}
-use Rattle.fing_refusals.specs.Refusal.{Refuse, ElabWhy}
-use Rattle.elab_rules.specs.Judgments.Program.{ProgramMeans, ProgramRefused}
+use Rattle.sig_definitions.specs.Matching.MatchRefusal.{Why}
+use Rattle.refusal_reasons.specs.Refusal.{Refuse, ElabWhy}
+use Rattle.elab_judgments.specs.Judgments.Program.{ProgramMeans, ProgramRefused}
 
 -- The empty program, of type (rec).
 abbrev pub EmptyProgram : Type 0

@@ -8,11 +8,11 @@ use Rattle.omega_kinds.specs.Name.{Name}
 use Rattle.omega_types.specs.Ty.{Ty}
 use Rattle.omega_terms.specs.Term.{Term}
 use Rattle.omega_terms.specs.Typing.{HasType}
-use Rattle.signatures.specs.Signatures.Sig.{Sig, Abs, SigRow, made}
-use Rattle.signatures.specs.Signatures.Encoding.{enc_abs}
+use Rattle.sig_definitions.specs.Signatures.Sig.{Sig, Abs, SigRow, made}
+use Rattle.sig_definitions.specs.Signatures.Encoding.{enc_abs}
 use Rattle.fing_syntax.specs.Phrase.{Bytes, Spelled, Mod, ModAt, ModName, ModStruct, ModProject, ModFunctor, ModApply, ModSeal, Bind, BindAt, BindVal, BindTy, BindModule, Binds, NoBinds, MoreBinds, SigEx, SigAt, SigDecls, DeclAt, DeclVal, DeclTyOf, NoDecls, MoreDecls, TyAt, TyInt, PathTy, Exp, ExpAt, ExpInt, ExpLam, ExpApply, PathExp, ArgExp, NoArgs, MoreArgs}
-use Rattle.fing_refusals.specs.Refusal.{Refuse, ElabWhy}
-use Rattle.elab_rules.specs.Judgments.Program.{ProgramMeans, ProgramRefused}
+use Rattle.refusal_reasons.specs.Refusal.{Refuse, ElabWhy}
+use Rattle.elab_judgments.specs.Judgments.Program.{ProgramMeans, ProgramRefused}
 use Rattle.elab_examples.specs.Rows.{x, t, h0, h1}
 use Rattle.elab_examples.specs.PackageRow.{A}
 use Rattle.elab_examples.specs.FunctorRow.{F, P, X, h2}

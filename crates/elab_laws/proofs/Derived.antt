@@ -14,45 +14,45 @@ use Rattle.omega_types.specs.Kinding.HasKinds.{k_end, k_more}
 use Rattle.omega_types.specs.Binders.{extend, past, OfKinds}
 use Rattle.omega_types.proofs.Preservation.{normal-kind}
 use Rattle.omega_terms.specs.Term.{Term, TermRow}
-use Rattle.signatures.specs.Signatures.Sig.{Sig, Abs, SigRow, Module, made}
-use Rattle.signatures.specs.Signatures.SigSubst.{abs_at, raise_sig_row}
-use Rattle.signatures.specs.Signatures.Alike.{NormalAbsForm, ex}
-use Rattle.signatures.specs.Env.{Entry, Env, kinds, type_vars, with_module, named_fields, IsGoodEnv}
-use Rattle.signatures.specs.Matching.Subtyping.{Match}
-use Rattle.signatures.specs.Lifting.{Lift, lift, lifted_types}
+use Rattle.sig_definitions.specs.Signatures.Sig.{Sig, Abs, SigRow, Module, made}
+use Rattle.sig_definitions.specs.Signatures.SigSubst.{abs_at, raise_sig_row}
+use Rattle.sig_definitions.specs.Signatures.Alike.{NormalAbsForm, ex}
+use Rattle.sig_definitions.specs.Env.{Entry, Env, kinds, type_vars, with_module, named_fields, IsGoodEnv}
+use Rattle.sig_definitions.specs.Matching.Subtyping.{Match}
+use Rattle.sig_definitions.specs.Lifting.{Lift, lift, lifted_types}
 use Rattle.omega_types.specs.EtaLong.{eta}
-use Rattle.signatures.specs.Signatures.FieldOrder.{merge, with_names}
-use Rattle.signatures.specs.Explicit.WellFormed.{Rising, BeforeAll, WellFormed, WellFormedRow, WellFormedAbs, Explicit, abs, explicit, in_val, in_typ, in_meta, in_str, in_end}
+use Rattle.sig_definitions.specs.Signatures.FieldOrder.{merge, with_names}
+use Rattle.sig_definitions.specs.Explicit.WellFormed.{Rising, BeforeAll, WellFormed, WellFormedRow, WellFormedAbs, Explicit, abs, explicit, in_val, in_typ, in_meta, in_str, in_end}
 use Rattle.sig_laws.proofs.Algebra.BinderLaws.{extend-append}
 use Rattle.sig_laws.proofs.Algebra.AlikeLaws.{form-conv_sig}
 use Rattle.sig_laws.proofs.Formed.WellFormedLaws.{explicit-conv}
 use Rattle.fing_syntax.specs.Phrase.{TyEx, TyExs, FieldTyExs, Exp, OpExps, Args, FieldExps, SigEx, Decl, Decls, Mod, Bind, Binds}
 use Rattle.fing_syntax.specs.Place.{name_of}
-use Rattle.core_rules.specs.TypeRules.{BaseGives, FieldTy, RecordTypeGives, ArrowGives, AllGives, OperatorGives, AppliedGives}
-use Rattle.core_rules.specs.ExpRules.{LiteralGives, FieldExp, RecordGives, FunctionGives, TypeFunctionGives, CallGives, InstanceGives, GetGives, IfGives, OperationGives, FixGives}
-use Rattle.sig_rules.specs.SigRules.{ValueGives, TypeGives, AbstractGives, ModuleGives, SignatureGives, IncludeGives, DeclarationsGive, GenerativeGives as GenerativeSigGives}
-use Rattle.module_rules.specs.ModRules.{NamedGives, GenerativeGives, PartsGive, ApplyGives, IncludeGives as IncludeModule, SealGives, ValueGives as ValueModule, TypeGives as TypeModule, SignatureGives as SignatureModule}
-use Rattle.applicative_functors.specs.PureFunctor.{PureFunctorGives}
-use Rattle.packages.specs.Package.{PackTypeGives, PackGives, UnpackGives}
-use Rattle.elab_rules.specs.Operators.{omega_op, include_name, with_type}
-use Rattle.signatures.specs.Signatures.RecordOrder.{insert_part, IsNew, AreNew, BeforeNames, NamesRise}
-use Rattle.module_rules.specs.PathUse.{Outside, TypeOfPath, ValueOfPath, SigOutside, SigOfPath}
-use Rattle.module_rules.specs.Projection.{Projected}
-use Rattle.module_rules.specs.Sequence.{Seq, Collected}
-use Rattle.sig_rules.specs.Refinement.{Refined}
-use Rattle.elab_rules.specs.Judgments.Meaning.{TyMeans, ArgTysMean, FieldTysMean, ExpMeans, OpsMean, ArgsMean, FieldExpsMean, SigMeans, DeclMeans, DeclsMean, ModMeans, BindMeans, BindsMean}
-use Rattle.elab_rules.specs.Judgments.Program.{ProgramMeans, program}
-use Rattle.explicit_laws.proofs.Fields.{Apart as ApartFields, none, next}
-use Rattle.explicit_laws.proofs.Sequences.{sequence_explicit}
-use Rattle.explicit_laws.proofs.Fixings.{fixed_explicit}
-use Rattle.norm_laws.proofs.Norm.NormKeeps.{norm_abs-explicit}
+use Rattle.core_judgments.specs.TypeRules.{BaseGives, FieldTy, RecordTypeGives, ArrowGives, AllGives, OperatorGives, AppliedGives}
+use Rattle.core_judgments.specs.ExpRules.{LiteralGives, FieldExp, RecordGives, FunctionGives, TypeFunctionGives, CallGives, InstanceGives, GetGives, IfGives, OperationGives, FixGives}
+use Rattle.sig_judgments.specs.SigRules.{ValueGives, TypeGives, AbstractGives, ModuleGives, SignatureGives, IncludeGives, DeclarationsGive, GenerativeGives as GenerativeSigGives}
+use Rattle.module_judgments.specs.ModRules.{NamedGives, GenerativeGives, PartsGive, ApplyGives, IncludeGives as IncludeModule, SealGives, ValueGives as ValueModule, TypeGives as TypeModule, SignatureGives as SignatureModule}
+use Rattle.functor_judgments.specs.PureFunctor.{PureFunctorGives}
+use Rattle.package_judgments.specs.Package.{PackTypeGives, PackGives, UnpackGives}
+use Rattle.elab_judgments.specs.Operators.{omega_op, include_name, with_type}
+use Rattle.sig_definitions.specs.Signatures.RecordOrder.{insert_part, IsNew, AreNew, BeforeNames, NamesRise}
+use Rattle.module_judgments.specs.PathUse.{Outside, TypeOfPath, ValueOfPath, SigOutside, SigOfPath}
+use Rattle.module_judgments.specs.Projection.{Projected}
+use Rattle.module_judgments.specs.Sequence.{Seq, Collected}
+use Rattle.sig_judgments.specs.Refinement.{Refined}
+use Rattle.elab_judgments.specs.Judgments.Meaning.{TyMeans, ArgTysMean, FieldTysMean, ExpMeans, OpsMean, ArgsMean, FieldExpsMean, SigMeans, DeclMeans, DeclsMean, ModMeans, BindMeans, BindsMean}
+use Rattle.elab_judgments.specs.Judgments.Program.{ProgramMeans, program}
+use Rattle.sig_explicit_laws.proofs.Fields.{Apart as ApartFields, none, next}
+use Rattle.sig_explicit_laws.proofs.Sequences.{sequence_explicit}
+use Rattle.sig_explicit_laws.proofs.Fixings.{fixed_explicit}
+use Rattle.sig_norm_laws.proofs.Norm.NormKeeps.{norm_abs-explicit}
 use Rattle.sig_laws.proofs.Formed.Conditions.{match-kinds, row-field, str-fields, meta-explicit}
-use Rattle.explicit_laws.proofs.Operations.{plain_explicit, field_explicit, opaque_explicit, instance_well_formed, outside_explicit, generative_explicit, lift_explicit, lift_well_formed, lifted_types-kinds}
+use Rattle.sig_explicit_laws.proofs.Operations.{plain_explicit, field_explicit, opaque_explicit, instance_well_formed, outside_explicit, generative_explicit, lift_explicit, lift_well_formed, lifted_types-kinds}
 use Rattle.elab_laws.proofs.EnvLaws.{good-type_vars, good-module, good-named_fields, find-well_formed}
 use Rattle.elab_laws.proofs.FieldLaws.{pick, not-sym, Apart, FreshAll, NoFields, fresh_all-end, fresh_all-insert, no_fields-end, no_fields-joined, with_names-no_fields, rise-with_name, rise-with_names, fresh-insert}
 use Rattle.sig_laws.proofs.Encoded.EncLaws.{enc_explicit-kind}
 use Rattle.sig_laws.proofs.Encoded.EnvTyping.{kinds-named_fields}
-use Rattle.explicit_laws.proofs.Liftings.{body-of}
+use Rattle.sig_explicit_laws.proofs.Liftings.{body-of}
 use Rattle.omega_terms.proofs.TypingLaws.{part-kind, result-kind}
 use Rattle.omega_types.proofs.Inverse.{arrow-kinds, fields-kinds}
 use Rattle.omega_types.proofs.BinderPuts.{forms-types, types-kinds}

@@ -9,12 +9,12 @@ use Rattle.omega_types.specs.Binders.{extend}
 use Rattle.omega_types.proofs.Preservation.{maps-suc, normal-kind}
 use Rattle.omega_types.proofs.Hereditary.{eta-normal}
 use Rattle.omega_terms.specs.Term.{Term}
-use Rattle.signatures.specs.Signatures.Sig.{Sig, SigRow}
-use Rattle.signatures.specs.Env.{Entry, Env, kinds, past_term, type_param, find, type_vars, with_module, named_fields, IsGoodEnv}
-use Rattle.signatures.specs.Explicit.WellFormed.{WellFormed, WellFormedRow}
+use Rattle.sig_definitions.specs.Signatures.Sig.{Sig, SigRow}
+use Rattle.sig_definitions.specs.Env.{Entry, Env, kinds, past_term, type_param, find, type_vars, with_module, named_fields, IsGoodEnv}
+use Rattle.sig_definitions.specs.Explicit.WellFormed.{WellFormed, WellFormedRow}
 use Rattle.sig_laws.proofs.Formed.WellFormedLaws.{well_formed-rename}
 use Rattle.sig_laws.proofs.Algebra.FormLaws.{kinds-type_vars}
-use Rattle.premise_laws.proofs.Environments.{Gives, gives-past_type, gives-past_term, gives-either}
+use Rattle.sig_premise_laws.proofs.Environments.{Gives, gives-past_type, gives-past_term, gives-either}
 
 pub good-type_vars : (g : Env) (ks : List Kind) → IsGoodEnv g → IsGoodEnv (type_vars g ks)
 good-type_vars g [] h = h

@@ -15,17 +15,17 @@ use Rattle.omega_types.specs.Normality.{Normal, Normals}
 use Rattle.omega_types.specs.Normality.Normals.{n_end, n_more}
 use Rattle.omega_terms.specs.Term.{Term, TermRow}
 use Rattle.omega_terms.proofs.NormalTyping.{Typed, TypedFields}
-use Rattle.signatures.specs.Signatures.Sig.{Sig, SigRow, NoField}
-use Rattle.signatures.specs.Signatures.SigSubst.{rename_sig_row}
-use Rattle.signatures.specs.Signatures.Alike.{NormalSig, NormalSigRow}
-use Rattle.signatures.specs.Signatures.Encoding.{enc_row}
-use Rattle.signatures.specs.Signatures.FieldOrder.{insert_field, merge, with_name, with_names}
-use Rattle.signatures.specs.Env.{Env, kinds, types}
+use Rattle.sig_definitions.specs.Signatures.Sig.{Sig, SigRow, NoField}
+use Rattle.sig_definitions.specs.Signatures.SigSubst.{rename_sig_row}
+use Rattle.sig_definitions.specs.Signatures.Alike.{NormalSig, NormalSigRow}
+use Rattle.sig_definitions.specs.Signatures.Encoding.{enc_row}
+use Rattle.sig_definitions.specs.Signatures.FieldOrder.{insert_field, merge, with_name, with_names}
+use Rattle.sig_definitions.specs.Env.{Env, kinds, types}
 use Rattle.sig_laws.proofs.Encoded.EncodingTyping.{Shape, ShapeRow, name-differs, fresh-row}
 use Rattle.sig_laws.proofs.Encoded.EnvTyping.{GoodEnv, find-good}
-use Rattle.signatures.specs.Signatures.RecordOrder.{insert_part, insert_term, IsNew, AreNew, BeforeNames, NamesRise}
-use Rattle.module_rules.specs.Sequence.{Collected}
-use Rattle.explicit_laws.proofs.Fields.{insert-none, merge-none}
+use Rattle.sig_definitions.specs.Signatures.RecordOrder.{insert_part, insert_term, IsNew, AreNew, BeforeNames, NamesRise}
+use Rattle.module_judgments.specs.Sequence.{Collected}
+use Rattle.sig_explicit_laws.proofs.Fields.{insert-none, merge-none}
 
 pub pick : {A : Type 0} {x y : A} (P : A → Type 0) (b : Bool) → (b ≡ true → P x) → (b ≡ false → P y) → P (cond b x y)
 pick P true f g = f refl

@@ -5,7 +5,7 @@ use Rattle.std.specs.Prelude.{List}
 use Rattle.omega_types.specs.Ty.{Ty}
 use Rattle.omega_types.specs.Binders.{OfKinds}
 use Rattle.omega_terms.specs.Term.{Term}
-use Rattle.signatures.specs.Signatures.Sig.{Sig, Abs, made}
+use Rattle.sig_definitions.specs.Signatures.Sig.{Sig, Abs, made}
 use Rattle.elab_laws.specs.Formed.{TypesHaveKinds, ExpsHaveTypes, WrittenAreExplicit, ModulesAreWellFormed, PureTypesHaveKinds, ProgramsAreWellFormed, ProgramTypesHaveKinds}
 use Rattle.elab_laws.proofs.Derived.{GoodModule, pure, type_kind, exp_kind, sig_explicit, module_good, program_good, good-body}
 

@@ -10,18 +10,18 @@ use Rattle.omega_types.proofs.BinderPuts.{types-forms}
 use Rattle.omega_terms.specs.Term.{Term}
 use Rattle.omega_terms.proofs.NormalTyping.{typed-normal}
 use Rattle.omega_terms.proofs.InstanceLaws.{instance-self}
-use Rattle.signatures.specs.Signatures.Sig.{Abs, Module}
-use Rattle.signatures.specs.Explicit.WellFormed.{abs}
-use Rattle.signatures.specs.QuantifierOrder.{Norm}
-use Rattle.signatures.specs.Env.{Env, Entry, kinds, IsGoodEnv}
+use Rattle.sig_definitions.specs.Signatures.Sig.{Abs, Module}
+use Rattle.sig_definitions.specs.Explicit.WellFormed.{abs}
+use Rattle.sig_definitions.specs.QuantifierOrder.{Norm}
+use Rattle.sig_definitions.specs.Env.{Env, Entry, kinds, IsGoodEnv}
 use Rattle.sig_laws.proofs.Encoded.EncodingTyping.{GoodAbs}
 use Rattle.sig_laws.proofs.Formed.WellFormedShape.{well_formed-good, explicit-shape}
 use Rattle.sig_laws.proofs.Encoded.EnvTyping.{GoodEnv, env-normal}
 use Rattle.sig_laws.proofs.Formed.NormGood.{norm-good}
-use Rattle.norm_laws.proofs.NormClaims as norms
+use Rattle.sig_norm_laws.proofs.NormClaims as norms
 use Rattle.fing_syntax.specs.Phrase.{TyEx, Exp, SigEx, Decl, Mod, Bind, Binds}
-use Rattle.signatures.specs.Signatures.RecordOrder.{NamesRise}
-use Rattle.elab_rules.specs.Judgments.Meaning.{TyMeans, ExpMeans, SigMeans, DeclMeans, ModMeans, BindMeans, BindsMean}
+use Rattle.sig_definitions.specs.Signatures.RecordOrder.{NamesRise}
+use Rattle.elab_judgments.specs.Judgments.Meaning.{TyMeans, ExpMeans, SigMeans, DeclMeans, ModMeans, BindMeans, BindsMean}
 use Rattle.elab_laws.proofs.ModuleTyping.{GoodModule as TypedModule}
 use Rattle.elab_laws.proofs.Soundness.{ty-good, exp-good, sig-good, decl-good, mod-good, bind-good, binds-good}
 use Rattle.elab_laws.proofs.Derived.{GoodModule as FormedModule, sig_explicit, decl_explicit, module_good, bind_good, binds_good}

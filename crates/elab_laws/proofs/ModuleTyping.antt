@@ -23,13 +23,13 @@ use Rattle.omega_terms.specs.Shorthands.{Packs}
 use Rattle.omega_terms.proofs.NormalTyping.{Typed, cast, recast, AllNormal}
 use Rattle.omega_terms.proofs.NormalInstance.{form_at, form-part, shifts, all-shifts, tied-self, typed-instance, forms-puts, forms-stay}
 use Rattle.omega_terms.proofs.TypedShorthands.{typed-let, form-form, form-none, typed-packs, typed-opens, typed-opened, at-opened}
-use Rattle.signatures.specs.Signatures.Sig.{Sig, Abs, Module, made}
-use Rattle.signatures.specs.Signatures.Encoding.{enc}
-use Rattle.signatures.specs.Packing.{Packed}
+use Rattle.sig_definitions.specs.Signatures.Sig.{Sig, Abs, Module, made}
+use Rattle.sig_definitions.specs.Signatures.Encoding.{enc}
+use Rattle.sig_definitions.specs.Packing.{Packed}
 use Rattle.sig_laws.proofs.Encoded.EncodingTyping.{shape-substitute, enc-form, Good, good-normal, good-field, enc-field}
-use Rattle.module_rules.specs.PathUse.{Outside, TypeOfPath, ValueOfPath}
-use Rattle.module_rules.specs.Projection.{Projected}
-use Rattle.module_rules.specs.Sequence.{Seq}
+use Rattle.module_judgments.specs.PathUse.{Outside, TypeOfPath, ValueOfPath}
+use Rattle.module_judgments.specs.Projection.{Projected}
+use Rattle.module_judgments.specs.Sequence.{Seq}
 use Rattle.omega_types.proofs.BinderLaws.{extend-append}
 use Rattle.omega_types.proofs.Inverse.{same-normal}
 use Rattle.sig_laws.proofs.Encoded.EncodingLaws.{enc-substitute}

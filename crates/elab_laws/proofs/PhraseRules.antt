@@ -19,23 +19,23 @@ use Rattle.omega_terms.specs.PartTerms.{one_field}
 use Rattle.omega_terms.proofs.NormalTyping.{Typed, TypedFields, cast, typed-more}
 use Rattle.omega_terms.proofs.NormalInstance.{form_at, shifts}
 use Rattle.omega_terms.proofs.TypedShorthands.{typed-let, typed-ty_lam_over, typed-insts}
-use Rattle.signatures.specs.Signatures.Sig.{Sig, Abs, SigRow, HasField, Module, made}
-use Rattle.signatures.specs.Signatures.SigSubst.{raise_sig_row, abs_at}
-use Rattle.signatures.specs.Signatures.Alike.{AlikeAbs, NormalAbsForm, NormalSigRow}
-use Rattle.signatures.specs.Signatures.Encoding.{enc, enc_abs}
-use Rattle.signatures.specs.Matching.Subtyping.{Match}
-use Rattle.signatures.specs.Packing.{Packed}
-use Rattle.signatures.specs.Lifting.{Lift, lifted_types}
-use Rattle.signatures.specs.Signatures.FieldOrder.{merge, with_names}
-use Rattle.signatures.specs.Env.{Env, kinds, types, with_module, type_vars, named_fields}
+use Rattle.sig_definitions.specs.Signatures.Sig.{Sig, Abs, SigRow, HasField, Module, made}
+use Rattle.sig_definitions.specs.Signatures.SigSubst.{raise_sig_row, abs_at}
+use Rattle.sig_definitions.specs.Signatures.Alike.{AlikeAbs, NormalAbsForm, NormalSigRow}
+use Rattle.sig_definitions.specs.Signatures.Encoding.{enc, enc_abs}
+use Rattle.sig_definitions.specs.Matching.Subtyping.{Match}
+use Rattle.sig_definitions.specs.Packing.{Packed}
+use Rattle.sig_definitions.specs.Lifting.{Lift, lifted_types}
+use Rattle.sig_definitions.specs.Signatures.FieldOrder.{merge, with_names}
+use Rattle.sig_definitions.specs.Env.{Env, kinds, types, with_module, type_vars, named_fields}
 use Rattle.sig_laws.proofs.Encoded.EncodingTyping.{ShapeRow, Hides, shape-substitute, shape-alike, shape_abs-substitute, shape_abs-alike, shape_abs-unalike, shape_abs-unrename, shape_row-rename, enc-normal, enc_abs-normal, enc_abs-form, Good, GoodAbs, good-normal, enc-field, one_part-normal}
 use Rattle.sig_laws.proofs.Encoded.CoercionTyping.{match-typed}
 use Rattle.sig_laws.proofs.Encoded.LiftTyping.{lifted-normal, lift-typed}
 use Rattle.sig_laws.proofs.Encoded.EnvTyping.{types-type_vars, kinds-named_fields, types-named_fields, field_vars}
-use Rattle.signatures.specs.Signatures.RecordOrder.{AreNew}
-use Rattle.module_rules.specs.PathUse.{SigOutside, SigOfPath}
-use Rattle.sig_rules.specs.Refinement.{Refined}
-use Rattle.module_rules.specs.Sequence.{field_lets}
+use Rattle.sig_definitions.specs.Signatures.RecordOrder.{AreNew}
+use Rattle.module_judgments.specs.PathUse.{SigOutside, SigOfPath}
+use Rattle.sig_judgments.specs.Refinement.{Refined}
+use Rattle.module_judgments.specs.Sequence.{field_lets}
 use Rattle.elab_laws.proofs.ModuleTyping.{GoodModule, plain-module, packed-typed, module-good}
 use Rattle.elab_laws.proofs.FieldLaws.{normal-merge, shape-merge, apart-rename, NoFields, no_fields-joined, with_names-no_fields}
 use Rattle.omega_types.proofs.BinderLaws.{extend-append}

@@ -18,27 +18,27 @@ use Rattle.omega_terms.specs.Term.{Term, TermRow}
 use Rattle.omega_terms.specs.Typing.{At, HasType}
 use Rattle.omega_terms.proofs.NormalTyping.{Typed, TypedFields, typed-more, typed-normal, typed-sound}
 use Rattle.omega_terms.proofs.TypedShorthands.{typed-packs}
-use Rattle.signatures.specs.Signatures.Sig.{Sig, Abs, Module, made}
-use Rattle.signatures.specs.Signatures.Alike.{NormalSigRow, NormalAbs}
-use Rattle.signatures.specs.Signatures.Encoding.{enc_abs}
-use Rattle.signatures.specs.Env.{Env, kinds, types, type_vars, with_module}
+use Rattle.sig_definitions.specs.Signatures.Sig.{Sig, Abs, Module, made}
+use Rattle.sig_definitions.specs.Signatures.Alike.{NormalSigRow, NormalAbs}
+use Rattle.sig_definitions.specs.Signatures.Encoding.{enc_abs}
+use Rattle.sig_definitions.specs.Env.{Env, kinds, types, type_vars, with_module}
 use Rattle.sig_laws.proofs.Encoded.EncodingTyping.{Good, GoodAbs, good_abs-normal, good-normal}
 use Rattle.sig_laws.proofs.Encoded.EnvTyping.{GoodEnv, env-normal, find-good, type_term-typed, kinds-named_fields, good-type_vars, good-with_module, good-named_fields}
 use Rattle.sig_laws.proofs.Encoded.CoercionTyping.{match-typed}
 use Rattle.sig_laws.proofs.Encoded.LiftTyping.{lift-good}
 use Rattle.fing_syntax.specs.Phrase.{Mod, Bind, Binds, SigEx, Decl, Decls, TyEx, TyExs, FieldTyExs, Exp, OpExps, Args, FieldExps}
 use Rattle.fing_syntax.specs.Place.{name_of}
-use Rattle.signatures.specs.Signatures.FieldOrder.{with_names}
-use Rattle.core_rules.specs.TypeRules.{BaseGives, FieldTy, RecordTypeGives, ArrowGives, AllGives, OperatorGives, AppliedGives}
-use Rattle.core_rules.specs.ExpRules.{LiteralGives, FieldExp, RecordGives, FunctionGives, TypeFunctionGives, CallGives, InstanceGives, GetGives, IfGives, OperationGives, FixGives}
-use Rattle.sig_rules.specs.SigRules.{ValueGives, TypeGives, AbstractGives, ModuleGives, SignatureGives, IncludeGives, DeclarationsGive, GenerativeGives as GenerativeSigGives}
-use Rattle.module_rules.specs.ModRules.{NamedGives, GenerativeGives, PartsGive, ApplyGives, IncludeGives as IncludeModule, SealGives, ValueGives as ValueModule, TypeGives as TypeModule, SignatureGives as SignatureModule}
-use Rattle.applicative_functors.specs.PureFunctor.{PureFunctorGives}
-use Rattle.packages.specs.Package.{PackTypeGives, PackGives, UnpackGives}
-use Rattle.elab_rules.specs.Operators.{include_name}
-use Rattle.signatures.specs.Signatures.RecordOrder.{NamesRise}
-use Rattle.elab_rules.specs.Judgments.Meaning.{TyMeans, ArgTysMean, FieldTysMean, ExpMeans, OpsMean, ArgsMean, FieldExpsMean, SigMeans, DeclMeans, DeclsMean, ModMeans, BindMeans, BindsMean}
-use Rattle.elab_rules.specs.Judgments.Program.{ProgramMeans}
+use Rattle.sig_definitions.specs.Signatures.FieldOrder.{with_names}
+use Rattle.core_judgments.specs.TypeRules.{BaseGives, FieldTy, RecordTypeGives, ArrowGives, AllGives, OperatorGives, AppliedGives}
+use Rattle.core_judgments.specs.ExpRules.{LiteralGives, FieldExp, RecordGives, FunctionGives, TypeFunctionGives, CallGives, InstanceGives, GetGives, IfGives, OperationGives, FixGives}
+use Rattle.sig_judgments.specs.SigRules.{ValueGives, TypeGives, AbstractGives, ModuleGives, SignatureGives, IncludeGives, DeclarationsGive, GenerativeGives as GenerativeSigGives}
+use Rattle.module_judgments.specs.ModRules.{NamedGives, GenerativeGives, PartsGive, ApplyGives, IncludeGives as IncludeModule, SealGives, ValueGives as ValueModule, TypeGives as TypeModule, SignatureGives as SignatureModule}
+use Rattle.functor_judgments.specs.PureFunctor.{PureFunctorGives}
+use Rattle.package_judgments.specs.Package.{PackTypeGives, PackGives, UnpackGives}
+use Rattle.elab_judgments.specs.Operators.{include_name}
+use Rattle.sig_definitions.specs.Signatures.RecordOrder.{NamesRise}
+use Rattle.elab_judgments.specs.Judgments.Meaning.{TyMeans, ArgTysMean, FieldTysMean, ExpMeans, OpsMean, ArgsMean, FieldExpsMean, SigMeans, DeclMeans, DeclsMean, ModMeans, BindMeans, BindsMean}
+use Rattle.elab_judgments.specs.Judgments.Program.{ProgramMeans}
 use Rattle.sig_laws.proofs.Formed.NormGood.{norm-good}
 use Rattle.elab_laws.proofs.FieldLaws.{FreshAll, fresh_all-end, fresh_all-insert, normals-insert, typed-insert, no_fields-end, rise-with_name, rise-with_names, collected-typed}
 use Rattle.elab_laws.proofs.ModuleTyping.{GoodModule, plain-module, packed-typed, module-good, path-type, path-value, project-typed, seq-typed}

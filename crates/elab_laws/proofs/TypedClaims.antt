@@ -17,13 +17,13 @@ use Rattle.omega_laws.proofs.Synthesised.{exact, synth_one}
 use Rattle.omega_types.proofs.LawProofs.{normal_of_normal}
 use Rattle.omega_terms.proofs.TypingLaws.{good-none}
 use Rattle.omega_laws.proofs.Runs.{reaches_type, reached_not_stuck}
-use Rattle.signatures.specs.Signatures.Sig.{Sig, Abs, made}
-use Rattle.signatures.specs.Signatures.SigSubst.{sig_at}
-use Rattle.signatures.specs.Signatures.Encoding.{enc, enc_abs}
+use Rattle.sig_definitions.specs.Signatures.Sig.{Sig, Abs, made}
+use Rattle.sig_definitions.specs.Signatures.SigSubst.{sig_at}
+use Rattle.sig_definitions.specs.Signatures.Encoding.{enc, enc_abs}
 use Rattle.sig_laws.proofs.Encoded.EncodingTyping.{good-normal}
 use Rattle.sig_laws.proofs.Encoded.EnvTyping.{env-normal}
 use Rattle.elab_laws.specs.Typed.{WholeIsTyped, WholeIsNormal, WholeIsNeverStuck, WholeIsSynthesised, PureModuleIsTyped, SigOfProgramIsNormal, TypeIsKinded, ExpressionIsTyped, ExpressionIsNormal, SignatureIsNormal, ModuleIsTyped, ModuleIsNormal}
-use Rattle.elab_rules.specs.Judgments.Program.{ProgramMeans}
+use Rattle.elab_judgments.specs.Judgments.Program.{ProgramMeans}
 use Rattle.elab_laws.proofs.ModuleTyping.{GoodModule, module-good, packed-typed}
 use Rattle.elab_laws.proofs.Derived.{module_good}
 use Rattle.elab_laws.proofs.Kept.{good_env, module-ok}

@@ -7,12 +7,12 @@ use Rattle.omega_types.specs.Ty.{Ty}
 use Rattle.omega_types.specs.Kinding.{HasKind}
 use Rattle.omega_types.specs.Binders.{OfKinds}
 use Rattle.omega_terms.specs.Term.{Term}
-use Rattle.signatures.specs.Signatures.Sig.{Sig, Abs, made}
-use Rattle.signatures.specs.Env.{Env, kinds, IsGoodEnv}
-use Rattle.signatures.specs.Explicit.WellFormed.{WellFormedAbs, Explicit}
+use Rattle.sig_definitions.specs.Signatures.Sig.{Sig, Abs, made}
+use Rattle.sig_definitions.specs.Env.{Env, kinds, IsGoodEnv}
+use Rattle.sig_definitions.specs.Explicit.WellFormed.{WellFormedAbs, Explicit}
 use Rattle.fing_syntax.specs.Phrase.{TyEx, Exp, SigEx, Mod, Binds}
-use Rattle.elab_rules.specs.Judgments.Meaning.{TyMeans, ExpMeans, SigMeans, ModMeans}
-use Rattle.elab_rules.specs.Judgments.Program.{ProgramMeans}
+use Rattle.elab_judgments.specs.Judgments.Meaning.{TyMeans, ExpMeans, SigMeans, ModMeans}
+use Rattle.elab_judgments.specs.Judgments.Program.{ProgramMeans}
 
 abbrev pub TypesHaveKinds : Type 0
 TypesHaveKinds = (g : Env) (a : TyEx) (t : Ty) (k : Kind) → IsGoodEnv g → TyMeans g a t k → HasKind (kinds g) t k

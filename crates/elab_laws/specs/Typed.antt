@@ -11,16 +11,16 @@ use Rattle.omega_terms.specs.Typing.{HasType}
 use Rattle.omega_terms.specs.NormalTyping.{Typed}
 use Rattle.omega_terms.specs.Steps.{Reaches, Stuck}
 use Rattle.omega_laws.specs.Synthesis.{Synth}
-use Rattle.signatures.specs.Signatures.Sig.{Sig, Abs, Module, made}
-use Rattle.signatures.specs.Signatures.Alike.{NormalSig, NormalAbs}
-use Rattle.signatures.specs.Signatures.Encoding.{enc, enc_abs}
-use Rattle.signatures.specs.Signatures.SigSubst.{sig_at}
-use Rattle.signatures.specs.Packing.{Packed}
-use Rattle.signatures.specs.Env.{Env, Entry, kinds, types, IsGoodEnv}
+use Rattle.sig_definitions.specs.Signatures.Sig.{Sig, Abs, Module, made}
+use Rattle.sig_definitions.specs.Signatures.Alike.{NormalSig, NormalAbs}
+use Rattle.sig_definitions.specs.Signatures.Encoding.{enc, enc_abs}
+use Rattle.sig_definitions.specs.Signatures.SigSubst.{sig_at}
+use Rattle.sig_definitions.specs.Packing.{Packed}
+use Rattle.sig_definitions.specs.Env.{Env, Entry, kinds, types, IsGoodEnv}
 use Rattle.sig_laws.specs.Good.{OkModule}
 use Rattle.fing_syntax.specs.Phrase.{Mod, Binds, SigEx, TyEx, Exp}
-use Rattle.elab_rules.specs.Judgments.Meaning.{TyMeans, ExpMeans, SigMeans, ModMeans}
-use Rattle.elab_rules.specs.Judgments.Program.{ProgramMeans}
+use Rattle.elab_judgments.specs.Judgments.Meaning.{TyMeans, ExpMeans, SigMeans, ModMeans}
+use Rattle.elab_judgments.specs.Judgments.Program.{ProgramMeans}
 
 -- every type in an environment is normal
 abbrev pub IsNormalEntry : Env → Entry → Type 0

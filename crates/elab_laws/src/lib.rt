@@ -1,5 +1,5 @@
 // What elaboration derives is well typed, well formed and ordered explicit.
-// Stands on elab_rules, omega_laws, match_laws and norm_laws.
+// Stands on elab_judgments, omega_laws, sig_match_laws and sig_norm_laws.
 // Proved: the whole term of a program has the type of its whole signature by the typing rules and is never stuck
 // (`typed`); written signatures are ordered explicit, and derived modules well formed (`derived_signatures`).
 #![tactic(auto)]

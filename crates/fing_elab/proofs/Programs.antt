@@ -3,26 +3,26 @@ use Rattle.std.proofs.Common.{◌≡◌, List, [], sym, ap, ◌∙◌}
 use Rattle.omega_kinds.specs.Name.{Name}
 use Rattle.omega_terms.specs.Term.{Term}
 use Rattle.omega_terms.specs.Typing.{HasType}
-use Rattle.signatures.specs.Env.{Env}
-use Rattle.signatures.specs.Packing.{Packed}
-use Rattle.signatures.specs.Signatures.Sig.{Module}
-use Rattle.signatures.specs.Signatures.Encoding.{enc_abs}
-use Rattle.signatures.specs.Verdict.{holds, refuses}
+use Rattle.sig_definitions.specs.Env.{Env}
+use Rattle.sig_definitions.specs.Packing.{Packed}
+use Rattle.sig_definitions.specs.Signatures.Sig.{Module}
+use Rattle.sig_definitions.specs.Signatures.Encoding.{enc_abs}
+use Rattle.sig_definitions.specs.Verdict.{holds, refuses}
 use Rattle.sig_laws.specs.Good.{KindedModule}
 use Rattle.sig_laws.proofs.Formed.WellFormedShape.{kinded}
 use Rattle.fing_syntax.specs.Phrase.{Binds}
-use Rattle.fing_refusals.specs.Refusal.{Refusal}
-use Rattle.elab_rules.specs.Judgments.Meaning.{BindsMean}
-use Rattle.elab_rules.specs.Judgments.Program.{ProgramMeans, ProgramRefused}
-use Rattle.elab_rules.specs.Refusals.Task.{binds}
+use Rattle.refusal_reasons.specs.Refusal.{Refusal}
+use Rattle.elab_judgments.specs.Judgments.Meaning.{BindsMean}
+use Rattle.elab_judgments.specs.Judgments.Program.{ProgramMeans, ProgramRefused}
+use Rattle.elab_judgments.specs.Refusals.Task.{binds}
 use Rattle.elab_laws.proofs.Kept.{binds_ok}
 use Rattle.elab_laws.proofs.TypedClaims.{whole_is_typed}
 use Rattle.elab_exact.specs.Claims.{ProgramExactly}
 use Rattle.elab_exact.proofs.Theorems.{each-program}
-use Rattle.refusal_lines.specs.Plain.{Says}
-use Rattle.refusal_lines.specs.declared.refusal.Refusal.{Refusal as CodeRefusal}
-use Rattle.elaboration.specs.Answered.{RefusedAs}
-use Rattle.elaboration.proofs.Placing.{says-map}
+use Rattle.fing_refusals.specs.Plain.{Says}
+use Rattle.fing_refusals.specs.declared.refusal.Refusal.{Refusal as CodeRefusal}
+use Rattle.elab_phrases.specs.Answered.{RefusedAs}
+use Rattle.elab_phrases.proofs.Placing.{says-map}
 use Rattle.fing_elab.specs.declared.whole.Elaborated.{Elaborated}
 use Rattle.fing_elab.specs.Exactly.{module_in, Means, IsRefused}
 

@@ -1,10 +1,10 @@
 -- What is answered for a program: its one meaning, or its one refusal.
 use Rattle.std.specs.Prelude.{◌≡◌}
 use Rattle.omega_terms.specs.Term.{Term}
-use Rattle.signatures.specs.Signatures.Sig.{Module, made}
+use Rattle.sig_definitions.specs.Signatures.Sig.{Module, made}
 use Rattle.fing_syntax.specs.Phrase.{Binds}
-use Rattle.fing_refusals.specs.Refusal.{Refusal}
-use Rattle.elab_rules.specs.Judgments.Program.{ProgramMeans, ProgramRefused}
+use Rattle.refusal_reasons.specs.Refusal.{Refusal}
+use Rattle.elab_judgments.specs.Judgments.Program.{ProgramMeans, ProgramRefused}
 use Rattle.fing_elab.specs.declared.whole.Elaborated.{Elaborated}
 
 -- the module that is answered

@@ -1,19 +1,19 @@
 // Whole programs.
 ghost use Rattle.std.specs.Prelude.{◌≡◌, [], IfErr, IfOk};
 ghost use Rattle.omega_terms.specs.Typing.{HasType};
-ghost use Rattle.signatures.specs.Packing.{Packed};
-ghost use Rattle.signatures.specs.Signatures.Encoding.{enc_abs};
+ghost use Rattle.sig_definitions.specs.Packing.{Packed};
+ghost use Rattle.sig_definitions.specs.Signatures.Encoding.{enc_abs};
 ghost use Rattle.sig_laws.specs.Good.{KindedModule};
 ghost use Rattle.semantic_sigs.specs.Made.{module_of};
-ghost use Rattle.refusal_lines.specs.Plain.{Says};
+ghost use Rattle.fing_refusals.specs.Plain.{Says};
 ghost use Rattle.fing_elab.specs.Exactly.{Means, IsRefused};
 
-use elaboration::{NameSet, structure};
+use elab_phrases::{NameSet, structure};
+use fing_refusals::Refusal;
 use fing_syntax::Program;
-use module_calls::packed;
+use module_rules::packed;
 use omega_kinds::{Effect, Mem};
 use omega_terms::Term;
-use refusal_lines::Refusal;
 use semantic_sigs::{Abs, Env, Module, Witnesses};
 use std::alloc::Global;
 

@@ -2,12 +2,12 @@
 use Rattle.std.proofs.Common.{◌≡◌, List, [], ◌∷◌, ◌++◌, refl, sym, ◌∙◌, ap}
 use Rattle.std.specs.Prelude.{Option, None, Some, option_map}
 use Rattle.fing_syntax.specs.Phrase as tree
-use Rattle.fing_grammar.specs.Grammar.{Class, Binds, Bind, Decls, Decl, TypeOf, K, KArrow, KA, P, Dots, T, TArrow, TC, TArgs, TA, TFields, MoreTFields, S, SArrow, Wheres, SA, M, MArgs, Seals, MA, E, Lam, Compare, ES, Sums, EM, Products, EP, Args, EA, Gets, EB, EFields, MoreEFields, Symbol, token, phrase, Rule, rhs}
-use Rattle.fing_grammar.specs.Meaning.{Value, Values, act}
-use Rattle.fing_grammar.specs.Moves.{Move, shift, by, track}
-use Rattle.fing_grammar.specs.Tree.{Trees, end, leaf, node, spelling, values, Phrase}
+use Rattle.parse_grammar.specs.Grammar.{Class, Binds, Bind, Decls, Decl, TypeOf, K, KArrow, KA, P, Dots, T, TArrow, TC, TArgs, TA, TFields, MoreTFields, S, SArrow, Wheres, SA, M, MArgs, Seals, MA, E, Lam, Compare, ES, Sums, EM, Products, EP, Args, EA, Gets, EB, EFields, MoreEFields, Symbol, token, phrase, Rule, rhs}
+use Rattle.parse_grammar.specs.Meaning.{Value, Values, act}
+use Rattle.parse_grammar.specs.Moves.{Move, shift, by, track}
+use Rattle.parse_grammar.specs.Tree.{Trees, end, leaf, node, spelling, values, Phrase}
 use Rattle.fing_lexer.specs.declared.token.Token.{Token}
-use Rattle.fing_grammar.specs.View.{any}
+use Rattle.parse_grammar.specs.View.{any}
 use Rattle.parse_stack.specs.Item.{Item, TokenItem, item, as_value, as_binds}
 use Rattle.parse_stack.specs.Play.{and_then, top, taken, played, play_all, told}
 

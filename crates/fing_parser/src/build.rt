@@ -1,13 +1,13 @@
 // A tree out of the steps in which its tokens are read. The steps are played from the last to the first.
 ghost use Rattle.std.specs.Prelude.{◌≡◌, Some, None, IfOk, IfErr};
 ghost use Rattle.fing_syntax.specs.View.{binds as binds_of};
-ghost use Rattle.fing_grammar.specs.Steps.{move_in, moves};
+ghost use Rattle.parse_grammar.specs.Steps.{move_in, moves};
 ghost use Rattle.parse_stack.specs.Part.{held};
 ghost use Rattle.parse_stack.specs.Play.{play, told};
 ghost use Rattle.parse_stack.specs.declared.refusal.BuildRefusal.TheVariants.{Misfit};
 
-use fing_grammar::Step;
 use fing_syntax::Bind;
+use parse_grammar::Step;
 use parse_productions::play as play_rule;
 use parse_stack::{BuildRefusal, Part, Stack};
 use std::alloc::Global;

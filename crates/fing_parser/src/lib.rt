@@ -1,5 +1,5 @@
 // The parser: trees out of the steps in which the recogniser reads a list of tokens.
-// Stands on fing_grammar (the recogniser), fing_syntax (trees) and parse_productions.
+// Stands on parse_grammar (the recogniser), fing_syntax (trees) and parse_productions.
 // Proved: `program` gives exactly the one tree of the tokens, or refuses exactly where they have none, with the length
 // of their longest front that begins some program.
 #![tactic(auto)]
@@ -7,5 +7,5 @@
 mod build;
 mod parser;
 
-pub use fing_grammar::ParseRefusal;
+pub use parse_grammar::ParseRefusal;
 pub use parser::program;

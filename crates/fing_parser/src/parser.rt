@@ -1,13 +1,13 @@
 // Programs out of tokens.
 ghost use Rattle.std.specs.Prelude.{◌≤◌, length, IfOk, IfErr};
-ghost use Rattle.fing_grammar.specs.Grammar.{Binds};
-ghost use Rattle.fing_grammar.specs.Refusal.{Refuses};
-ghost use Rattle.fing_grammar.specs.Tree.{Phrase};
+ghost use Rattle.parse_grammar.specs.Grammar.{Binds};
+ghost use Rattle.parse_grammar.specs.Refusal.{Refuses};
+ghost use Rattle.parse_grammar.specs.Tree.{Phrase};
 
 use crate::build::build;
-use fing_grammar::{ParseRefusal, recognise};
 use fing_lexer::Token;
 use fing_syntax::Program;
+use parse_grammar::{ParseRefusal, recognise};
 use parse_stack::BuildRefusal;
 use std::alloc::Global;
 

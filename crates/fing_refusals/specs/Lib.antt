@@ -1,2 +1,4 @@
-pub mod Refusal
-pub mod Good
+pub mod Plain
+pub mod Line
+pub mod InScope
+pub mod Pieces

@@ -10,7 +10,7 @@ use Rattle.fing_text.proofs.InARow.{lost-none}
 use Rattle.omega_types.specs.Ty.{Ty}
 use Rattle.omega_terms.specs.Term.{Term}
 use Rattle.omega_terms.specs.Typing.{HasType}
-use Rattle.signatures.specs.Signatures.Encoding.{enc_abs}
+use Rattle.sig_definitions.specs.Signatures.Encoding.{enc_abs}
 use Rattle.omega_checker.specs.Judgment.{Judgment}
 use Rattle.omega_read.specs.declared.whole.ReadRefusal.{ReadRefusal}
 use Rattle.omega_read.specs.declared.whole.ReadRefusal.TheVariants as read
@@ -22,23 +22,23 @@ use Rattle.fing_lexer.specs.declared.token.Token.{Token}
 use Rattle.fing_lexer.specs.Tokens.{TokensOf, RefusalOf, Sliced}
 use Rattle.fing_lexer.proofs.Slices.{sliced}
 use Rattle.fing_syntax.specs.Phrase.{Binds as Program}
-use Rattle.fing_grammar.specs.declared.refusal.ParseRefusal.{ParseRefusal}
-use Rattle.fing_grammar.specs.declared.refusal.ParseRefusal.TheVariants as parse
-use Rattle.fing_grammar.specs.Refusal.{Refuses as TokensRefuse}
+use Rattle.parse_grammar.specs.declared.refusal.ParseRefusal.{ParseRefusal}
+use Rattle.parse_grammar.specs.declared.refusal.ParseRefusal.TheVariants as parse
+use Rattle.parse_grammar.specs.Refusal.{Refuses as TokensRefuse}
 use Rattle.fing_words.specs.CommandLines.{IsCommandLine}
 use Rattle.fing_words.specs.declared.command_line.CommandLine.{CommandLine}
 use Rattle.fing_words.specs.declared.command_line.CommandLine.TheVariants as command
 use Rattle.fing_words.proofs.OneLine.{one_line}
-use Rattle.fing_refusals.specs.Refusal.{Refusal as PlainRefusal}
-use Rattle.refusal_lines.specs.InScope.{HasLine as RefusalHasLine}
-use Rattle.refusal_lines.specs.Line.{line_of as program_line}
-use Rattle.refusal_lines.specs.Plain.{Says, plain_refusal, want_of_memory}
-use Rattle.refusal_lines.specs.declared.refusal.Refusal.{Refusal}
+use Rattle.refusal_reasons.specs.Refusal.{Refusal as PlainRefusal}
+use Rattle.fing_refusals.specs.InScope.{HasLine as RefusalHasLine}
+use Rattle.fing_refusals.specs.Line.{line_of as program_line}
+use Rattle.fing_refusals.specs.Plain.{Says, plain_refusal, want_of_memory}
+use Rattle.fing_refusals.specs.declared.refusal.Refusal.{Refusal}
 use Rattle.fing_elab.specs.Exactly.{Means, IsRefused as MeansNothing}
 use Rattle.fing_elab.specs.declared.whole.Elaborated.{Elaborated}
 use Rattle.fing_top.specs.Compiled.{IsCompiled, IsRefused}
 use Rattle.omega_machine.specs.Outcomes.{fault_of, Tells as Ends}
-use Rattle.omega_machine.specs.ValueText.{value_text}
+use Rattle.omega_terms.specs.ValueText.{value_text}
 use Rattle.omega_machine.specs.declared.outcome.End.{End}
 use Rattle.omega_machine.specs.declared.outcome.End.TheVariants as ending
 use Rattle.fing_top.specs.Counts.{bind_count, node_count, counts_line}

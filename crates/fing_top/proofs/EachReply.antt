@@ -12,7 +12,7 @@ use Rattle.omega_laws.proofs.Runs.{outcome}
 use Rattle.omega_checker.specs.Found.{normal_at, synth_in}
 use Rattle.omega_checker.specs.SameTy.{same_ty}
 use Rattle.omega_checker.proofs.Exact.{unkinded, untyped, differs, typed}
-use Rattle.omega_machine.specs.ValueText.{value_text}
+use Rattle.omega_terms.specs.ValueText.{value_text}
 use Rattle.omega_spelling.specs.Omega.{IsOmega}
 use Rattle.omega_spelling.specs.Refusals.{is_too_deep}
 use Rattle.omega_spelling.specs.Refused.{Refused as TextRefused, Refuses as TextRefuses}
@@ -21,15 +21,15 @@ use Rattle.fing_lexer.specs.declared.token.Token.{Token}
 use Rattle.fing_lexer.specs.Tokens.{TokensOf, Outcome, Good, Bad, Lexes}
 use Rattle.fing_lexer.specs.Nest.{whole_file}
 use Rattle.fing_lexer.proofs.Laws.{has_one_outcome}
-use Rattle.signatures.specs.Signatures.Encoding.{enc_abs}
-use Rattle.signatures.specs.Signatures.Sig.{Abs, Module, made}
-use Rattle.signatures.specs.Verdict.{holds, refuses}
+use Rattle.sig_definitions.specs.Signatures.Encoding.{enc_abs}
+use Rattle.sig_definitions.specs.Signatures.Sig.{Abs, Module, made}
+use Rattle.sig_definitions.specs.Verdict.{holds, refuses}
 use Rattle.fing_syntax.specs.Phrase.{Binds as Program}
-use Rattle.fing_grammar.specs.Grammar.{Binds}
-use Rattle.fing_grammar.specs.Program.{Refused as NoProgram}
-use Rattle.fing_grammar.specs.Tree.{Phrase}
-use Rattle.fing_grammar.proofs.Answer.{one_answer}
-use Rattle.elab_rules.specs.Judgments.Program.{ProgramMeans}
+use Rattle.parse_grammar.specs.Grammar.{Binds}
+use Rattle.parse_grammar.specs.Program.{Refused as NoProgram}
+use Rattle.parse_grammar.specs.Tree.{Phrase}
+use Rattle.parse_grammar.proofs.Answer.{one_answer}
+use Rattle.elab_judgments.specs.Judgments.Program.{ProgramMeans}
 use Rattle.elab_laws.proofs.TypedClaims.{whole_is_typed}
 use Rattle.elab_exact.specs.Claims.{ProgramExactly}
 use Rattle.elab_exact.proofs.Theorems.{each-program}

@@ -15,20 +15,20 @@ use Rattle.fing_lexer.specs.declared.lexer.LexRefusal.{LexRefusal}
 use Rattle.fing_lexer.specs.declared.token.Token.{Token}
 use Rattle.fing_lexer.specs.Tokens.{TokensOf, RefusalOf, Outcome, Good, Bad}
 use Rattle.fing_lexer.proofs.Laws.{has_one_outcome}
-use Rattle.signatures.specs.Signatures.Encoding.{enc_abs}
-use Rattle.signatures.specs.Signatures.Sig.{Abs, Module, made}
-use Rattle.signatures.specs.Verdict.{holds, refuses}
+use Rattle.sig_definitions.specs.Signatures.Encoding.{enc_abs}
+use Rattle.sig_definitions.specs.Signatures.Sig.{Abs, Module, made}
+use Rattle.sig_definitions.specs.Verdict.{holds, refuses}
 use Rattle.fing_syntax.specs.Phrase.{Binds as Program}
-use Rattle.fing_grammar.specs.Grammar.{Binds}
-use Rattle.fing_grammar.specs.Program.{Farthest}
-use Rattle.fing_grammar.specs.Tree.{Phrase}
-use Rattle.fing_grammar.proofs.Laws.{one_tree, one_farthest}
-use Rattle.fing_refusals.specs.Refusal.{Refusal}
-use Rattle.elab_rules.specs.Judgments.Program.{ProgramMeans, ProgramRefused}
+use Rattle.parse_grammar.specs.Grammar.{Binds}
+use Rattle.parse_grammar.specs.Program.{Farthest}
+use Rattle.parse_grammar.specs.Tree.{Phrase}
+use Rattle.parse_grammar.proofs.Laws.{one_tree, one_farthest}
+use Rattle.refusal_reasons.specs.Refusal.{Refusal}
+use Rattle.elab_judgments.specs.Judgments.Program.{ProgramMeans, ProgramRefused}
 use Rattle.elab_exact.specs.Claims.{ProgramExactly}
 use Rattle.elab_exact.proofs.Theorems.{each-program}
-use Rattle.refusal_lines.specs.Line.{line}
-use Rattle.omega_machine.specs.ValueText.{value_text}
+use Rattle.fing_refusals.specs.Line.{line}
+use Rattle.omega_terms.specs.ValueText.{value_text}
 use Rattle.omega_laws.proofs.Runs.{outcome_unique}
 use Rattle.fing_top.specs.Counts.{most_steps, bind_count, node_count, counts_line}
 use Rattle.fing_top.specs.Refusing.{lexical_line, syntax_line, numbered}

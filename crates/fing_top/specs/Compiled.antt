@@ -4,10 +4,10 @@ use Rattle.omega_types.specs.Ty.{Ty}
 use Rattle.omega_terms.specs.Term.{Term}
 use Rattle.omega_checker.specs.Judgment.{Judgment}
 use Rattle.omega_scopes.specs.Depth.{ty_depth, type_depth, term_depth}
-use Rattle.signatures.specs.Signatures.Encoding.{enc_abs}
-use Rattle.signatures.specs.Signatures.Sig.{made}
+use Rattle.sig_definitions.specs.Signatures.Encoding.{enc_abs}
+use Rattle.sig_definitions.specs.Signatures.Sig.{made}
 use Rattle.fing_syntax.specs.Phrase.{Binds as Program}
-use Rattle.elab_rules.specs.Judgments.Program.{ProgramMeans}
+use Rattle.elab_judgments.specs.Judgments.Program.{ProgramMeans}
 use Rattle.fing_top.specs.Counts.{bind_count}
 use Rattle.fing_top.specs.Refusing.{refusal_line, HasLine}
 use Rattle.fing_top.specs.Reply.{Spells, Refuses}

@@ -2,11 +2,11 @@
 use Rattle.std.specs.Prelude.{ℕ, ◌+◌, ◌^◌, ◌<◌, List, [], ◌∷◌, codes, decimal, flat_map}
 use Rattle.fing_lexer.specs.declared.lexer.LexRefusal.{LexRefusal}
 use Rattle.fing_lexer.specs.declared.lexer.LexRefusal.TheVariants as lex
-use Rattle.fing_grammar.specs.declared.refusal.ParseRefusal.{ParseRefusal}
-use Rattle.fing_grammar.specs.declared.refusal.ParseRefusal.TheVariants as parse
-use Rattle.refusal_lines.specs.InScope.{HasLine as RefusalHasLine}
-use Rattle.refusal_lines.specs.Line.{line_of}
-use Rattle.refusal_lines.specs.Plain.{plain_reason, plain_refusal}
+use Rattle.parse_grammar.specs.declared.refusal.ParseRefusal.{ParseRefusal}
+use Rattle.parse_grammar.specs.declared.refusal.ParseRefusal.TheVariants as parse
+use Rattle.fing_refusals.specs.InScope.{HasLine as RefusalHasLine}
+use Rattle.fing_refusals.specs.Line.{line_of}
+use Rattle.fing_refusals.specs.Plain.{plain_reason, plain_refusal}
 use Rattle.sig_scopes.specs.ReasonScoped.{given_depth}
 use Rattle.fing_top.specs.declared.refusing.Refused.{Refused}
 use Rattle.fing_top.specs.declared.refusing.Refused.TheVariants.{BadByte, BadText, Wide, TooDeep, Syntax, Program, Mem}

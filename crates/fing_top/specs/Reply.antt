@@ -9,21 +9,21 @@ use Rattle.omega_terms.specs.Typing.{HasType}
 use Rattle.omega_spelling.specs.Omega.{OmegaText}
 use Rattle.omega_spelling.specs.Refusals.{is_too_deep}
 use Rattle.omega_spelling.specs.Refused.{Refused, IsVersion, IsTooDeep, IsWide, IsNotOmega, Refuses as TextRefuses}
-use Rattle.signatures.specs.Signatures.Encoding.{enc_abs}
-use Rattle.signatures.specs.Signatures.Sig.{Abs, made}
+use Rattle.sig_definitions.specs.Signatures.Encoding.{enc_abs}
+use Rattle.sig_definitions.specs.Signatures.Sig.{Abs, made}
 use Rattle.omega_checker.specs.Judgment.{Judgment}
 use Rattle.fing_lexer.specs.declared.lexer.LexRefusal.{LexRefusal}
 use Rattle.fing_lexer.specs.declared.token.Token.{Token}
 use Rattle.fing_lexer.specs.Tokens.{TokensOf, RefusalOf}
 use Rattle.fing_syntax.specs.Phrase.{Binds as Program}
-use Rattle.fing_grammar.specs.Grammar.{Binds}
-use Rattle.fing_grammar.specs.Program.{Farthest}
-use Rattle.fing_grammar.specs.Tree.{Phrase}
-use Rattle.fing_refusals.specs.Refusal.{Refusal}
-use Rattle.elab_rules.specs.Judgments.Program.{ProgramMeans, ProgramRefused}
-use Rattle.omega_machine.specs.ValueText.{value_text}
+use Rattle.parse_grammar.specs.Grammar.{Binds}
+use Rattle.parse_grammar.specs.Program.{Farthest}
+use Rattle.parse_grammar.specs.Tree.{Phrase}
+use Rattle.refusal_reasons.specs.Refusal.{Refusal}
+use Rattle.elab_judgments.specs.Judgments.Program.{ProgramMeans, ProgramRefused}
+use Rattle.omega_terms.specs.ValueText.{value_text}
 use Rattle.sig_text.specs.SigText.{elab_text}
-use Rattle.refusal_lines.specs.Line.{line}
+use Rattle.fing_refusals.specs.Line.{line}
 use Rattle.fing_words.specs.declared.command_line.CommandLine.{CommandLine}
 use Rattle.fing_words.specs.declared.command_line.CommandLine.TheVariants as command
 use Rattle.fing_top.specs.Counts.{most_steps, bind_count, node_count, counts_line}

@@ -1,7 +1,7 @@
 // From a source's bytes to what its program means, confirmed by the checker.
 ghost use Rattle.std.specs.Prelude.{◌≡◌, ◌≤◌, [], length, IfOk, IfErr};
 ghost use Rattle.omega_terms.specs.Typing.{HasType};
-ghost use Rattle.signatures.specs.Signatures.Encoding.{enc_abs};
+ghost use Rattle.sig_definitions.specs.Signatures.Encoding.{enc_abs};
 ghost use Rattle.fing_top.specs.Answer.{limit};
 ghost use Rattle.fing_top.specs.Compiled.{IsCompiled, IsRefused};
 ghost use Rattle.fing_top.specs.Counts.{bind_count};

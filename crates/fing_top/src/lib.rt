@@ -1,6 +1,6 @@
 // The top call: `fing` does all that the program does, from the words and the source to the reply and the status.
 // Stands on fing_words (words), fing_gen (the generated program), fing_lexer, fing_parser and fing_elab (from bytes to
-// a signature and a term), omega_checker, omega_machine, the texts of sig_text, refusal_lines, omega_write and
+// a signature and a term), omega_checker, omega_machine, the texts of sig_text, fing_refusals, omega_write and
 // omega_read, and itoa (numbers in decimal).
 // Proved: each answer comes with its cause, and what is written is the one reply that the definitions give for all the
 // bytes of the source, or for the generated program; what is emitted was confirmed by the checker; where the bytes are

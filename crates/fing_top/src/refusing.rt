@@ -5,10 +5,10 @@ ghost use Rattle.fing_top.specs.Refusing.{refusal_line, numbered, HasLine, HasRo
 
 use fing_lexer::LexRefusal;
 use fing_parser::ParseRefusal;
+use fing_refusals::{Refusal, write_line as write_refusal};
 use fing_text::{Sink, WriteFault, put_all};
 use itoa::Buffer;
 use omega_kinds::Mem;
-use refusal_lines::{Refusal, write_line as write_refusal};
 use sig_scopes::refusal_in_scope;
 
 /// Why a source is refused: it has no tokens, its tokens are no program, or its program means nothing.

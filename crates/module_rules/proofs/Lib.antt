@@ -1,3 +1,10 @@
-pub mod Determined
-pub mod Escapes
-pub mod Verdicts
+pub mod Packs
+pub mod Outside
+pub mod Made
+pub mod Own
+pub mod LookedFor
+pub mod Lets
+pub mod Ended
+pub mod PastOpens
+pub mod Options
+pub mod StandingParts

@@ -1,6 +1,2 @@
-pub mod ModRules
-pub mod ModWhy
-pub mod OneOutcome
-pub mod PathUse
-pub mod Projection
-pub mod Sequence
+pub mod Plain
+pub mod Shown

@@ -1,28 +1,25 @@
-// The rules of modules and bindings: what each makes of premises that are elaborated already, and how it is refused.
-// Specifications and their laws only; the calls that follow them stand in a crate of their own above.
-// Stands on signatures and premise_laws.
-// Proved (`module_rules`): each rule with a condition or a choice has exactly one conclusion or exactly one refusal.
+// The rules of modules in code, one call for each rule, over premises that are elaborated already.
+// Stands on semantic_sigs, omega_shorthands and sig_instances, and on module_judgments, whose definitions its contracts cite.
+// Proved: each call gives the conclusion of its rule, and each refusal exactly where its condition holds, the first one in
+// their order; of modules whose types are normal and have their kinds, and whose structures have different names.
 #![tactic(auto)]
 
-ghost use Rattle.module_rules.specs.OneOutcome.{OneNamed, OneProjected, OneTypePath, OneValuePath, OneSigPath, OneGenerative, OneParts, OneApply, OneInclude, OneEnd, OneSequence, OneSeal, OneValueModule, OneTypeModule, OneSignatureModule};
+mod bindings;
+mod forms;
+mod functors;
+mod hidden;
+mod naming;
+mod paths;
+mod projecting;
+mod refusal;
+mod sequences;
+mod standing;
 
-/// Names, projections, paths, the parts of a functor's signature, applications and includes have exactly one conclusion or
-/// exactly one refusal; generative functors, sealing, single bindings, finished structures and sequences of bindings have
-/// exactly one conclusion.
-pub fn module_rules()
-    ensures named { OneNamed }
-    ensures projected { OneProjected }
-    ensures type_path { OneTypePath }
-    ensures value_path { OneValuePath }
-    ensures sig_path { OneSigPath }
-    ensures generative { OneGenerative }
-    ensures parts { OneParts }
-    ensures apply { OneApply }
-    ensures include { OneInclude }
-    ensures end { OneEnd }
-    ensures sequence { OneSequence }
-    ensures seal { OneSeal }
-    ensures value { OneValueModule }
-    ensures type_ { OneTypeModule }
-    ensures signature { OneSignatureModule }
-{}
+pub use bindings::{bind_sig, bind_type, bind_val, end_struct};
+pub use functors::{apply, functor_parts, gen_functor, seal};
+pub use naming::named;
+pub use paths::{path_sig, path_type, path_value};
+pub use projecting::{packed, project};
+pub use refusal::ModRefusal;
+pub use sequences::{include_bind, seq_bind};
+pub use standing::{raised, standing_part};

@@ -26,7 +26,7 @@ use Rattle.omega_machine.specs.Contexts.{fill_ready, plug, term_in}
 use Rattle.omega_machine.specs.Moves.{IsTyped, AreSound, IsSoundFocus, IsSoundReady, Finds}
 use Rattle.omega_machine.specs.Reducts.{Reduces}
 use Rattle.omega_machine.specs.Outcomes.{fault_of, Tells, StillGoes, NeverStuck, HasOneOutcome, ValuesFit}
-use Rattle.omega_machine.specs.ValueText.{value_text}
+use Rattle.omega_terms.specs.ValueText.{value_text}
 use Rattle.omega_machine.proofs.Plugs.{plug-typed, plug-step, plug-fault}
 use Rattle.omega_machine.proofs.PackedValues.{packed-value}
 

@@ -8,7 +8,7 @@ use Rattle.omega_machine.specs.declared.outcome.Arith.{Arith}
 use Rattle.omega_machine.specs.declared.outcome.Arith.TheVariants as arith
 use Rattle.omega_machine.specs.declared.outcome.End.{End as Answer}
 use Rattle.omega_machine.specs.declared.outcome.End.TheVariants as answer
-use Rattle.omega_machine.specs.ValueText.{value_text}
+use Rattle.omega_terms.specs.ValueText.{value_text}
 
 abbrev pub fault_of : Arith → Fault
 fault_of arith.Overflow = Fault.Overflow

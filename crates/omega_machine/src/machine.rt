@@ -2,7 +2,7 @@
 ghost use Rattle.std.specs.Prelude.{◌≡◌, ◌↔◌, ◌+◌, ◌-◌, ◌^◌, ◌<◌, IfOk};
 ghost use Rattle.omega_machine.specs.Moves.{IsTyped};
 ghost use Rattle.omega_machine.specs.Outcomes.{Tells, StillGoes, NeverStuck, HasOneOutcome, ValuesFit};
-ghost use Rattle.omega_machine.specs.ValueText.{value_text};
+ghost use Rattle.omega_terms.specs.ValueText.{value_text};
 
 use crate::frames::Focus;
 use crate::outcome::{Arith, End};

@@ -9,7 +9,7 @@ ghost use Rattle.omega_machine.specs.declared.frames.Waiting.TheVariants as wait
 
 use crate::frames::{Focus, Frame, Ready, Waiting};
 use omega_kinds::Mem;
-use omega_terms::{Term, TermFields, TermNode};
+use omega_terms::{Term, TermFields, TermNode, is_value};
 use std::alloc::Global;
 
 /// What is met next: the whole is a value, or a value stands in a frame with which it makes a step or a fault.
@@ -60,7 +60,7 @@ fn enter(alloc: Global, term: &Term) -> Result<Move, Mem>
     requires { IsTyped term.now }
     ensures { IfOk result (λ m. Moves term.now (3 * term_size term.now) m) }
 {
-    if term.is_value() {
+    if is_value(term) {
         return Ok(Move::Up(term.share()?));
     }
     match term.node() {

@@ -6,7 +6,7 @@ ghost use Rattle.omega_terms.specs.Fields.{term_row};
 ghost use Rattle.omega_terms.specs.KindText.{label_text};
 ghost use Rattle.omega_terms.specs.Term.{Term as TermTree};
 ghost use Rattle.omega_terms.specs.TermText.{quoted_text, byte_text};
-ghost use Rattle.omega_machine.specs.ValueText.{shown, shown_fields, mark_at, inside, lines, value_text};
+ghost use Rattle.omega_terms.specs.ValueText.{shown, shown_fields, mark_at, inside, lines, value_text};
 
 use itoa::Buffer;
 use omega_kinds::{Label, Mem};

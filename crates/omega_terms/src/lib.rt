@@ -1,6 +1,6 @@
 // Terms of System Fω: shared trees with de Bruijn indexes, and what typing, values, steps, faults and texts of terms are.
 // Stands on omega_kinds and omega_types.
-// Proved: `shift_term`, `put_term` and `put_type` are the operations of the definitions, `Term::is_value` decides values and
+// Proved: `shift_term`, `put_term` and `put_type` are the operations of the definitions, `is_value` decides values and
 // `nodes` counts; renaming and substitution keep types; typing with normal types is typing; each coercion term is typed
 // where its parts are.
 #![tactic(auto)]
@@ -19,4 +19,4 @@ pub use putting_terms::put_term;
 pub use putting_types::put_type;
 pub use shifting::shift_term;
 pub use theory::{coercion_rows, typing};
-pub use tree::{Term, TermFields, TermNode};
+pub use tree::{Term, TermFields, TermNode, is_value};

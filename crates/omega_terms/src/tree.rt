@@ -163,11 +163,8 @@ impl Term {
         self.made.extent
     }
 
-    /// Whether the term is a value: a number, a truth value, a text, a function of any of the three forms, or a record or a
-    /// package of values. Takes one step.
-    ///
-    /// Pierce, "Types and Programming Languages", figures 11-7, 24-1 and 30-1, Values.
-    pub fn is_value(&self) -> bool
+    // Whether the term is a value, as it keeps.
+    fn is_value(&self) -> bool
         ensures value { IsTrue result ↔ IsValue self.now }
         ensures test { result ≡ value_test self.now }
     {
@@ -198,6 +195,17 @@ impl Term {
     {
         self.term_bound
     }
+}
+
+/// Whether the term is a value: a number, a truth value, a text, a function of any of the three forms, or a record or a
+/// package of values. Takes one step, since each term keeps the answer.
+///
+/// Pierce, "Types and Programming Languages", figures 11-7, 24-1 and 30-1, Values.
+pub fn is_value(term: &Term) -> bool
+    ensures value { IsTrue result ↔ IsValue term.now }
+    ensures test { result ≡ value_test term.now }
+{
+    term.is_value()
 }
 
 impl TermNode {

@@ -1,7 +1,7 @@
 // Worked terms that are shared, raised and filled.
 use crate::texts::{below_functions, term};
 use omega_kinds::{Label, Mem};
-use omega_terms::{Term, TermNode, nodes, put_term, put_type, shift_term};
+use omega_terms::{Term, TermNode, is_value, nodes, put_term, put_type, shift_term};
 use omega_types::{Ty, TyNode};
 use std::alloc::Global;
 use std::test::Fail;
@@ -27,7 +27,7 @@ fn indexes(term: &Term) -> Option<(Option<u64>, u64, u64)> {
 #[test]
 fn a_record_is_shared(rt: HostRuntime) -> Result<(), Fail> {
     let shared = term(rt.alloc(), "(rec (.val -1) (x true))")?.share()?;
-    assert!(rt; shared.is_value());
+    assert!(rt; is_value(&shared));
     assert_eq!(rt; nodes(&shared), 3);
     Ok(())
 }

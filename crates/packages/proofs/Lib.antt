@@ -1,1 +1,7 @@
-pub mod Verdicts
+pub mod NormedLaws
+pub mod PackSteps
+pub mod RenumberSteps
+pub mod Steps
+pub mod SweepLaws
+pub mod Taken
+pub mod TurnLaws

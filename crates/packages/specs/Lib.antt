@@ -1,2 +1,6 @@
-pub mod OneOutcome
-pub mod Package
+pub mod First
+pub mod Normed
+pub mod Plain
+pub mod Renumbered
+pub mod Swept
+pub mod Turns

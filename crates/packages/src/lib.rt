@@ -1,16 +1,19 @@
-// Packages, modules as first-class values: package types, packing and unpacking.
-// Specifications and their laws only; the calls that follow them stand in a crate of their own above.
-// Stands on signatures and premise_laws.
-// Proved: each rule has exactly one conclusion or exactly one refusal (`package_rules`).
+// Packages in code: the order of a package's quantifiers, package types, modules packed and unpacked.
+// Stands on semantic_sigs, sig_roots and omega_shorthands, and on package_judgments, whose definitions its contracts cite.
+// Proved: `norm` gives the signature with its quantifiers in their order; `pack_type`, `pack_value` and `unpack_module`
+// give the conclusions of their rules, and `unpack_module` refuses exactly where the type is another one than that of the
+// package.
 #![tactic(auto)]
 
-ghost use Rattle.packages.specs.OneOutcome.{OnePackType, OnePack, OneUnpack};
+mod first;
+mod norms;
+mod ordering;
+mod packing;
+mod refusal;
+mod renumbering;
+mod renumbering_types;
+mod sweeping;
 
-/// A package type and a packed module are exactly one; an unpacked one is exactly one, or the two types differ.
-///
-/// Rossberg, Russo and Dreyer, "F-ing modules", section 6.
-pub fn package_rules()
-    ensures pack_type { OnePackType }
-    ensures pack { OnePack }
-    ensures unpack { OneUnpack }
-{}
+pub use norms::norm;
+pub use packing::{pack_type, pack_value, unpack_module};
+pub use refusal::UnpackRefusal;

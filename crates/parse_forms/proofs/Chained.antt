@@ -9,7 +9,7 @@ use Rattle.fing_syntax.specs.Place.{ty_span, exp_span, arg_span, up_to}
 use Rattle.fing_syntax.specs.View.{arg_of, binds, tys, ops, args}
 use Rattle.fing_syntax.specs.declared.leaf.Op.{Op}
 use Rattle.fing_syntax.specs.declared.tree.Arg.{Arg}
-use Rattle.fing_grammar.specs.Forms.{bind_then, last_ty, ty_chain_of, last_op, ops_of, last_arg, args_of}
+use Rattle.parse_grammar.specs.Forms.{bind_then, last_ty, ty_chain_of, last_op, ops_of, last_arg, args_of}
 
 pub reverse_push : {A : Type 0} (xs : List A) (x : A) → reverse (xs ++ x ∷ []) ≡ x ∷ reverse xs
 reverse_push xs x = reverse-append xs (x ∷ [])

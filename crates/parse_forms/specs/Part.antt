@@ -2,8 +2,8 @@
 use Rattle.std.specs.Prelude.{map}
 use Rattle.omega_kinds.specs.View.{kind_tree}
 use Rattle.fing_syntax.specs.Leaves.{place, spelled}
-use Rattle.fing_grammar.specs.Parts as plain
-use Rattle.fing_grammar.specs.Parts.{Kinded, Open, Is, Has, Sealed, Shown, OfValue, OfType}
+use Rattle.parse_grammar.specs.Parts as plain
+use Rattle.parse_grammar.specs.Parts.{Kinded, Open, Is, Has, Sealed, Shown, OfValue, OfType}
 use Rattle.parse_forms.specs.declared.part.KindPart.{KindPart}
 use Rattle.parse_forms.specs.declared.part.TypeTail.{TypeTail}
 use Rattle.parse_forms.specs.declared.part.TypeTail.TheVariants as a_tail

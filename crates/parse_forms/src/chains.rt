@@ -5,7 +5,7 @@ ghost use Rattle.fing_syntax.specs.Leaves.{place, spelled};
 ghost use Rattle.fing_syntax.specs.Phrase.{ModAt, ModProject, ExpAt, ExpGet};
 ghost use Rattle.fing_syntax.specs.Place.{up_to as through, arg_span};
 ghost use Rattle.fing_syntax.specs.View.{arg_of, tys as tys_of, ops as operators_of, args as arguments_of};
-ghost use Rattle.fing_grammar.specs.Forms as form;
+ghost use Rattle.parse_grammar.specs.Forms as form;
 ghost use Rattle.parse_forms.specs.Part.{kind_in, where_in, ascription_in};
 
 use crate::forms::{apply_mod, seal_mod, show_mod};

@@ -2,7 +2,7 @@
 ghost use Rattle.std.specs.Prelude.{◌≡◌, [], ◌∷◌, ◌++◌, IfOk, OnOk};
 ghost use Rattle.fing_syntax.specs.Leaves.{place};
 ghost use Rattle.fing_syntax.specs.View.{binds as binds_of};
-ghost use Rattle.fing_grammar.specs.Forms as form;
+ghost use Rattle.parse_grammar.specs.Forms as form;
 ghost use Rattle.parse_forms.specs.Part.{tail_in, abstraction_in};
 
 use crate::kept::Kept;

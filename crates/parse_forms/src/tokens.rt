@@ -2,8 +2,8 @@
 ghost use Rattle.std.specs.Prelude.{◌≡◌, IfOk};
 ghost use Rattle.fing_syntax.specs.Leaves.{place, spelled};
 ghost use Rattle.fing_syntax.specs.Place.{up_to as through};
-ghost use Rattle.fing_grammar.specs.Parts as part;
-ghost use Rattle.fing_grammar.specs.Forms.{hidden as hidden_name};
+ghost use Rattle.parse_grammar.specs.Parts as part;
+ghost use Rattle.parse_grammar.specs.Forms.{hidden as hidden_name};
 
 use fing_lexer::{Token, What};
 use fing_syntax::SpanName;

@@ -1,15 +1,15 @@
 // Arguments and selections.
 ghost use Rattle.std.specs.Prelude.{◌≡◌, Some, None, IfOk, IfErr};
-ghost use Rattle.fing_grammar.specs.Grammar as the;
-ghost use Rattle.fing_grammar.specs.View.{arg_rule_in};
+ghost use Rattle.parse_grammar.specs.Grammar as the;
+ghost use Rattle.parse_grammar.specs.View.{arg_rule_in};
 ghost use Rattle.parse_stack.specs.Part.{held};
 ghost use Rattle.parse_stack.specs.Play.{played, played_any};
 ghost use Rattle.parse_stack.specs.declared.refusal.BuildRefusal.TheVariants.{Misfit};
 
 use crate::paths::{more_names, no_names};
-use fing_grammar::grammar::ArgRule;
 use fing_syntax::Arg;
 use parse_forms::{Kept, args_chain, get_all, up_to};
+use parse_grammar::grammar::ArgRule;
 use parse_stack::{BuildRefusal, Part, Stack};
 use std::alloc::Global;
 

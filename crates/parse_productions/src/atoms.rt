@@ -1,14 +1,14 @@
 // Expressions that need no parentheses.
 ghost use Rattle.std.specs.Prelude.{◌≡◌, Some, None, IfOk, IfErr};
-ghost use Rattle.fing_grammar.specs.Grammar as the;
-ghost use Rattle.fing_grammar.specs.View.{atom_rule_in};
+ghost use Rattle.parse_grammar.specs.Grammar as the;
+ghost use Rattle.parse_grammar.specs.View.{atom_rule_in};
 ghost use Rattle.parse_stack.specs.Part.{held};
 ghost use Rattle.parse_stack.specs.Play.{played, played_any};
 ghost use Rattle.parse_stack.specs.declared.refusal.BuildRefusal.TheVariants.{Misfit};
 
-use fing_grammar::grammar::AtomRule;
 use fing_syntax::{Exp, ExpWhat};
 use parse_forms::{Kept, bytes_in, let_exp, named, number_in, pack_exp, up_to};
+use parse_grammar::grammar::AtomRule;
 use parse_stack::{BuildRefusal, Part, Stack};
 use std::alloc::Global;
 

@@ -1,14 +1,14 @@
 // Bindings.
 ghost use Rattle.std.specs.Prelude.{◌≡◌, Some, None, IfOk, IfErr};
-ghost use Rattle.fing_grammar.specs.Grammar as the;
-ghost use Rattle.fing_grammar.specs.View.{bind_rule_in};
+ghost use Rattle.parse_grammar.specs.Grammar as the;
+ghost use Rattle.parse_grammar.specs.View.{bind_rule_in};
 ghost use Rattle.parse_stack.specs.Part.{held};
 ghost use Rattle.parse_stack.specs.Play.{played, played_any};
 ghost use Rattle.parse_stack.specs.declared.refusal.BuildRefusal.TheVariants.{Misfit};
 
-use fing_grammar::grammar::BindRule;
 use fing_syntax::{Bind, BindWhat};
 use parse_forms::{Kept, named, up_to};
+use parse_grammar::grammar::BindRule;
 use parse_stack::{BuildRefusal, Part, Stack};
 use std::alloc::Global;
 

@@ -1,14 +1,14 @@
 // Declarations.
 ghost use Rattle.std.specs.Prelude.{◌≡◌, Some, None, IfOk, IfErr};
-ghost use Rattle.fing_grammar.specs.Grammar as the;
-ghost use Rattle.fing_grammar.specs.View.{decl_rule_in};
+ghost use Rattle.parse_grammar.specs.Grammar as the;
+ghost use Rattle.parse_grammar.specs.View.{decl_rule_in};
 ghost use Rattle.parse_stack.specs.Part.{held};
 ghost use Rattle.parse_stack.specs.Play.{played, played_any};
 ghost use Rattle.parse_stack.specs.declared.refusal.BuildRefusal.TheVariants.{Misfit};
 
-use fing_grammar::grammar::DeclRule;
 use fing_syntax::{Decl, DeclWhat};
 use parse_forms::{Kept, TypeTail, declared_type, named, up_to};
+use parse_grammar::grammar::DeclRule;
 use parse_stack::{BuildRefusal, Part, Stack};
 use std::alloc::Global;
 

@@ -1,15 +1,15 @@
 // Expressions.
 ghost use Rattle.std.specs.Prelude.{◌≡◌, Some, None, IfOk, IfErr};
-ghost use Rattle.fing_grammar.specs.Grammar as the;
-ghost use Rattle.fing_grammar.specs.View.{exp_rule_in};
+ghost use Rattle.parse_grammar.specs.Grammar as the;
+ghost use Rattle.parse_grammar.specs.View.{exp_rule_in};
 ghost use Rattle.parse_stack.specs.Part.{held};
 ghost use Rattle.parse_stack.specs.Play.{played, played_any};
 ghost use Rattle.parse_stack.specs.declared.refusal.BuildRefusal.TheVariants.{Misfit};
 
 use crate::operators::chain;
-use fing_grammar::grammar::ExpRule;
 use fing_syntax::{Exp, ExpWhat};
 use parse_forms::{Abstraction, Kept, abstracted, named, up_to};
+use parse_grammar::grammar::ExpRule;
 use parse_stack::{BuildRefusal, Part, Stack};
 use std::alloc::Global;
 

@@ -1,14 +1,14 @@
 // Kinds.
 ghost use Rattle.std.specs.Prelude.{◌≡◌, Some, None, IfOk, IfErr};
-ghost use Rattle.fing_grammar.specs.Grammar as the;
-ghost use Rattle.fing_grammar.specs.View.{kind_rule_in};
+ghost use Rattle.parse_grammar.specs.Grammar as the;
+ghost use Rattle.parse_grammar.specs.View.{kind_rule_in};
 ghost use Rattle.parse_stack.specs.Part.{held};
 ghost use Rattle.parse_stack.specs.Play.{played, played_any};
 ghost use Rattle.parse_stack.specs.declared.refusal.BuildRefusal.TheVariants.{Misfit};
 
-use fing_grammar::grammar::KindRule;
 use omega_kinds::Kind;
 use parse_forms::{KindPart, kind_chain};
+use parse_grammar::grammar::KindRule;
 use parse_stack::{BuildRefusal, Part, Stack};
 use std::alloc::Global;
 

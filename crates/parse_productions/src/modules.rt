@@ -1,14 +1,14 @@
 // Modules.
 ghost use Rattle.std.specs.Prelude.{◌≡◌, Some, None, IfOk, IfErr};
-ghost use Rattle.fing_grammar.specs.Grammar as the;
-ghost use Rattle.fing_grammar.specs.View.{mod_rule_in};
+ghost use Rattle.parse_grammar.specs.Grammar as the;
+ghost use Rattle.parse_grammar.specs.View.{mod_rule_in};
 ghost use Rattle.parse_stack.specs.Part.{held};
 ghost use Rattle.parse_stack.specs.Play.{played, played_any};
 ghost use Rattle.parse_stack.specs.declared.refusal.BuildRefusal.TheVariants.{Misfit};
 
-use fing_grammar::grammar::ModRule;
 use fing_syntax::{Mod, ModWhat};
 use parse_forms::{Ascription, Kept, apply_all, ascribe_all, let_mod, named, up_to};
+use parse_grammar::grammar::ModRule;
 use parse_stack::{BuildRefusal, Part, Stack};
 use std::alloc::Global;
 

@@ -1,6 +1,6 @@
 // Productions of all sorts.
 ghost use Rattle.std.specs.Prelude.{◌≡◌, Some, None, IfOk, IfErr};
-ghost use Rattle.fing_grammar.specs.View.{rule_in};
+ghost use Rattle.parse_grammar.specs.View.{rule_in};
 ghost use Rattle.parse_stack.specs.Part.{held};
 ghost use Rattle.parse_stack.specs.Play.{played_any};
 ghost use Rattle.parse_stack.specs.declared.refusal.BuildRefusal.TheVariants.{Misfit};
@@ -16,7 +16,7 @@ use crate::operators::operator;
 use crate::paths::path;
 use crate::sigs::sig;
 use crate::types::ty;
-use fing_grammar::grammar::Rule;
+use parse_grammar::grammar::Rule;
 use parse_stack::{BuildRefusal, Stack};
 use std::alloc::Global;
 

@@ -1,14 +1,14 @@
 // Types.
 ghost use Rattle.std.specs.Prelude.{◌≡◌, Some, None, IfOk, IfErr};
-ghost use Rattle.fing_grammar.specs.Grammar as the;
-ghost use Rattle.fing_grammar.specs.View.{ty_rule_in};
+ghost use Rattle.parse_grammar.specs.Grammar as the;
+ghost use Rattle.parse_grammar.specs.View.{ty_rule_in};
 ghost use Rattle.parse_stack.specs.Part.{held};
 ghost use Rattle.parse_stack.specs.Play.{played, played_any};
 ghost use Rattle.parse_stack.specs.declared.refusal.BuildRefusal.TheVariants.{Misfit};
 
-use fing_grammar::grammar::TyRule;
 use fing_syntax::{TyEx, TyWhat};
 use parse_forms::{Kept, arrow_chain, named, ty_chain, up_to};
+use parse_grammar::grammar::TyRule;
 use parse_stack::{BuildRefusal, Part, Stack};
 use std::alloc::Global;
 

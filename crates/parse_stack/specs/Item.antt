@@ -3,9 +3,9 @@ use Rattle.std.specs.Prelude.{Bool, List, Option, None, Some}
 use Rattle.fing_lexer.specs.declared.token.Token.{Token}
 use Rattle.fing_syntax.specs.Phrase as tree
 use Rattle.fing_syntax.specs.Phrase.{SpanName, Mod, SigEx, TyEx, TyExs, FieldTyExs, Exp, OpExps, FieldExps}
-use Rattle.fing_grammar.specs.Parts.{Kinded, TypeTail, Where, Ascription, Abstraction}
-use Rattle.fing_grammar.specs.Grammar.{Class, Binds, Bind, Decls, Decl, TypeOf, K, KArrow, KA, P, Dots, T, TArrow, TC, TArgs, TA, TFields, MoreTFields, S, SArrow, Wheres, SA, M, MArgs, Seals, MA, E, Lam, Compare, ES, Sums, EM, Products, EP, Args, EA, Gets, EB, EFields, MoreEFields}
-use Rattle.fing_grammar.specs.Meaning.{Value}
+use Rattle.parse_grammar.specs.Parts.{Kinded, TypeTail, Where, Ascription, Abstraction}
+use Rattle.parse_grammar.specs.Grammar.{Class, Binds, Bind, Decls, Decl, TypeOf, K, KArrow, KA, P, Dots, T, TArrow, TC, TArgs, TA, TFields, MoreTFields, S, SArrow, Wheres, SA, M, MArgs, Seals, MA, E, Lam, Compare, ES, Sums, EM, Products, EP, Args, EA, Gets, EB, EFields, MoreEFields}
+use Rattle.parse_grammar.specs.Meaning.{Value}
 
 pub data Item : Type 0 where
   TokenItem : Token → Item

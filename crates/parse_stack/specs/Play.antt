@@ -2,10 +2,10 @@
 -- and puts what it gives in their place.
 use Rattle.std.specs.Prelude.{List, [], ◌∷◌, Option, None, Some, option_map}
 use Rattle.fing_syntax.specs.Phrase as tree
-use Rattle.fing_grammar.specs.Grammar.{Class, Symbol, token, phrase, Rule, rhs}
-use Rattle.fing_grammar.specs.Meaning.{Values, act}
-use Rattle.fing_grammar.specs.Moves.{Move, shift, by}
-use Rattle.fing_grammar.specs.View.{Any, any}
+use Rattle.parse_grammar.specs.Grammar.{Class, Symbol, token, phrase, Rule, rhs}
+use Rattle.parse_grammar.specs.Meaning.{Values, act}
+use Rattle.parse_grammar.specs.Moves.{Move, shift, by}
+use Rattle.parse_grammar.specs.View.{Any, any}
 use Rattle.parse_stack.specs.Item.{Item, TokenItem, item, as_token, as_binds, as_value}
 
 abbrev pub and_then : {A B : Type 0} → Option A → (A → Option B) → Option B

@@ -9,8 +9,8 @@ use Rattle.omega_kinds.specs.Name.{Name}
 use Rattle.omega_kinds.specs.declared.label.Label.{Label}
 use Rattle.omega_types.specs.Ty.{Ty, Row}
 use Rattle.omega_types.specs.Fields.{Pairs, row, MayFollow}
-use Rattle.signatures.specs.Signatures.Sig.{Sig}
-use Rattle.signatures.specs.Signatures.Encoding.{enc, enc_row}
+use Rattle.sig_definitions.specs.Signatures.Sig.{Sig}
+use Rattle.sig_definitions.specs.Signatures.Encoding.{enc, enc_row}
 use Rattle.semantic_sigs.specs.Fields.{SigPairs, sig_row, Rises}
 
 -- the fields' labels with their encodings

@@ -13,9 +13,9 @@ use Rattle.omega_types.specs.EtaLong.{eta}
 use Rattle.omega_types.specs.Index.{bump, shift}
 use Rattle.omega_terms.specs.Term.{Term, TermRow}
 use Rattle.omega_terms.specs.PartTerms.{type_term, value_term}
-use Rattle.signatures.specs.Signatures.Sig.{Sig}
-use Rattle.signatures.specs.Signatures.SigSubst.{rename_sig}
-use Rattle.signatures.specs.Env.{Entry, Env, find, type_param, first_kind}
+use Rattle.sig_definitions.specs.Signatures.Sig.{Sig}
+use Rattle.sig_definitions.specs.Signatures.SigSubst.{rename_sig}
+use Rattle.sig_definitions.specs.Env.{Entry, Env, find, type_param, first_kind}
 use Rattle.semantic_sigs.specs.declared.env.Entry.{Entry as CodeEntry}
 use Rattle.semantic_sigs.specs.declared.env.Entry.TheVariants as entry
 use Rattle.semantic_sigs.specs.declared.env.Slot.{Slot}

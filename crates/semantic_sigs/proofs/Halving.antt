@@ -5,7 +5,7 @@ use Rattle.std.proofs.Math.Logic.{inl, inr}
 use Rattle.omega_kinds.specs.LabelOrder.{name_before}
 use Rattle.omega_kinds.specs.Name.{Name}
 use Rattle.omega_kinds.proofs.NameLaws.{name-irreflexive, name-transitive, name-total}
-use Rattle.signatures.specs.Signatures.Sig.{Sig, HasField, NoField, here, there}
+use Rattle.sig_definitions.specs.Signatures.Sig.{Sig, HasField, NoField, here, there}
 use Rattle.semantic_sigs.specs.Fields.{SigPairs, sig_row, Rises}
 
 rise-tail : (x : Name × Sig) (xs : SigPairs) → Rises (x ∷ xs) → Rises xs

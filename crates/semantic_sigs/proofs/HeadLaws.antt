@@ -22,9 +22,9 @@ use Rattle.omega_types.specs.Binders.{extend, lifts, unders, front, puts, Normal
 use Rattle.omega_types.proofs.Single.{substitute_at-zero}
 use Rattle.omega_types.proofs.Hereditary.{hsubst-gives}
 use Rattle.omega_types.proofs.Preservation.{maps-suc, normal-rename, neutral-rename, conv-rename, normal-kind, fresh-substitute}
-use Rattle.signatures.specs.Signatures.Sig.{Sig, Abs, SigRow}
-use Rattle.signatures.specs.Signatures.SigSubst.{rename_sig, rename_abs, rename_sig_row, substitute_sig, substitute_abs, substitute_sig_row}
-use Rattle.signatures.specs.Signatures.Alike.{AlikeSig, AlikeAbs, AlikeRow, IsAbsAt, IsSigAt, NormalSig, NormalAbs, NormalSigRow}
+use Rattle.sig_definitions.specs.Signatures.Sig.{Sig, Abs, SigRow}
+use Rattle.sig_definitions.specs.Signatures.SigSubst.{rename_sig, rename_abs, rename_sig_row, substitute_sig, substitute_abs, substitute_sig_row}
+use Rattle.sig_definitions.specs.Signatures.Alike.{AlikeSig, AlikeAbs, AlikeRow, IsAbsAt, IsSigAt, NormalSig, NormalAbs, NormalSigRow}
 use Rattle.sig_laws.proofs.Algebra.AlikeLaws.{normal_sig-rename, normal_abs-rename}
 use Rattle.semantic_sigs.specs.View.{kinds_of, body_of}
 use Rattle.semantic_sigs.proofs.SigSteps.{sinks-sunk}

@@ -1,7 +1,7 @@
 -- The height of one more field.
 use Rattle.std.proofs.Common.{◌≤◌, max, [], ◌∷◌, ◌++◌, arith}
 use Rattle.omega_kinds.specs.Name.{Name}
-use Rattle.signatures.specs.Signatures.Sig.{Sig}
+use Rattle.sig_definitions.specs.Signatures.Sig.{Sig}
 use Rattle.semantic_sigs.specs.Fields.{SigPairs}
 use Rattle.semantic_sigs.specs.Height.{sig_height, sig_pairs_height}
 

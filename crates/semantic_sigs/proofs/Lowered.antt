@@ -10,10 +10,10 @@ use Rattle.omega_types.specs.Binders.{extend, past, lifts}
 use Rattle.omega_types.specs.Index.{bump}
 use Rattle.omega_types.specs.Kinding.{Lookup}
 use Rattle.omega_types.proofs.Lowering.{MapsAll, normal-mapped, lift-all, outer}
-use Rattle.signatures.specs.Signatures.Sig.{Sig, Abs, SigRow}
-use Rattle.signatures.specs.Signatures.SigMentions.{MentionsSig, MentionsAbs, MentionsRow}
-use Rattle.signatures.specs.Signatures.SigSubst.{rename_sig, rename_abs, rename_sig_row}
-use Rattle.signatures.specs.Signatures.Alike.{NormalSig, NormalAbs, NormalSigRow}
+use Rattle.sig_definitions.specs.Signatures.Sig.{Sig, Abs, SigRow}
+use Rattle.sig_definitions.specs.Signatures.SigMentions.{MentionsSig, MentionsAbs, MentionsRow}
+use Rattle.sig_definitions.specs.Signatures.SigSubst.{rename_sig, rename_abs, rename_sig_row}
+use Rattle.sig_definitions.specs.Signatures.Alike.{NormalSig, NormalAbs, NormalSigRow}
 use Rattle.sig_laws.proofs.Algebra.SigAlgebra.{rename-rename_sig, substitute-vars_sig, substitute_sig-id}
 use Rattle.sig_laws.proofs.Algebra.SigMention.{substitute_sig-agree}
 

@@ -2,8 +2,8 @@
 use Rattle.std.proofs.Common.{◌≡◌, ℕ, zero, suc, ◌+◌, ◌<◌, ◌≤◌, ◌↔◌, List, [], ◌∷◌, length, get_or, drop, map, refl, sym, ap, ◌∙◌, subst, arith, ap₂}
 use Rattle.std.proofs.Math.Seq.{drop-cons}
 use Rattle.omega_kinds.specs.Name.{Name}
-use Rattle.signatures.specs.Explicit.SigPath.{Item, PartAt}
-use Rattle.signatures.specs.Signatures.Sig.{Sig, SigRow, HasField, NoField}
+use Rattle.sig_definitions.specs.Explicit.SigPath.{Item, PartAt}
+use Rattle.sig_definitions.specs.Signatures.Sig.{Sig, SigRow, HasField, NoField}
 use Rattle.sig_laws.proofs.Algebra.PathLaws.{one-field, no-field}
 use Rattle.semantic_sigs.specs.Fields.{SigPairs, sig_row}
 

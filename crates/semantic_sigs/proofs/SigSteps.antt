@@ -2,7 +2,7 @@
 use Rattle.std.proofs.Common.{◌≡◌, ℕ, zero, suc, ◌+◌, ◌<◌, ◌≤◌, List, [], ◌∷◌, length, get_or, take, map, refl, ap, ap₂, ◌∙◌, arith}
 use Rattle.omega_kinds.specs.Kind.{Kind}
 use Rattle.omega_kinds.specs.Name.{Name}
-use Rattle.signatures.specs.Signatures.Sig.{Sig, Abs, SigRow}
+use Rattle.sig_definitions.specs.Signatures.Sig.{Sig, Abs, SigRow}
 use Rattle.semantic_sigs.specs.Bound.{bound_sig, bound_abs, bound_sig_row}
 use Rattle.omega_types.specs.Ty.{Ty}
 use Rattle.semantic_sigs.specs.Changes.{Head, stands, tree, under_head, sunk, sinks, sig_in, abs_in, sig_row_in}

@@ -13,8 +13,8 @@ use Rattle.omega_kinds.proofs.NameLaws.{same_name-true, same_name-itself}
 use Rattle.omega_kinds.specs.Name.{Name, same_name}
 use Rattle.omega_types.specs.Ty.{Ty}
 use Rattle.omega_types.specs.Scope.{scope_of}
-use Rattle.signatures.specs.Signatures.Sig.{Sig}
-use Rattle.signatures.specs.Env.{Entry, Env, kinds}
+use Rattle.sig_definitions.specs.Signatures.Sig.{Sig}
+use Rattle.sig_definitions.specs.Env.{Entry, Env, kinds}
 use Rattle.semantic_sigs.specs.declared.env.Entry.{Entry as CodeEntry}
 use Rattle.semantic_sigs.specs.declared.env.Entry.TheVariants as entry
 use Rattle.semantic_sigs.specs.declared.env.Slot.{Slot}

@@ -1,7 +1,7 @@
 -- The least number above all free indexes of a signature: 0 for a closed one.
 use Rattle.std.specs.Prelude.{ℕ, ◌-◌, max, length}
 use Rattle.omega_types.specs.Bound.{bound_of}
-use Rattle.signatures.specs.Signatures.Sig.{Sig, Abs, SigRow}
+use Rattle.sig_definitions.specs.Signatures.Sig.{Sig, Abs, SigRow}
 use Rattle.semantic_sigs.specs.Fields.{SigPairs, sig_row}
 
 abbrev mutual

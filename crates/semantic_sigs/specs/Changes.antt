@@ -5,7 +5,7 @@ use Rattle.omega_kinds.specs.Kind.{Kind}
 use Rattle.omega_types.specs.Ty.{Ty, Row}
 use Rattle.omega_types.specs.Substitution.{rename}
 use Rattle.omega_types.specs.Normaliser.{hsubst}
-use Rattle.signatures.specs.Signatures.Sig.{Sig, Abs, SigRow}
+use Rattle.sig_definitions.specs.Signatures.Sig.{Sig, Abs, SigRow}
 
 -- what becomes of a part of a type: its own head stands, or a normal type came in for the head
 pub data Head : Type 0 where

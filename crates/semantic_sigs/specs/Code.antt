@@ -10,7 +10,7 @@ use Rattle.omega_kinds.specs.declared.effect.Effect.TheVariants.{Pure, Impure}
 use Rattle.omega_kinds.specs.Code.{stored_kind, restored_kind, restored-stored_kind, stored_bytes, restored_bytes, restored-stored_bytes}
 use Rattle.omega_types.specs.Ty.{Ty}
 use Rattle.omega_types.specs.Code.{stored, restored, restored-stored, ty_code}
-use Rattle.signatures.specs.Signatures.Sig.{Sig, Abs, SigRow}
+use Rattle.sig_definitions.specs.Signatures.Sig.{Sig, Abs, SigRow}
 
 abbrev pub stored_kinds : List Kind → Gv
 stored_kinds [] = gnil

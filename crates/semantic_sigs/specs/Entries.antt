@@ -6,9 +6,9 @@ use Rattle.omega_types.specs.Index.{bump}
 use Rattle.omega_terms.specs.Term.{Term}
 use Rattle.omega_terms.specs.TermSubst.{ren_term}
 use Rattle.omega_terms.specs.PartTerms.{value_term}
-use Rattle.signatures.specs.Signatures.Sig.{Sig}
-use Rattle.signatures.specs.Signatures.SigSubst.{rename_sig}
-use Rattle.signatures.specs.Env.{Entry, Env, type_param, first_kind}
+use Rattle.sig_definitions.specs.Signatures.Sig.{Sig}
+use Rattle.sig_definitions.specs.Signatures.SigSubst.{rename_sig}
+use Rattle.sig_definitions.specs.Env.{Entry, Env, type_param, first_kind}
 use Rattle.semantic_sigs.specs.declared.env.Entry.{Entry as CodeEntry}
 use Rattle.semantic_sigs.specs.declared.env.Entry.TheVariants as entry
 

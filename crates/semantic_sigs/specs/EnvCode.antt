@@ -5,7 +5,7 @@ use denote.Struct.Codes.{itself}
 use Rattle.std.specs.Coded.{Coded, code_by, coded_list}
 use Rattle.omega_kinds.specs.Code.{stored_kind, restored_kind, restored-stored_kind, stored_bytes, restored_bytes, restored-stored_bytes}
 use Rattle.omega_types.specs.Code.{stored, restored, restored-stored}
-use Rattle.signatures.specs.Env.{Entry, Env}
+use Rattle.sig_definitions.specs.Env.{Entry, Env}
 use Rattle.semantic_sigs.specs.Code.{stored_sig, restored_sig, restored-stored_sig, parted}
 
 abbrev pub stored_entry : Entry → Gv

@@ -8,7 +8,7 @@ use Rattle.semantic_sigs.specs.declared.tree.SigNode.TheVariants as node
 use Rattle.semantic_sigs.specs.declared.tree.Made.{Made}
 use Rattle.semantic_sigs.specs.declared.tree.AbsNode.{AbsNode}
 use Rattle.semantic_sigs.specs.declared.tree.Abs.TheDeep.{deep-SigNode, deep-Made, deep-AbsNode}
-use Rattle.signatures.specs.Signatures.Sig.{Sig}
+use Rattle.sig_definitions.specs.Signatures.Sig.{Sig}
 use Rattle.semantic_sigs.specs.Size.{sig_nodes, abs_nodes, sig_pairs_nodes}
 use Rattle.semantic_sigs.specs.View.{sig_of, abs_of}
 

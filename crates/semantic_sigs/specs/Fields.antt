@@ -2,7 +2,7 @@
 use Rattle.std.specs.Prelude.{List, [], ◌∷◌, IsTrue}
 use Rattle.omega_kinds.specs.Name.{Name}
 use Rattle.omega_kinds.specs.LabelOrder.{name_before}
-use Rattle.signatures.specs.Signatures.Sig.{Sig, SigRow}
+use Rattle.sig_definitions.specs.Signatures.Sig.{Sig, SigRow}
 
 abbrev pub SigPairs : Type 0
 SigPairs = List (Name × Sig)

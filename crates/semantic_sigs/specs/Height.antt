@@ -2,7 +2,7 @@
 -- form of its types one; kinds are left out.
 use Rattle.std.specs.Prelude.{ℕ, ◌+◌, max}
 use Rattle.omega_types.specs.Height.{height}
-use Rattle.signatures.specs.Signatures.Sig.{Sig, Abs, SigRow}
+use Rattle.sig_definitions.specs.Signatures.Sig.{Sig, Abs, SigRow}
 use Rattle.semantic_sigs.specs.Fields.{SigPairs, sig_row}
 
 abbrev mutual

@@ -4,7 +4,7 @@ use base.Stored.{Gv, gnil, gnum, gcons}
 use denote.Struct.Codes.{itself}
 use Rattle.std.specs.Coded.{Coded, code_by, coded_list}
 use Rattle.omega_kinds.specs.Code.{stored_bytes, restored_bytes, restored-stored_bytes}
-use Rattle.signatures.specs.Explicit.SigPath.{Item, SigPath}
+use Rattle.sig_definitions.specs.Explicit.SigPath.{Item, SigPath}
 use Rattle.semantic_sigs.specs.declared.path.Item.{Item as CodeItem}
 use Rattle.semantic_sigs.specs.declared.path.Item.TheVariants as step
 

@@ -1,6 +1,6 @@
 -- How large a signature is, each field counted too.
 use Rattle.std.specs.Prelude.{ℕ, ◌+◌}
-use Rattle.signatures.specs.Signatures.Sig.{Sig, Abs, SigRow}
+use Rattle.sig_definitions.specs.Signatures.Sig.{Sig, Abs, SigRow}
 use Rattle.semantic_sigs.specs.Fields.{SigPairs, sig_row}
 
 abbrev mutual

@@ -5,7 +5,7 @@ use Rattle.std.specs.Cmp.Lexicographic.{pointwise}
 use Rattle.omega_kinds.specs.Name.{Name}
 use Rattle.omega_kinds.specs.declared.kind.Kind.{Kind as SharedKind}
 use Rattle.omega_types.specs.Scope.{scope_of}
-use Rattle.signatures.specs.Env.{Entry, Env, kinds}
+use Rattle.sig_definitions.specs.Env.{Entry, Env, kinds}
 use Rattle.semantic_sigs.specs.declared.env.Slot.{Slot}
 use Rattle.semantic_sigs.specs.Entries.{entry_of, is_named, term_vars}
 

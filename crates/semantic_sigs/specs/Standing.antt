@@ -2,8 +2,8 @@
 use Rattle.std.specs.Prelude.{[]}
 use Rattle.omega_kinds.specs.declared.effect.Effect.TheVariants.{Pure}
 use Rattle.omega_types.specs.Index.{bump}
-use Rattle.signatures.specs.Signatures.Sig.{Abs, Module, made}
-use Rattle.signatures.specs.Signatures.SigSubst.{rename_sig}
+use Rattle.sig_definitions.specs.Signatures.Sig.{Abs, Module, made}
+use Rattle.sig_definitions.specs.Signatures.SigSubst.{rename_sig}
 use Rattle.semantic_sigs.specs.declared.standing.Standing.{Standing}
 
 -- its signature is shifted past the type variables that come after the place

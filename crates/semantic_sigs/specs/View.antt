@@ -5,7 +5,7 @@ use Rattle.omega_kinds.specs.View.{kind_tree}
 use Rattle.semantic_sigs.specs.declared.tree.SigNode.{SigNode}
 use Rattle.semantic_sigs.specs.declared.tree.SigNode.TheVariants as node
 use Rattle.semantic_sigs.specs.declared.tree.AbsNode.{AbsNode}
-use Rattle.signatures.specs.Signatures.Sig.{Sig, Abs}
+use Rattle.sig_definitions.specs.Signatures.Sig.{Sig, Abs}
 use Rattle.semantic_sigs.specs.Fields.{sig_row}
 
 -- the signature that a node makes

@@ -5,7 +5,7 @@ ghost use Rattle.omega_types.specs.View.{ty_of};
 ghost use Rattle.semantic_sigs.specs.Quantified.{quantified, quantified_once};
 ghost use Rattle.omega_types.specs.Fields.{row};
 ghost use Rattle.omega_terms.specs.Coercions.{result_label as label_of};
-ghost use Rattle.signatures.specs.Signatures.Encoding.{enc, enc_abs, enc_row, one_part as one_part_of, shown_type as shown_type_of};
+ghost use Rattle.sig_definitions.specs.Signatures.Encoding.{enc, enc_abs, enc_row, one_part as one_part_of, shown_type as shown_type_of};
 ghost use Rattle.semantic_sigs.specs.Fields.{sig_row};
 ghost use Rattle.semantic_sigs.specs.View.{sig_of};
 

@@ -9,9 +9,9 @@ ghost use Rattle.omega_types.specs.Scope.{scope_of};
 ghost use Rattle.omega_types.specs.Ty.{Var};
 ghost use Rattle.omega_terms.specs.PartTerms.{type_term as type_term_of};
 ghost use Rattle.omega_terms.specs.Term.{Var as VarTerm};
-ghost use Rattle.signatures.specs.Env.{Env as EnvTree, find as find_in, kinds as kinds_in, first_kind as first_kind_in};
-ghost use Rattle.signatures.specs.Signatures.Sig.{Sig as SigTree, Typ};
-ghost use Rattle.signatures.specs.Signatures.SigSubst.{rename_sig};
+ghost use Rattle.sig_definitions.specs.Env.{Env as EnvTree, find as find_in, kinds as kinds_in, first_kind as first_kind_in};
+ghost use Rattle.sig_definitions.specs.Signatures.Sig.{Sig as SigTree, Typ};
+ghost use Rattle.sig_definitions.specs.Signatures.SigSubst.{rename_sig};
 ghost use Rattle.semantic_sigs.specs.Entries.{here_first, entry_of, seen, term_vars};
 ghost use Rattle.semantic_sigs.specs.Slots.{Keeps, hidden_by, with_slots};
 
@@ -64,7 +64,7 @@ pub struct Env {
 
 impl Model for Env {
     ghost use Rattle.std.specs.Prelude.{[]};
-    ghost use Rattle.signatures.specs.Env.{Env as EnvTree};
+    ghost use Rattle.sig_definitions.specs.Env.{Env as EnvTree};
     ghost use Rattle.semantic_sigs.specs.EnvCode.{env_code};
     ghost use Rattle.semantic_sigs.specs.Slots.{IsKept, with_slots};
 

@@ -1,5 +1,5 @@
 // Semantic signatures in code: shared trees, what elaboration makes of phrases, environments, and operations on them.
-// Stands on the crates of types and terms, and on signatures and sig_laws, whose definitions its contracts cite.
+// Stands on the crates of types and terms, and on sig_definitions and sig_laws, whose definitions its contracts cite.
 // Proved: `raise_sig`, `raise_abs` and `lower_sig` rename as the definitions do, `instantiate` and `instantiate_abs` give
 // the normal form of a signature at types, `sig_mentions` decides mentions, `field` finds a part by its name and `part` by a path, `encode` and
 // `encode_sig` give the encoding, and `find` gives exactly what an environment has for a name.

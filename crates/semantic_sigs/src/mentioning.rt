@@ -1,6 +1,6 @@
 // Which free variables a signature mentions.
 ghost use Rattle.std.specs.Prelude.{◌≡◌, ◌↔◌, ◌+◌, ◌⊎◌, IsTrue};
-ghost use Rattle.signatures.specs.Signatures.SigMentions.{MentionsSig, MentionsAbs, MentionsRow};
+ghost use Rattle.sig_definitions.specs.Signatures.SigMentions.{MentionsSig, MentionsAbs, MentionsRow};
 ghost use Rattle.semantic_sigs.specs.Fields.{sig_row};
 
 use crate::tree::{Abs, Sig, SigFields, SigNode};

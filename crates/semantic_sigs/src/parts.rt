@@ -1,8 +1,8 @@
 // The part of a signature at a path of names.
 ghost use Rattle.std.specs.Prelude.{◌≡◌, [], MatchOption, map};
 ghost use Rattle.omega_kinds.specs.LabelOrder.{name_before};
-ghost use Rattle.signatures.specs.Explicit.SigPath.{Part, PartAt};
-ghost use Rattle.signatures.specs.Signatures.Sig.{HasField, NoField, Sig as SigTree, SigRow, Str};
+ghost use Rattle.sig_definitions.specs.Explicit.SigPath.{Part, PartAt};
+ghost use Rattle.sig_definitions.specs.Signatures.Sig.{HasField, NoField, Sig as SigTree, SigRow, Str};
 ghost use Rattle.semantic_sigs.specs.Fields.{sig_row};
 
 use crate::tree::{Sig, SigFields, SigNode};

@@ -38,7 +38,7 @@ pub struct Path {
 
 impl Model for Path {
     ghost use Rattle.std.specs.Prelude.{map};
-    ghost use Rattle.signatures.specs.Explicit.SigPath.{SigPath};
+    ghost use Rattle.sig_definitions.specs.Explicit.SigPath.{SigPath};
     ghost use Rattle.semantic_sigs.specs.Items.{item_of, path_code};
 
     ghost Value = { SigPath };

@@ -1,8 +1,8 @@
 // Semantic signatures, whose parts are shared.
 ghost use Rattle.std.specs.Prelude.{◌≡◌, ◌≤◌, ◌+◌, ◌++◌, ◌∷◌, [], IfOk, OnOk, OnErr, slice_get};
 ghost use Rattle.std.specs.Option.{option_copied};
-ghost use Rattle.signatures.specs.Signatures.Encoding.{enc};
-ghost use Rattle.signatures.specs.Signatures.Sig.{Ex};
+ghost use Rattle.sig_definitions.specs.Signatures.Encoding.{enc};
+ghost use Rattle.sig_definitions.specs.Signatures.Sig.{Ex};
 ghost use Rattle.semantic_sigs.specs.Bound.{bound_sig, bound_abs, bound_sig_pairs};
 ghost use Rattle.semantic_sigs.specs.Fields.{Rises, MayFollow};
 ghost use Rattle.semantic_sigs.specs.Height.{sig_height, abs_height};
@@ -92,7 +92,7 @@ struct AbsNode {
 
 impl Model for Sig {
     ghost use Rattle.std.specs.Prelude.{◌≡◌, ◌≤◌};
-    ghost use Rattle.signatures.specs.Signatures.Sig.{Sig as SigTree};
+    ghost use Rattle.sig_definitions.specs.Signatures.Sig.{Sig as SigTree};
     ghost use Rattle.semantic_sigs.specs.Code.{sig_code};
 
     ghost Value = { SigTree };
@@ -106,7 +106,7 @@ impl Model for Sig {
     ghost use Rattle.semantic_sigs.specs.Bound.{bound_sig as bound_of_sig};
     ghost use Rattle.semantic_sigs.specs.Height.{sig_height};
     ghost use Rattle.semantic_sigs.specs.View.{sig_of};
-    ghost use Rattle.signatures.specs.Signatures.Encoding.{enc as enc_of};
+    ghost use Rattle.sig_definitions.specs.Signatures.Encoding.{enc as enc_of};
 
     ghost view = { λ s. sig_of s.made.value.node };
 
@@ -144,7 +144,7 @@ impl Model for SigFields {
 
 impl Model for Abs {
     ghost use Rattle.std.specs.Prelude.{◌≡◌, ◌≤◌};
-    ghost use Rattle.signatures.specs.Signatures.Sig.{Abs as AbsTree};
+    ghost use Rattle.sig_definitions.specs.Signatures.Sig.{Abs as AbsTree};
     ghost use Rattle.semantic_sigs.specs.Code.{abs_code};
 
     ghost Value = { AbsTree };

@@ -1,6 +1,6 @@
 -- The laws as they are stated.
 use Rattle.std.proofs.Math.Path.{sym, subst}
-use Rattle.signatures.specs.Signatures.Alike.{NormalSigForm}
+use Rattle.sig_definitions.specs.Signatures.Alike.{NormalSigForm}
 use Rattle.sig_laws.specs.SigLaws.{SubstituteId, SubstituteTwice, SubstituteAgree, SizeKept, PartKept, RootKept, WellFormedKept, ResultsKept, ExplicitKept, WellFormedConv, NormalSigGives, EncNormal, EncInjective, ConvExactly, OperatorFound}
 use Rattle.sig_laws.proofs.Algebra.SigAlgebra.{substitute_sig-id, substitute-substitute_sig}
 use Rattle.sig_laws.proofs.Algebra.SigMention.{substitute_sig-agree}
@@ -18,7 +18,7 @@ use Rattle.omega_types.proofs.Hereditary.{normal-gives}
 use Rattle.omega_types.proofs.BinderPuts.{types-kinds, types-substitute}
 use Rattle.omega_terms.specs.Typing.{HasType}
 use Rattle.omega_terms.proofs.NormalTyping.{typed-sound}
-use Rattle.signatures.specs.Signatures.Encoding.{enc}
+use Rattle.sig_definitions.specs.Signatures.Encoding.{enc}
 use Rattle.sig_laws.specs.CoercionTypes.{SubIsTyped, SubAbsIsTyped, MatchIsTyped}
 use Rattle.sig_laws.proofs.Encoded.EncodingTyping.{good-normal}
 use Rattle.sig_laws.proofs.Encoded.CoercionTyping.{sub-typed, sub_abs-typed, match-typed}

@@ -11,7 +11,7 @@ use Rattle.omega_types.specs.Normalises.{Maps}
 use Rattle.omega_types.specs.Binders.{extend, past, arrow_over}
 use Rattle.omega_types.proofs.Mention.{lookup-unique}
 use Rattle.omega_types.proofs.BinderLaws.{past-maps, applied-kind}
-use Rattle.signatures.specs.Lifting.{lifting, lifted_kinds}
+use Rattle.sig_definitions.specs.Lifting.{lifting, lifted_kinds}
 use Rattle.sig_laws.specs.LiftingLaws.{LiftingKinds, LiftingMaps}
 use Rattle.omega_types.proofs.BinderPuts.{lifts-maps}
 use Rattle.sig_laws.proofs.Algebra.BinderLaws.{lookup-outside, past-length}

@@ -6,12 +6,12 @@ use Rattle.omega_types.specs.Ty.{Ty}
 use Rattle.omega_types.specs.Binders.{extend, OfKinds}
 use Rattle.omega_terms.specs.Term.{Term}
 use Rattle.omega_terms.specs.Typing.{HasType}
-use Rattle.signatures.specs.Signatures.Sig.{Sig, Abs}
-use Rattle.signatures.specs.Signatures.SigSubst.{sig_at}
-use Rattle.signatures.specs.Signatures.Alike.{NormalSig, NormalAbs}
-use Rattle.signatures.specs.Signatures.Encoding.{enc, enc_abs}
-use Rattle.signatures.specs.Explicit.WellFormed.{WellFormed, WellFormedAbs}
-use Rattle.signatures.specs.Matching.Subtyping.{Sub, SubAbs, Match}
+use Rattle.sig_definitions.specs.Signatures.Sig.{Sig, Abs}
+use Rattle.sig_definitions.specs.Signatures.SigSubst.{sig_at}
+use Rattle.sig_definitions.specs.Signatures.Alike.{NormalSig, NormalAbs}
+use Rattle.sig_definitions.specs.Signatures.Encoding.{enc, enc_abs}
+use Rattle.sig_definitions.specs.Explicit.WellFormed.{WellFormed, WellFormedAbs}
+use Rattle.sig_definitions.specs.Matching.Subtyping.{Sub, SubAbs, Match}
 
 -- a coercion of subtyping leads from one encoding to the other
 abbrev pub SubIsTyped : Type 0

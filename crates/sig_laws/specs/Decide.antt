@@ -9,8 +9,8 @@ use Rattle.omega_kinds.proofs.NameLaws.{dec_label}
 use Rattle.omega_types.specs.Ty.{Ty, Row, Ty-discrete}
 use Rattle.omega_types.specs.Mentions.{Mentions, Mentions_row, m_var, m_from, m_to, m_fields, m_all, m_ex, m_lam, m_operator, m_arg, m_part, m_rest}
 use Rattle.omega_types.specs.Binders.{past}
-use Rattle.signatures.specs.Signatures.Sig.{Sig, Abs, SigRow}
-use Rattle.signatures.specs.Signatures.SigMentions.{MentionsSig, MentionsAbs, MentionsRow}
+use Rattle.sig_definitions.specs.Signatures.Sig.{Sig, Abs, SigRow}
+use Rattle.sig_definitions.specs.Signatures.SigMentions.{MentionsSig, MentionsAbs, MentionsRow}
 
 abbrev pub decided : {A : Type 0} → Dec A → Bool
 decided (yes a) = true

@@ -4,10 +4,10 @@ use Rattle.omega_kinds.specs.Kind.{Kind}
 use Rattle.omega_types.specs.Ty.{Ty}
 use Rattle.omega_types.specs.Substitution.{rename, substitute}
 use Rattle.omega_types.specs.Kinding.{HasKind}
-use Rattle.signatures.specs.Signatures.Sig.{Sig, Abs}
-use Rattle.signatures.specs.Signatures.SigSubst.{rename_sig, rename_abs, substitute_sig, substitute_abs}
-use Rattle.signatures.specs.Signatures.Encoding.{enc, enc_abs}
-use Rattle.signatures.specs.Explicit.WellFormed.{WellFormed, WellFormedAbs}
+use Rattle.sig_definitions.specs.Signatures.Sig.{Sig, Abs}
+use Rattle.sig_definitions.specs.Signatures.SigSubst.{rename_sig, rename_abs, substitute_sig, substitute_abs}
+use Rattle.sig_definitions.specs.Signatures.Encoding.{enc, enc_abs}
+use Rattle.sig_definitions.specs.Explicit.WellFormed.{WellFormed, WellFormedAbs}
 
 -- the encoding of a substitution is the substitution of the encoding
 abbrev pub EncSubstitute : Type 0

@@ -9,11 +9,11 @@ use Rattle.omega_types.specs.Normality.{Normal}
 use Rattle.omega_types.specs.Binders.{NormalForms}
 use Rattle.omega_terms.specs.Term.{Term}
 use Rattle.omega_terms.specs.Instance.{Instance}
-use Rattle.signatures.specs.Signatures.Sig.{Sig, Abs, SigRow, NoField, Module, made}
-use Rattle.signatures.specs.Signatures.Alike.{NormalSig, NormalAbs, NormalSigRow}
-use Rattle.signatures.specs.Explicit.WellFormed.{WellFormed, WellFormedRow, WellFormedAbs, Explicit}
-use Rattle.signatures.specs.Env.{Env, Entry, kinds, find}
-use Rattle.signatures.specs.Signatures.RecordOrder.{NamesRise}
+use Rattle.sig_definitions.specs.Signatures.Sig.{Sig, Abs, SigRow, NoField, Module, made}
+use Rattle.sig_definitions.specs.Signatures.Alike.{NormalSig, NormalAbs, NormalSigRow}
+use Rattle.sig_definitions.specs.Explicit.WellFormed.{WellFormed, WellFormedRow, WellFormedAbs, Explicit}
+use Rattle.sig_definitions.specs.Env.{Env, Entry, kinds, find}
+use Rattle.sig_definitions.specs.Signatures.RecordOrder.{NamesRise}
 
 -- well formed, and of normal types
 abbrev pub OkSig : List Kind → Sig → Type 0

@@ -4,7 +4,7 @@ use Rattle.omega_kinds.specs.Kind.{Kind}
 use Rattle.omega_types.specs.Kinding.{Lookup, HasKind}
 use Rattle.omega_types.specs.Normalises.{Maps}
 use Rattle.omega_types.specs.Binders.{extend, past, lifts}
-use Rattle.signatures.specs.Lifting.{lifting, lifted_kinds}
+use Rattle.sig_definitions.specs.Lifting.{lifting, lifted_kinds}
 
 -- what stands under ks and then bs gets types under the lifted bs and then ks
 abbrev pub LiftingKinds : Type 0

@@ -3,7 +3,7 @@ use Rattle.std.specs.Prelude.{List}
 use Rattle.omega_kinds.specs.Kind.{Kind}
 use Rattle.omega_types.specs.Normaliser.{normal}
 use Rattle.omega_types.specs.Binders.{extend}
-use Rattle.signatures.specs.Signatures.Sig.{Sig, Abs, SigRow}
+use Rattle.sig_definitions.specs.Signatures.Sig.{Sig, Abs, SigRow}
 
 abbrev mutual
   pub normal_sig : List Kind → Sig → Sig

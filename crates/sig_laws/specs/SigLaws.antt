@@ -7,16 +7,16 @@ use Rattle.omega_types.specs.Kinding.{Lookup, HasKind}
 use Rattle.omega_types.specs.Conversion.{Conv}
 use Rattle.omega_types.specs.Normality.{Normal}
 use Rattle.omega_types.specs.Binders.{extend, unders, lam_over, arrow_over, applied}
-use Rattle.signatures.specs.Signatures.Sig.{Sig, Abs}
-use Rattle.signatures.specs.Signatures.SigSubst.{substitute_sig, substitute_abs}
-use Rattle.signatures.specs.Signatures.SigSize.{size}
-use Rattle.signatures.specs.Signatures.SigMentions.{MentionsSig}
-use Rattle.signatures.specs.Explicit.SigPath.{SigPath, PartAt}
-use Rattle.signatures.specs.Explicit.RootPath.{RootPath}
+use Rattle.sig_definitions.specs.Signatures.Sig.{Sig, Abs}
+use Rattle.sig_definitions.specs.Signatures.SigSubst.{substitute_sig, substitute_abs}
+use Rattle.sig_definitions.specs.Signatures.SigSize.{size}
+use Rattle.sig_definitions.specs.Signatures.SigMentions.{MentionsSig}
+use Rattle.sig_definitions.specs.Explicit.SigPath.{SigPath, PartAt}
+use Rattle.sig_definitions.specs.Explicit.RootPath.{RootPath}
 use Rattle.sig_laws.specs.NormalSig.{normal_sig}
-use Rattle.signatures.specs.Signatures.Alike.{ConvSig, NormalSigForm, NormalSig}
-use Rattle.signatures.specs.Explicit.WellFormed.{WellFormed, ExplicitResults, Explicit}
-use Rattle.signatures.specs.Signatures.Encoding.{enc}
+use Rattle.sig_definitions.specs.Signatures.Alike.{ConvSig, NormalSigForm, NormalSig}
+use Rattle.sig_definitions.specs.Explicit.WellFormed.{WellFormed, ExplicitResults, Explicit}
+use Rattle.sig_definitions.specs.Signatures.Encoding.{enc}
 
 -- each variable of a context is put to a type of its kind
 abbrev pub PutsKinds : List Kind → List Kind → (ℕ → Ty) → Type 0

@@ -1,5 +1,5 @@
 // The laws of semantic signatures: substitution, normal forms, encoding, lifting and coercions.
-// Stands on signatures.
+// Stands on sig_definitions.
 // Proved: substitution keeps shapes, parts, root paths, well-formedness and explicitness (`substitution`); each signature
 // has one normal form, and encodings are convertible exactly where the signatures are (`normal_signatures`); each coercion
 // has the type that its rule says (`coercions`).

@@ -12,21 +12,21 @@ use Rattle.omega_types.proofs.BinderPuts.{types-forms}
 use Rattle.omega_terms.specs.Coercions.{functor_part, meta_part, fields_part}
 use Rattle.omega_terms.specs.Fields.{term_row, TermPairs}
 use Rattle.omega_terms.specs.Term.{Term}
-use Rattle.signatures.specs.Explicit.SigPath.{SigPath, Item}
-use Rattle.signatures.specs.Explicit.WellFormed.{WellFormedAbs}
-use Rattle.signatures.specs.Matching.LookUp.{Found}
-use Rattle.signatures.specs.Matching.MatchRefusal.{MatchRefusal, NoRoot, Clash, Form, Missing, Effects, clash, within, RefusesMatch, RefusesSub, RefusesSubAbs, RefusesFields}
-use Rattle.signatures.specs.Matching.Subtyping.{Match}
-use Rattle.signatures.specs.Signatures.Alike.{NormalAbs, NormalAbsForm, IsSigAt}
-use Rattle.signatures.specs.Signatures.Encoding.{enc, enc_abs}
-use Rattle.signatures.specs.Signatures.Sig.{Sig, Abs, SigRow, HasField, NoField}
-use Rattle.signatures.specs.Signatures.SigSize.{size, size_abs}
-use Rattle.signatures.specs.Signatures.SigSubst.{raise_abs, abs_at_under}
+use Rattle.sig_definitions.specs.Explicit.SigPath.{SigPath, Item}
+use Rattle.sig_definitions.specs.Explicit.WellFormed.{WellFormedAbs}
+use Rattle.sig_definitions.specs.Matching.LookUp.{Found}
+use Rattle.sig_definitions.specs.Matching.MatchRefusal.{MatchRefusal, NoRoot, Clash, Form, Missing, Effects, clash, within, RefusesMatch, RefusesSub, RefusesSubAbs, RefusesFields}
+use Rattle.sig_definitions.specs.Matching.Subtyping.{Match}
+use Rattle.sig_definitions.specs.Signatures.Alike.{NormalAbs, NormalAbsForm, IsSigAt}
+use Rattle.sig_definitions.specs.Signatures.Encoding.{enc, enc_abs}
+use Rattle.sig_definitions.specs.Signatures.Sig.{Sig, Abs, SigRow, HasField, NoField}
+use Rattle.sig_definitions.specs.Signatures.SigSize.{size, size_abs}
+use Rattle.sig_definitions.specs.Signatures.SigSubst.{raise_abs, abs_at_under}
 use Rattle.sig_laws.proofs.Algebra.SizeLaws.{size_abs-rename, field-size}
 use Rattle.sig_laws.proofs.Formed.Conditions.{explicit-abs}
-use Rattle.match_laws.specs.MatchClaims.{IsRightSig}
-use Rattle.match_laws.proofs.LookUp.Good.{good-left_field}
-use Rattle.match_laws.proofs.OneMatch.Views.{match-view}
+use Rattle.sig_match_laws.specs.MatchClaims.{IsRightSig}
+use Rattle.sig_match_laws.proofs.LookUp.Good.{good-left_field}
+use Rattle.sig_match_laws.proofs.OneMatch.Views.{match-view}
 use Rattle.sig_laws.proofs.Formed.WellFormedLaws.{explicit-body}
 use Rattle.semantic_sigs.specs.Fields.{SigPairs, sig_row}
 use Rattle.semantic_sigs.specs.View.{kinds_of, body_of}
@@ -35,7 +35,7 @@ use Rattle.sig_match.specs.declared.refusal.MatchRefusal.{MatchRefusal as CodeRe
 use Rattle.sig_match.specs.Coerced.{IsAbsCoercion}
 use Rattle.sig_match.specs.Put.{AreNormal, filled, MayPut, EachPut, MayPutUnder, EachPutUnder}
 use Rattle.sig_match.specs.Refusals.{Gives, Holds, inside, plain_refusal}
-use Rattle.root_paths.specs.Roots.{AreRoots}
+use Rattle.sig_roots.specs.Roots.{AreRoots}
 use Rattle.sig_match.specs.Looking.{Ends, Looks, LookSides, Refusing, lam_found, MayLook, EachLook, MayLookInto, EachLookInto, FirstFound, NextSides, MayLookNext, EachLookNext, EachLookAll, IfMatched, IsTarget}
 use Rattle.sig_match.specs.Outcomes.{MayMatch, EachMatch, SubGives, MaySub, EachSub, MaySubAbs, EachSubAbs, ResultGives, ResultHolds, MayResult, EachResult, EachField}
 use Rattle.sig_match.proofs.Given.{holds-given, holds-map, holds-within}

@@ -2,11 +2,11 @@
 use Rattle.std.proofs.Common.{List, Option, Some, None, Result, Ok, Err, sym}
 use Rattle.omega_kinds.specs.Kind.{Kind}
 use Rattle.omega_terms.specs.Term.{Term}
-use Rattle.signatures.specs.Signatures.Sig.{Sig, Abs}
-use Rattle.signatures.specs.Matching.MatchRefusal.{MatchRefusal, RefusesMatch, RefusesSubAbs}
-use Rattle.match_laws.proofs.OneMatch.Unique.{match-unique, abs-unique}
-use Rattle.match_laws.proofs.LookUp.Refused.{match-excluded, abs-excluded}
-use Rattle.match_laws.proofs.LookUp.OneRefusal.{match-one, abs-one}
+use Rattle.sig_definitions.specs.Signatures.Sig.{Sig, Abs}
+use Rattle.sig_definitions.specs.Matching.MatchRefusal.{MatchRefusal, RefusesMatch, RefusesSubAbs}
+use Rattle.sig_match_laws.proofs.OneMatch.Unique.{match-unique, abs-unique}
+use Rattle.sig_match_laws.proofs.LookUp.Refused.{match-excluded, abs-excluded}
+use Rattle.sig_match_laws.proofs.LookUp.OneRefusal.{match-one, abs-one}
 use Rattle.sig_match.specs.declared.refusal.Matched.{Matched}
 use Rattle.sig_match.specs.declared.refusal.MatchRefusal.{MatchRefusal as CodeRefusal}
 use Rattle.sig_match.specs.Refusals.{Holds, plain_refusal}

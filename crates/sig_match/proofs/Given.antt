@@ -1,7 +1,7 @@
 -- Refusals that hold, and those from inside a part.
 use Rattle.std.proofs.Common.{◌≡◌, Option, Some, None, subst}
-use Rattle.signatures.specs.Explicit.SigPath.{Item}
-use Rattle.signatures.specs.Matching.MatchRefusal.{MatchRefusal, within}
+use Rattle.sig_definitions.specs.Explicit.SigPath.{Item}
+use Rattle.sig_definitions.specs.Matching.MatchRefusal.{MatchRefusal, within}
 use Rattle.sig_match.specs.Refusals.{inside, Gives, Holds}
 
 pub holds-given : (P : MatchRefusal → Type 0) (expected given : Option MatchRefusal) → Gives expected given → Holds P expected → Holds P given

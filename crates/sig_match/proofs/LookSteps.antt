@@ -8,26 +8,26 @@ use Rattle.omega_types.specs.Ty.{Ty}
 use Rattle.omega_types.specs.Binders.{extend, puts, NormalForms}
 use Rattle.omega_types.proofs.BinderPuts.{forms-kinds}
 use Rattle.omega_terms.specs.Term.{Term}
-use Rattle.signatures.specs.Signatures.Sig.{Sig, Abs, SigRow, HasField, NoField, here, there}
-use Rattle.signatures.specs.Signatures.SigSubst.{raise_abs, sig_at_under, abs_at_under}
-use Rattle.signatures.specs.Signatures.Alike.{AlikeSig, AlikeAbs, AlikeRow, Between, NormalSig, NormalSigForm, NormalAbsForm, IsSigAt}
-use Rattle.signatures.specs.Explicit.SigPath.{SigPath, Item}
-use Rattle.signatures.specs.Explicit.WellFormed.{WellFormed}
+use Rattle.sig_definitions.specs.Signatures.Sig.{Sig, Abs, SigRow, HasField, NoField, here, there}
+use Rattle.sig_definitions.specs.Signatures.SigSubst.{raise_abs, sig_at_under, abs_at_under}
+use Rattle.sig_definitions.specs.Signatures.Alike.{AlikeSig, AlikeAbs, AlikeRow, Between, NormalSig, NormalSigForm, NormalAbsForm, IsSigAt}
+use Rattle.sig_definitions.specs.Explicit.SigPath.{SigPath, Item}
+use Rattle.sig_definitions.specs.Explicit.WellFormed.{WellFormed}
 use Rattle.semantic_sigs.specs.View.{body_of}
-use Rattle.signatures.specs.Matching.Subtyping.{Match}
-use Rattle.signatures.specs.Matching.LookUp.{Found}
-use Rattle.signatures.specs.Matching.MatchRefusal.{MatchRefusal, RefusesMatch}
+use Rattle.sig_definitions.specs.Matching.Subtyping.{Match}
+use Rattle.sig_definitions.specs.Matching.LookUp.{Found}
+use Rattle.sig_definitions.specs.Matching.MatchRefusal.{MatchRefusal, RefusesMatch}
 use Rattle.sig_laws.proofs.Algebra.AlikeLaws.{form_sig-unique, form_sig-normal, form-conv_sig, normal_sig-form}
 use Rattle.sig_laws.proofs.Algebra.Instances.{at-substitutes}
 use Rattle.sig_laws.proofs.Algebra.PathLaws.{field-substitute, field-alike, field-back, one-field, no-field}
 use Rattle.sig_laws.proofs.Algebra.SigAlgebra.{substitute_sig-id}
 use Rattle.sig_laws.proofs.Formed.Conditions.{match-kinds}
 use Rattle.sig_laws.proofs.Formed.WellFormedLaws.{well_formed-conv, well_formed-substitute, explicit_results-conv, explicit_results-substitute}
-use Rattle.match_laws.specs.MatchClaims.{IsRightSig}
-use Rattle.match_laws.proofs.OneMatch.Unique.{match-unique}
-use Rattle.match_laws.proofs.LookUp.Good.{good-param, good-left_result, good-right_param, good-right_result, good-pure, good-body, good-left_field, good-right_field}
-use Rattle.match_laws.proofs.LookUp.LookUpLaws.{found-view}
-use Rattle.match_laws.proofs.LookUp.Refused.{match-excluded}
+use Rattle.sig_match_laws.specs.MatchClaims.{IsRightSig}
+use Rattle.sig_match_laws.proofs.OneMatch.Unique.{match-unique}
+use Rattle.sig_match_laws.proofs.LookUp.Good.{good-param, good-left_result, good-right_param, good-right_result, good-pure, good-body, good-left_field, good-right_field}
+use Rattle.sig_match_laws.proofs.LookUp.LookUpLaws.{found-view}
+use Rattle.sig_match_laws.proofs.LookUp.Refused.{match-excluded}
 use Rattle.sig_match.specs.Put.{AreNormal}
 use Rattle.sig_match.specs.Looking.{Ends, Looks, LookSides, lam_found}
 use Rattle.std.proofs.Math.Path.{refl}

@@ -1,7 +1,7 @@
 -- Matches that were made, taken and added.
 use Rattle.std.proofs.Common.{◌≡◌, ℕ, ◌<◌, List, [], ◌∷◌, ◌++◌, length, get_or, Ok, refl, sym, ◌∙◌, subst, arith}
 use Rattle.std.proofs.lemmas.List.Elements.{All-push}
-use Rattle.signatures.specs.Signatures.Sig.{Sig, Abs}
+use Rattle.sig_definitions.specs.Signatures.Sig.{Sig, Abs}
 use Rattle.sig_laws.proofs.Encoded.EncodingLaws.{enc-injective, enc_abs-injective}
 use Rattle.sig_match.specs.declared.made.Key.{Key}
 use Rattle.sig_match.specs.declared.made.Made.{Made}

@@ -4,19 +4,19 @@ use Rattle.omega_kinds.specs.Kind.{Kind}
 use Rattle.omega_types.specs.Ty.{Ty}
 use Rattle.omega_types.specs.Binders.{OfKinds}
 use Rattle.omega_types.proofs.BinderPuts.{forms-kinds}
-use Rattle.signatures.specs.Signatures.Sig.{Sig, Abs}
-use Rattle.signatures.specs.Signatures.SigSubst.{sig_at}
-use Rattle.signatures.specs.Signatures.Alike.{IsSigAt}
-use Rattle.signatures.specs.Explicit.SigPath.{SigPath}
-use Rattle.signatures.specs.Explicit.RootPath.{RootPath, LeastRoot, least}
-use Rattle.signatures.specs.Matching.LookUp.{Found, PutFirst, FoundAt, found_at, FoundAfter, Looked}
-use Rattle.signatures.specs.Matching.MatchRefusal.{NoRoot, RefusesMatch}
+use Rattle.sig_definitions.specs.Signatures.Sig.{Sig, Abs}
+use Rattle.sig_definitions.specs.Signatures.SigSubst.{sig_at}
+use Rattle.sig_definitions.specs.Signatures.Alike.{IsSigAt}
+use Rattle.sig_definitions.specs.Explicit.SigPath.{SigPath}
+use Rattle.sig_definitions.specs.Explicit.RootPath.{RootPath, LeastRoot, least}
+use Rattle.sig_definitions.specs.Matching.LookUp.{Found, PutFirst, FoundAt, found_at, FoundAfter, Looked}
+use Rattle.sig_definitions.specs.Matching.MatchRefusal.{NoRoot, RefusesMatch}
 use Rattle.sig_laws.specs.NormalSig.{normal_sig}
 use Rattle.sig_laws.proofs.Formed.Conditions.{explicit-right, explicit-roots}
-use Rattle.match_laws.proofs.LookUp.LookUpLaws.{found-agree}
-use Rattle.match_laws.proofs.LookUp.FoundKinds.{found_at-normal}
-use Rattle.match_laws.proofs.Function.LookSound.{at-form}
-use Rattle.match_laws.proofs.OneMatch.Agree.{root-agreed}
+use Rattle.sig_match_laws.proofs.LookUp.LookUpLaws.{found-agree}
+use Rattle.sig_match_laws.proofs.LookUp.FoundKinds.{found_at-normal}
+use Rattle.sig_match_laws.proofs.Function.LookSound.{at-form}
+use Rattle.sig_match_laws.proofs.OneMatch.Agree.{root-agreed}
 use Rattle.semantic_sigs.specs.View.{kinds_of, body_of}
 use Rattle.sig_match.specs.Put.{AreNormal, filled}
 use Rattle.sig_match.specs.Looking.{Looks, LookSides, FirstFound, NextSides}

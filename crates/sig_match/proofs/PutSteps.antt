@@ -10,10 +10,10 @@ use Rattle.omega_types.specs.Index.{bump}
 use Rattle.omega_types.specs.Ty.{Ty}
 use Rattle.omega_types.proofs.BinderLaws.{past-maps}
 use Rattle.omega_types.proofs.BinderPuts.{puts-lifts, types-fit, forms-types}
-use Rattle.signatures.specs.Signatures.Alike.{AlikeSig, NormalAbs, NormalAbsForm, IsSigAt}
-use Rattle.signatures.specs.Signatures.Sig.{Sig, Abs}
-use Rattle.signatures.specs.Signatures.SigSize.{size, size_abs}
-use Rattle.signatures.specs.Signatures.SigSubst.{rename_abs, raise_abs, abs_at, abs_at_under, substitute_abs}
+use Rattle.sig_definitions.specs.Signatures.Alike.{AlikeSig, NormalAbs, NormalAbsForm, IsSigAt}
+use Rattle.sig_definitions.specs.Signatures.Sig.{Sig, Abs}
+use Rattle.sig_definitions.specs.Signatures.SigSize.{size, size_abs}
+use Rattle.sig_definitions.specs.Signatures.SigSubst.{rename_abs, raise_abs, abs_at, abs_at_under, substitute_abs}
 use Rattle.sig_laws.proofs.Algebra.AlikeLaws.{normal_abs-rename}
 use Rattle.sig_laws.proofs.Algebra.BinderLaws.{past-length, lam_over-append}
 use Rattle.sig_laws.proofs.Algebra.SigAlgebra.{substitute-rename_abs}

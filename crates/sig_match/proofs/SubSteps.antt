@@ -12,20 +12,20 @@ use Rattle.omega_types.proofs.BinderPuts.{forms-kinds, types-forms}
 use Rattle.omega_terms.specs.Coercions.{same_part, meta_part, fields_part, functor_part, MatchPart, AbsPart}
 use Rattle.omega_terms.specs.Fields.{term_row, TermPairs}
 use Rattle.omega_terms.specs.Term.{Term}
-use Rattle.signatures.specs.Signatures.Alike.{AlikeAbs, NormalAbsForm, IsSigAt}
-use Rattle.signatures.specs.Signatures.Encoding.{enc, enc_abs}
-use Rattle.signatures.specs.Signatures.Sig.{Sig, Abs, SigRow, HasField, here}
-use Rattle.signatures.specs.Signatures.SigSize.{size, size_abs, size_row}
-use Rattle.signatures.specs.Signatures.SigSubst.{raise_abs, abs_at_under}
-use Rattle.signatures.specs.Explicit.SigPath.{Item}
-use Rattle.signatures.specs.Explicit.WellFormed.{WellFormed}
-use Rattle.signatures.specs.Matching.LookUp.{Looked}
-use Rattle.signatures.specs.Matching.MatchRefusal.{MatchRefusal, Why, Form, Effects, Types, Clash, clash, MayStandFor, RefusesMatch, RefusesSub, RefusesSubAbs, RefusesFields, RefusesResult}
-use Rattle.signatures.specs.Matching.Subtyping.{Sub, SubFields, SubResult, SubAbs, Match}
+use Rattle.sig_definitions.specs.Signatures.Alike.{AlikeAbs, NormalAbsForm, IsSigAt}
+use Rattle.sig_definitions.specs.Signatures.Encoding.{enc, enc_abs}
+use Rattle.sig_definitions.specs.Signatures.Sig.{Sig, Abs, SigRow, HasField, here}
+use Rattle.sig_definitions.specs.Signatures.SigSize.{size, size_abs, size_row}
+use Rattle.sig_definitions.specs.Signatures.SigSubst.{raise_abs, abs_at_under}
+use Rattle.sig_definitions.specs.Explicit.SigPath.{Item}
+use Rattle.sig_definitions.specs.Explicit.WellFormed.{WellFormed}
+use Rattle.sig_definitions.specs.Matching.LookUp.{Looked}
+use Rattle.sig_definitions.specs.Matching.MatchRefusal.{MatchRefusal, Why, Form, Effects, Types, Clash, clash, MayStandFor, RefusesMatch, RefusesSub, RefusesSubAbs, RefusesFields, RefusesResult}
+use Rattle.sig_definitions.specs.Matching.Subtyping.{Sub, SubFields, SubResult, SubAbs, Match}
 use Rattle.sig_laws.proofs.Algebra.Instances.{kinds-length}
-use Rattle.match_laws.specs.MatchClaims.{IsRightSig}
-use Rattle.match_laws.proofs.LookUp.Good.{good-at, good-meta, explicit-left, good-rest, good-right_field, good-param, good-left_result, good-right_param, good-right_result, good-pure, good-impure, good-body, good-raised}
-use Rattle.match_laws.proofs.OneMatch.Views.{match-view}
+use Rattle.sig_match_laws.specs.MatchClaims.{IsRightSig}
+use Rattle.sig_match_laws.proofs.LookUp.Good.{good-at, good-meta, explicit-left, good-rest, good-right_field, good-param, good-left_result, good-right_param, good-right_result, good-pure, good-impure, good-body, good-raised}
+use Rattle.sig_match_laws.proofs.OneMatch.Views.{match-view}
 use Rattle.sig_laws.proofs.Formed.WellFormedLaws.{explicit-body}
 use Rattle.sig_laws.proofs.Encoded.EncodingLaws.{enc_abs-normal, enc_abs-rename}
 use Rattle.sig_laws.proofs.Algebra.SigAlgebra.{rename_abs-id}
@@ -35,7 +35,7 @@ use Rattle.omega_types.specs.Fields.{MayFollow}
 use Rattle.semantic_sigs.specs.View.{kinds_of, body_of}
 use Rattle.sig_match.specs.Put.{AreNormal, MayPut, EachPut}
 use Rattle.sig_match.specs.Coerced.{IsAbsCoercion}
-use Rattle.term_shorthands.specs.Packed.{Fills}
+use Rattle.omega_shorthands.specs.Packed.{Fills}
 use Rattle.sig_match.specs.Refusals.{Gives, Holds, inside}
 use Rattle.sig_match.specs.Outcomes.{ResultSides, ResultGives, ResultHolds}
 use Rattle.sig_match.proofs.Given.{holds-given, holds-map, holds-within}

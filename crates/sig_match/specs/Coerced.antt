@@ -4,9 +4,9 @@ use Rattle.omega_kinds.specs.Kind.{Kind}
 use Rattle.omega_types.specs.Ty.{Ty}
 use Rattle.omega_terms.specs.Term.{Term}
 use Rattle.omega_terms.specs.Coercions.{MatchPart, AbsPart}
-use Rattle.signatures.specs.Signatures.Sig.{Abs}
-use Rattle.signatures.specs.Signatures.Encoding.{enc, enc_abs}
-use Rattle.term_shorthands.specs.Packed.{Fills}
+use Rattle.sig_definitions.specs.Signatures.Sig.{Abs}
+use Rattle.sig_definitions.specs.Signatures.Encoding.{enc, enc_abs}
+use Rattle.omega_shorthands.specs.Packed.{Fills}
 
 -- to is the encoding of the right side under the left one's hidden types, where these types fill its quantifiers
 abbrev pub IsAbsCoercion : Abs → List Ty → Term → Ty → Term → Type 0

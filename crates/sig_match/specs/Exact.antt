@@ -3,9 +3,9 @@ use Rattle.std.specs.Prelude.{List, ◌≡◌, Option, Some, None, Result, Ok, E
 use Rattle.omega_kinds.specs.Kind.{Kind}
 use Rattle.omega_types.specs.Ty.{Ty}
 use Rattle.omega_terms.specs.Term.{Term}
-use Rattle.signatures.specs.Signatures.Sig.{Sig, Abs}
-use Rattle.signatures.specs.Matching.Subtyping.{SubAbs, Match}
-use Rattle.signatures.specs.Matching.MatchRefusal.{MatchRefusal, RefusesMatch, RefusesSubAbs}
+use Rattle.sig_definitions.specs.Signatures.Sig.{Sig, Abs}
+use Rattle.sig_definitions.specs.Matching.Subtyping.{SubAbs, Match}
+use Rattle.sig_definitions.specs.Matching.MatchRefusal.{MatchRefusal, RefusesMatch, RefusesSubAbs}
 use Rattle.sig_match.specs.declared.refusal.Matched.{Matched}
 use Rattle.sig_match.specs.declared.refusal.MatchRefusal.{MatchRefusal as CodeRefusal}
 use Rattle.sig_match.specs.Refusals.{plain_refusal}

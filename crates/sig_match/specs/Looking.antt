@@ -3,21 +3,21 @@ use Rattle.std.specs.Prelude.{ℕ, List, ◌∷◌, ◌≡◌, ◌+◌, ◌<◌,
 use Rattle.omega_kinds.specs.Kind.{Kind}
 use Rattle.omega_types.specs.Ty.{Ty}
 use Rattle.omega_types.specs.Binders.{extend, lam_over}
-use Rattle.signatures.specs.Signatures.Sig.{Sig, Abs}
-use Rattle.signatures.specs.Signatures.SigSize.{size_abs}
-use Rattle.signatures.specs.Signatures.SigSubst.{raise_abs}
-use Rattle.signatures.specs.Signatures.Alike.{IsSigAt}
-use Rattle.signatures.specs.Explicit.SigPath.{SigPath, Item}
-use Rattle.signatures.specs.Matching.LookUp.{Found, FoundAt, Looked}
-use Rattle.signatures.specs.Matching.MatchRefusal.{MatchRefusal, RefusesMatch}
-use Rattle.match_laws.specs.MatchClaims.{IsRightSig}
+use Rattle.sig_definitions.specs.Signatures.Sig.{Sig, Abs}
+use Rattle.sig_definitions.specs.Signatures.SigSize.{size_abs}
+use Rattle.sig_definitions.specs.Signatures.SigSubst.{raise_abs}
+use Rattle.sig_definitions.specs.Signatures.Alike.{IsSigAt}
+use Rattle.sig_definitions.specs.Explicit.SigPath.{SigPath, Item}
+use Rattle.sig_definitions.specs.Matching.LookUp.{Found, FoundAt, Looked}
+use Rattle.sig_definitions.specs.Matching.MatchRefusal.{MatchRefusal, RefusesMatch}
+use Rattle.sig_match_laws.specs.MatchClaims.{IsRightSig}
 use Rattle.semantic_sigs.specs.View.{kinds_of, body_of}
 use Rattle.sig_match.specs.declared.refusal.Matched.{Matched}
 use Rattle.sig_match.specs.declared.refusal.MatchRefusal.{MatchRefusal as CodeRefusal}
 use Rattle.sig_match.specs.Refusals.{Holds, plain_refusal}
 use Rattle.sig_match.specs.Outcomes.{EachMatch}
 use Rattle.sig_match.specs.Put.{AreNormal, filled, EachPutUnder}
-use Rattle.root_paths.specs.Roots.{IsRoot}
+use Rattle.sig_roots.specs.Roots.{IsRoot}
 use Rattle.sig_laws.specs.Good.{OkSig, OkRight}
 
 -- what a left type part has, where the right one has its kind

@@ -1,7 +1,7 @@
 -- Matches that were made.
 use Rattle.std.specs.Prelude.{ℕ, List, ◌≡◌, All, Ok}
-use Rattle.signatures.specs.Signatures.Encoding.{enc, enc_abs}
-use Rattle.signatures.specs.Signatures.Sig.{Sig, Abs}
+use Rattle.sig_definitions.specs.Signatures.Encoding.{enc, enc_abs}
+use Rattle.sig_definitions.specs.Signatures.Sig.{Sig, Abs}
 use Rattle.sig_match.specs.declared.made.Key.{Key}
 use Rattle.sig_match.specs.declared.made.Made.{Made}
 use Rattle.sig_match.specs.Outcomes.{EachMatch}

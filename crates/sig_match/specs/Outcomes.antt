@@ -5,10 +5,10 @@ use Rattle.omega_kinds.specs.Name.{Name}
 use Rattle.omega_kinds.specs.declared.effect.Effect.{Effect}
 use Rattle.omega_kinds.specs.declared.effect.Effect.TheVariants.{Pure, Impure}
 use Rattle.omega_terms.specs.Term.{Term}
-use Rattle.signatures.specs.Signatures.Sig.{Sig, Abs, SigRow, HasField}
-use Rattle.signatures.specs.Matching.Subtyping.{Sub, SubAbs, Match}
-use Rattle.signatures.specs.Matching.MatchRefusal.{MatchRefusal, RefusesMatch, RefusesSub, RefusesSubAbs, RefusesFields}
-use Rattle.match_laws.specs.MatchClaims.{IsRightSig}
+use Rattle.sig_definitions.specs.Signatures.Sig.{Sig, Abs, SigRow, HasField}
+use Rattle.sig_definitions.specs.Matching.Subtyping.{Sub, SubAbs, Match}
+use Rattle.sig_definitions.specs.Matching.MatchRefusal.{MatchRefusal, RefusesMatch, RefusesSub, RefusesSubAbs, RefusesFields}
+use Rattle.sig_match_laws.specs.MatchClaims.{IsRightSig}
 use Rattle.semantic_sigs.specs.View.{body_of}
 use Rattle.sig_match.specs.declared.refusal.Matched.{Matched}
 use Rattle.sig_match.specs.declared.refusal.MatchRefusal.{MatchRefusal as CodeRefusal}

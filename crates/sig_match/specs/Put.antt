@@ -3,9 +3,9 @@ use Rattle.std.specs.Prelude.{ℕ, List, [], ◌∷◌, ◌≡◌, Option, Some,
 use Rattle.omega_kinds.specs.Kind.{Kind}
 use Rattle.omega_types.specs.Ty.{Ty}
 use Rattle.omega_types.specs.Binders.{extend, NormalForms}
-use Rattle.signatures.specs.Signatures.Sig.{Sig, Abs}
-use Rattle.signatures.specs.Signatures.SigSubst.{abs_at_under}
-use Rattle.signatures.specs.Signatures.Alike.{NormalSig, NormalAbs, NormalAbsForm, IsSigAt}
+use Rattle.sig_definitions.specs.Signatures.Sig.{Sig, Abs}
+use Rattle.sig_definitions.specs.Signatures.SigSubst.{abs_at_under}
+use Rattle.sig_definitions.specs.Signatures.Alike.{NormalSig, NormalAbs, NormalAbsForm, IsSigAt}
 
 -- a closed normal type of each kind
 abbrev pub any_type : Kind → Ty

@@ -1,7 +1,7 @@
 -- What the code's refusals are seen as: plain refusals, and nothing for want of memory.
 use Rattle.std.specs.Prelude.{◌≡◌, Option, Some, None}
-use Rattle.signatures.specs.Explicit.SigPath.{Item}
-use Rattle.signatures.specs.Matching.MatchRefusal.{MatchRefusal, Why, within}
+use Rattle.sig_definitions.specs.Explicit.SigPath.{Item}
+use Rattle.sig_definitions.specs.Matching.MatchRefusal.{MatchRefusal, Why, within}
 use Rattle.semantic_sigs.specs.declared.made.Why.{Why as CodeWhy}
 use Rattle.semantic_sigs.specs.declared.made.Why.TheVariants as reason
 use Rattle.sig_match.specs.declared.refusal.MatchRefusal.{MatchRefusal as CodeRefusal}

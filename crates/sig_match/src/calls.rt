@@ -1,6 +1,6 @@
 // The public calls.
 ghost use Rattle.std.specs.Prelude.{◌≡◌, length};
-ghost use Rattle.signatures.specs.Env.{kinds as kinds_in};
+ghost use Rattle.sig_definitions.specs.Env.{kinds as kinds_in};
 ghost use Rattle.sig_laws.specs.Good.{OkSig, OkAbs, OkRight};
 ghost use Rattle.sig_match.specs.Exact.{OnlyMatch, OnlySubAbs};
 ghost use Rattle.sig_match.specs.Outcomes.{MatchGives, SubAbsGives};

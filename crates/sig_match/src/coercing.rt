@@ -1,7 +1,7 @@
 // The coercions of functors and of signatures that hide types, from the sides themselves.
 ghost use Rattle.std.specs.Prelude.{◌≡◌, IfOk};
 ghost use Rattle.omega_terms.specs.Coercions.{functor_part as functor_part_of};
-ghost use Rattle.signatures.specs.Signatures.Encoding.{enc, enc_abs};
+ghost use Rattle.sig_definitions.specs.Signatures.Encoding.{enc, enc_abs};
 ghost use Rattle.sig_match.specs.Coerced.{IsAbsCoercion};
 
 use crate::forms::Functor;

@@ -1,5 +1,5 @@
 // Matching and subtyping of semantic signatures, with the types that match and the coercion.
-// Stands on semantic_sigs, root_paths and coercion_terms, and on match_laws, whose laws its contracts rest on.
+// Stands on semantic_sigs, sig_roots and coercion_terms, and on sig_match_laws, whose laws its contracts rest on.
 // Proved: `match_sig` and `sub_abs` answer Ok exactly where some types match, with just these types and the one coercion,
 // and each refusal exactly where it is the one that the definitions give.
 #![tactic(auto)]

@@ -4,10 +4,10 @@ ghost use Rattle.omega_kinds.specs.Kind.{Kind as KindTree};
 ghost use Rattle.omega_kinds.specs.View.{kind_tree};
 ghost use Rattle.omega_kinds.specs.declared.effect.Effect.TheVariants.{Pure, Impure};
 ghost use Rattle.omega_terms.specs.Term.{Term as TermTree};
-ghost use Rattle.signatures.specs.Explicit.SigPath.{Part};
-ghost use Rattle.signatures.specs.Signatures.Encoding.{enc};
-ghost use Rattle.signatures.specs.Signatures.Sig.{Ex, Fun, Meta, Str, Typ, Val};
-ghost use Rattle.signatures.specs.Signatures.SigSubst.{raise_abs as raise_abs_of};
+ghost use Rattle.sig_definitions.specs.Explicit.SigPath.{Part};
+ghost use Rattle.sig_definitions.specs.Signatures.Encoding.{enc};
+ghost use Rattle.sig_definitions.specs.Signatures.Sig.{Ex, Fun, Meta, Str, Typ, Val};
+ghost use Rattle.sig_definitions.specs.Signatures.SigSubst.{raise_abs as raise_abs_of};
 ghost use Rattle.semantic_sigs.specs.Fields.{sig_row};
 ghost use Rattle.semantic_sigs.specs.Items.{item_of};
 ghost use Rattle.sig_match.specs.Looking.{EachLook, EachLookAll, EachLookInto, EachLookNext, Ends, IfMatched, IsTarget, MayLook, MayLookInto, MayLookNext};
@@ -26,11 +26,11 @@ use coercion_terms::{fields_part, meta_part, same_part};
 use omega_kinds::{Effect, Kind, Kinds, Label, Mem, Name, same_kind};
 use omega_terms::{Term, TermFields};
 use omega_types::Ty;
-use root_paths::roots;
 use semantic_sigs::{
     Abs, Item, Path, Sig, SigFields, SigNode, Why, Witnesses, encode, encode_sig, field,
     find_field, raise_abs,
 };
+use sig_roots::roots;
 use std::alloc::Global;
 use type_normal::{NormalTy, same};
 

@@ -1,4 +1,9 @@
-pub mod Paths
-pub mod Refining
-pub mod Verdicts
-pub mod WhereVerdict
+pub mod Declared
+pub mod Fixing
+pub mod Following
+pub mod Including
+pub mod Lists
+pub mod Merging
+pub mod NameKeys
+pub mod Naming
+pub mod Putting

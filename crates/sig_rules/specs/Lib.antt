@@ -1,4 +1,2 @@
-pub mod OneOutcome
-pub mod Refinement
-pub mod SigRules
-pub mod SigWhy
+pub mod Hidden
+pub mod Plain

@@ -1,22 +1,19 @@
-// The rules of signatures and declarations: what each makes of premises that are elaborated already, and how it is refused.
-// Specifications and their laws only; the calls that follow them stand in a crate of their own above.
-// Stands on signatures and premise_laws.
-// Proved: each rule has exactly one conclusion or exactly one refusal (`signature_rules`).
+// The rules of signatures and declarations in code: each call gives the conclusion of its rule out of premises that are
+// handed in, or the refusal of the first condition that fails. And sets of names, as of those declared before.
+// Stands on sig_judgments, whose definitions say what is given and what is refused, and on semantic_sigs, in whose handles it
+// works.
+// Proved: what a call gives is the conclusion of its rule, and each refusal is one of its rule; want of memory alone is free.
 #![tactic(auto)]
 
-ghost use Rattle.sig_rules.specs.OneOutcome.{OneValue, OneType, OneAbstract, OneModule, OneSignature, OneInclude, OneDistinct, OneDeclarations, OneGenerative, OneWhere};
+mod declarations;
+mod hidden;
+mod name_set;
+mod refinement;
+mod refusal;
+mod sequences;
 
-/// Each rule of signatures and declarations gives exactly one signature, or has exactly one refusal, its first condition
-/// that fails; those that are never refused give exactly one.
-pub fn signature_rules()
-    ensures value { OneValue }
-    ensures type_ { OneType }
-    ensures hidden { OneAbstract }
-    ensures module_ { OneModule }
-    ensures signature { OneSignature }
-    ensures include { OneInclude }
-    ensures distinct { OneDistinct }
-    ensures declarations { OneDeclarations }
-    ensures generative { OneGenerative }
-    ensures where_type { OneWhere }
-{}
+pub use declarations::{decl_is, decl_meta, decl_module, decl_of, decl_val, functor_sig, include};
+pub use name_set::NameSet;
+pub use refinement::where_type;
+pub use refusal::SigRefusal;
+pub use sequences::{distinct, seq_decl};

@@ -2,8 +2,8 @@
 use Rattle.std.specs.Prelude.{ℕ, max, Bool as Truth, true, false, ◌&&◌, Option, Some, None}
 use Rattle.omega_scopes.specs.Scoped.{ty_scoped}
 use Rattle.omega_scopes.specs.Depth.{ty_depth}
-use Rattle.signatures.specs.Matching.MatchRefusal.{Why}
-use Rattle.fing_refusals.specs.Refusal.{ElabWhy}
+use Rattle.sig_definitions.specs.Matching.MatchRefusal.{Why}
+use Rattle.refusal_reasons.specs.Refusal.{ElabWhy}
 
 abbrev pub clash_scoped : ℕ → Why → Truth
 clash_scoped n (Why.Types t u) = ty_scoped n t && ty_scoped n u

@@ -1,7 +1,7 @@
 -- How many binders stand one in another, at most, in a signature and its types.
 use Rattle.std.specs.Prelude.{ℕ, ◌+◌, max, length}
 use Rattle.omega_scopes.specs.Depth.{ty_depth}
-use Rattle.signatures.specs.Signatures.Sig.{Sig, Abs, SigRow}
+use Rattle.sig_definitions.specs.Signatures.Sig.{Sig, Abs, SigRow}
 
 abbrev mutual
   pub sig_depth : Sig → ℕ

@@ -1,7 +1,7 @@
 -- Whether the variables of a signature are in scope, and below each list of binders the number in scope is one of 64 bits.
 use Rattle.std.specs.Prelude.{ℕ, ◌+◌, Bool as Truth, true, ◌&&◌, length}
 use Rattle.omega_scopes.specs.Scoped.{fits, ty_scoped}
-use Rattle.signatures.specs.Signatures.Sig.{Sig, Abs, SigRow}
+use Rattle.sig_definitions.specs.Signatures.Sig.{Sig, Abs, SigRow}
 
 abbrev mutual
   pub sig_scoped : ℕ → Sig → Truth

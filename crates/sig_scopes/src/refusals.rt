@@ -1,12 +1,12 @@
 // Whether the types of refusals are in scope.
 ghost use Rattle.std.specs.Prelude.{◌≡◌, ◌+◌, ◌^◌, ◌<◌, ◌&&◌, IsTrue};
 ghost use Rattle.omega_scopes.specs.Scoped.{ty_scoped};
-ghost use Rattle.refusal_lines.specs.InScope.{HasLine};
-ghost use Rattle.refusal_lines.specs.Plain.{plain_clash, plain_reason, plain_refusal};
+ghost use Rattle.fing_refusals.specs.InScope.{HasLine};
+ghost use Rattle.fing_refusals.specs.Plain.{plain_clash, plain_reason, plain_refusal};
 ghost use Rattle.sig_scopes.specs.ReasonScoped.{clash_scoped, given_scoped, given_depth};
 
+use fing_refusals::{ElabWhy, Refusal};
 use omega_scopes::ty_in_scope;
-use refusal_lines::{ElabWhy, Refusal};
 use semantic_sigs::Why;
 use type_normal::{NormalTy, plain};
 

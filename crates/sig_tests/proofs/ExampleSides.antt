@@ -5,11 +5,11 @@ use Rattle.omega_kinds.specs.Kind.{Kind}
 use Rattle.omega_types.specs.Kinding.{here}
 use Rattle.omega_types.specs.Kinding.HasKind.{k_var, k_int}
 use Rattle.omega_types.specs.Normality.{n_int, n_neutral, n_var}
-use Rattle.signatures.specs.Env.{Env, kinds}
-use Rattle.signatures.specs.Signatures.Sig.{Sig, Abs}
-use Rattle.signatures.specs.Explicit.WellFormed.{WellFormed, WellFormedRow, WellFormedAbs, explicit, in_str, in_more, in_typ, in_end}
-use Rattle.match_laws.specs.Examples.{with_int, with_nothing, hides_t}
-use Rattle.match_laws.proofs.ExampleProofs.{body_t, roots_t}
+use Rattle.sig_definitions.specs.Env.{Env, kinds}
+use Rattle.sig_definitions.specs.Signatures.Sig.{Sig, Abs}
+use Rattle.sig_definitions.specs.Explicit.WellFormed.{WellFormed, WellFormedRow, WellFormedAbs, explicit, in_str, in_more, in_typ, in_end}
+use Rattle.sig_match_laws.specs.Examples.{with_int, with_nothing, hides_t}
+use Rattle.sig_match_laws.proofs.ExampleProofs.{body_t, roots_t}
 use Rattle.sig_laws.specs.Good.{OkSig, OkAbs, OkRight}
 
 well_t : WellFormed (Kind.Star ∷ []) body_t

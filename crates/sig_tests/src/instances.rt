@@ -3,9 +3,9 @@ use crate::literals::closed;
 use crate::term_texts::{below, has_text, term};
 use omega_kinds::{Kind, Mem};
 use omega_terms::{Term, TermNode};
+use sig_instances::instance;
 use std::alloc::Global;
 use std::test::Fail;
-use term_instances::instance;
 use type_normal::{NormalTy, as_normal};
 
 // in one type variable outside, two variables that get types

@@ -2,10 +2,10 @@
 ghost use Rattle.std.specs.Prelude.{IsTrue};
 ghost use Rattle.semantic_sigs.specs.Fields.{MayFollow};
 
+use fing_refusals::ElabWhy;
 use omega_kinds::{Effect, Kind, Kinds, Mem, Name, arrow, name_of};
 use omega_read::read;
 use omega_types::{Ty, TyNode};
-use refusal_lines::ElabWhy;
 use semantic_sigs::{Abs, Item, Path, Sig, SigFields, SigNode, Why};
 use std::alloc::Global;
 use std::test::Fail;

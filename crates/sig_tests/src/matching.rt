@@ -1,8 +1,8 @@
 // A type that is found, one that is not, and a signature against itself.
 ghost use Rattle.std.specs.Prelude.{◌≡◌, [], ◌∷◌, IfOk};
 ghost use Rattle.omega_kinds.specs.Kind.{Star};
-ghost use Rattle.signatures.specs.Signatures.Sig.{Sig as SigTree, SigRow};
-ghost use Rattle.match_laws.specs.Examples.{name_t, with_int as with_int_of, with_nothing as with_nothing_of, hides_t as hides_t_of};
+ghost use Rattle.sig_definitions.specs.Signatures.Sig.{Sig as SigTree, SigRow};
+ghost use Rattle.sig_match_laws.specs.Examples.{name_t, with_int as with_int_of, with_nothing as with_nothing_of, hides_t as hides_t_of};
 
 use omega_kinds::{Kind, Kinds, Mem, Name, name_of};
 use omega_types::{Ty, TyNode};

@@ -4,8 +4,8 @@ use crate::literals::SigLit::{Fun, Str, Typ};
 use crate::literals::TyLit::{Apply, Closed, Var};
 use crate::literals::{Ex, abs};
 use omega_kinds::Effect::Pure;
-use root_paths::roots;
 use semantic_sigs::{Item, Path};
+use sig_roots::roots;
 use std::test::Fail;
 
 fn goes(item: &Item, step: u8) -> bool {

@@ -3,9 +3,9 @@ use crate::literals::KindLit::Star;
 use crate::literals::SigLit::{Fun, Str, Typ};
 use crate::literals::TyLit::Var;
 use crate::literals::{ClashLit, Ex, WhyLit, abs, why};
+use fing_refusals::Refusal;
 use fing_text::Span;
 use omega_kinds::Effect::Pure;
-use refusal_lines::Refusal;
 use sig_scopes::{abs_in_scope, refusal_in_scope};
 use std::test::Fail;
 

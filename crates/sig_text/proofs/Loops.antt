@@ -7,7 +7,7 @@ use Rattle.omega_kinds.specs.Name.{Name}
 use Rattle.omega_kinds.specs.View.{kind_tree}
 use Rattle.omega_kinds.specs.declared.kind.Kind.{Kind as SharedKind}
 use Rattle.omega_terms.specs.KindText.{kind_text}
-use Rattle.signatures.specs.Signatures.Sig.{Sig}
+use Rattle.sig_definitions.specs.Signatures.Sig.{Sig}
 use Rattle.semantic_sigs.specs.Fields.{SigPairs, sig_row}
 use Rattle.semantic_sigs.specs.Size.{sig_nodes, abs_nodes, sig_row_nodes}
 use Rattle.sig_text.specs.declared.trees.Piece.{Piece}

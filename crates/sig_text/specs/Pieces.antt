@@ -6,7 +6,7 @@ use Rattle.omega_kinds.specs.View.{kind_tree}
 use Rattle.omega_terms.specs.InScope.{TyInScope}
 use Rattle.omega_terms.specs.KindText.{kind_text}
 use Rattle.omega_terms.specs.TypeText.{ty_text}
-use Rattle.signatures.specs.Signatures.Sig.{Sig}
+use Rattle.sig_definitions.specs.Signatures.Sig.{Sig}
 use Rattle.semantic_sigs.specs.Fields.{sig_row}
 use Rattle.sig_text.specs.declared.trees.Piece.{Piece}
 use Rattle.sig_text.specs.declared.trees.Piece.TheVariants as piece

@@ -1,7 +1,7 @@
 -- Signatures whose type variables are in scope, and have levels that are numbers of 64 bits.
 use Rattle.std.specs.Prelude.{ℕ, ◌+◌, ◌^◌, ◌<◌, length}
 use Rattle.omega_terms.specs.InScope.{TyInScope}
-use Rattle.signatures.specs.Signatures.Sig.{Sig, Abs, SigRow}
+use Rattle.sig_definitions.specs.Signatures.Sig.{Sig, Abs, SigRow}
 
 -- a signature with n type variables in scope; below each list of binders the number in scope has 64 bits too
 abbrev mutual

@@ -6,7 +6,7 @@ use Rattle.omega_kinds.specs.declared.effect.Effect.{Effect}
 use Rattle.omega_kinds.specs.declared.effect.Effect.TheVariants.{Pure, Impure}
 use Rattle.omega_terms.specs.KindText.{kind_text}
 use Rattle.omega_terms.specs.TypeText.{ty_text}
-use Rattle.signatures.specs.Signatures.Sig.{Sig, Abs, SigRow}
+use Rattle.sig_definitions.specs.Signatures.Sig.{Sig, Abs, SigRow}
 
 -- each further kind has a space before it
 abbrev pub more_kinds_text : List Kind → List ℕ

@@ -6,15 +6,15 @@ use Rattle.omega_kinds.specs.declared.effect.Effect.TheVariants.{Pure, Impure}
 use Rattle.omega_kinds.specs.Name.{Name}
 use Rattle.omega_types.specs.Ty.{Ty}
 use Rattle.omega_terms.specs.Term.{Term}
-use Rattle.signatures.specs.Signatures.Sig.{Abs, Module}
-use Rattle.signatures.specs.Env.{Env}
+use Rattle.sig_definitions.specs.Signatures.Sig.{Abs, Module}
+use Rattle.sig_definitions.specs.Env.{Env}
 use Rattle.fing_syntax.specs.Phrase.{Span, Mod, Bind, BindAt, BindInclude, Binds, SigEx, Decl, Decls, TyEx, TyExs, FieldTyExs, Exp, OpExps, Args, FieldExps}
-use Rattle.core_rules.specs.TypeRules.{FieldTy, ArrowGives, AppliedGives}
-use Rattle.core_rules.specs.ExpRules.{FieldExp, FunctionGives, CallGives, InstanceGives, GetGives, IfGives, OperationGives, FixGives}
-use Rattle.elab_rules.specs.Judgments.Meaning.{TyMeans, ArgTysMean, FieldTysMean, ExpMeans, OpsMean, ArgsMean, FieldExpsMean, SigMeans, DeclMeans, DeclsMean, ModMeans, BindMeans, BindsMean}
-use Rattle.elab_rules.specs.Refusals.Task.{Task, Result, Means, a_type, type_args, type_fields, an_exp, operands, args, fields, a_sig, a_decl, decls, a_mod, a_bind, binds}
-use Rattle.elab_rules.specs.Refusals.Rule.{Runs}
-use Rattle.elab_rules.specs.Refusals.Steps.{steps, type_steps, type_args_steps, type_fields_steps, exp_steps, operands_steps, args_steps, fields_steps, sig_steps, decl_steps, decls_steps, mod_steps, bind_steps, binds_steps}
+use Rattle.core_judgments.specs.TypeRules.{FieldTy, ArrowGives, AppliedGives}
+use Rattle.core_judgments.specs.ExpRules.{FieldExp, FunctionGives, CallGives, InstanceGives, GetGives, IfGives, OperationGives, FixGives}
+use Rattle.elab_judgments.specs.Judgments.Meaning.{TyMeans, ArgTysMean, FieldTysMean, ExpMeans, OpsMean, ArgsMean, FieldExpsMean, SigMeans, DeclMeans, DeclsMean, ModMeans, BindMeans, BindsMean}
+use Rattle.elab_judgments.specs.Refusals.Task.{Task, Result, Means, a_type, type_args, type_fields, an_exp, operands, args, fields, a_sig, a_decl, decls, a_mod, a_bind, binds}
+use Rattle.elab_judgments.specs.Refusals.Rule.{Runs}
+use Rattle.elab_judgments.specs.Refusals.Steps.{steps, type_steps, type_args_steps, type_fields_steps, exp_steps, operands_steps, args_steps, fields_steps, sig_steps, decl_steps, decls_steps, mod_steps, bind_steps, binds_steps}
 
 type-runs : {g : Env} {a : TyEx} {t : Ty} {k : Kind} → TyMeans g a t k → Runs (type_steps g a) (t, k)
 type-runs (TyMeans.ty_path p r) = (_, p, (_, r, refl))

@@ -2,13 +2,13 @@
 use Rattle.std.specs.Prelude.{◌≡◌, ◌⊎◌}
 use Rattle.std.proofs.Common.{inl, inr}
 use Rattle.std.proofs.Math.Path.{refl, sym, subst}
-use Rattle.signatures.specs.Env.{Env}
-use Rattle.fing_refusals.specs.Refusal.{Refusal}
-use Rattle.signatures.specs.Verdict.{Verdict, holds, refuses, One, Perhaps, one, none}
-use Rattle.elab_rules.specs.Refusals.Task.{Task, Result, Means}
-use Rattle.elab_rules.specs.Refusals.Rule.{Rule, Runs, Fails, Enters}
-use Rattle.elab_rules.specs.Refusals.Steps.{steps}
-use Rattle.elab_rules.specs.Refusals.Refused.{Refused}
+use Rattle.sig_definitions.specs.Env.{Env}
+use Rattle.refusal_reasons.specs.Refusal.{Refusal}
+use Rattle.sig_definitions.specs.Verdict.{Verdict, holds, refuses, One, Perhaps, one, none}
+use Rattle.elab_judgments.specs.Refusals.Task.{Task, Result, Means}
+use Rattle.elab_judgments.specs.Refusals.Rule.{Rule, Runs, Fails, Enters}
+use Rattle.elab_judgments.specs.Refusals.Steps.{steps}
+use Rattle.elab_judgments.specs.Refusals.Refused.{Refused}
 
 -- a refusal of the rule, at whichever step
 abbrev pub Stops : {A : Type 0} → Rule A → Refusal → Type 0

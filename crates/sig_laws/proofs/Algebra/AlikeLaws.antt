@@ -8,11 +8,11 @@ use Rattle.omega_types.specs.Normalises.{NormalForm, Maps}
 use Rattle.omega_types.specs.Binders.{extend, lifts, unders}
 use Rattle.omega_types.proofs.Preservation.{Substitutes, Convertible, conv-kinds, normal-kind, conv-substitute, substitute-convertible, normal-rename}
 use Rattle.omega_types.proofs.Hereditary.{normal-gives}
-use Rattle.signatures.specs.Signatures.Sig.{Sig, Abs, SigRow}
-use Rattle.signatures.specs.Signatures.SigSubst.{rename_sig, rename_abs, rename_sig_row, substitute_sig, substitute_abs, substitute_sig_row}
+use Rattle.sig_definitions.specs.Signatures.Sig.{Sig, Abs, SigRow}
+use Rattle.sig_definitions.specs.Signatures.SigSubst.{rename_sig, rename_abs, rename_sig_row, substitute_sig, substitute_abs, substitute_sig_row}
 use Rattle.sig_laws.specs.NormalSig.{normal_sig, normal_abs, normal_sig_row}
-use Rattle.signatures.specs.Signatures.Alike.{Between, AlikeSig, AlikeAbs, AlikeRow, val, typ, meta, str, fun, ex, end, more, ConvBetween, ConvSig, ConvAbs, NormalSigForm, NormalAbsForm, NormalSig, NormalAbs, NormalSigRow}
-use Rattle.signatures.specs.Signatures.SigMentions.{MentionsSig, Avoids, by_normal_form}
+use Rattle.sig_definitions.specs.Signatures.Alike.{Between, AlikeSig, AlikeAbs, AlikeRow, val, typ, meta, str, fun, ex, end, more, ConvBetween, ConvSig, ConvAbs, NormalSigForm, NormalAbsForm, NormalSig, NormalAbs, NormalSigRow}
+use Rattle.sig_definitions.specs.Signatures.SigMentions.{MentionsSig, Avoids, by_normal_form}
 use Rattle.sig_laws.proofs.Algebra.BinderLaws.{unders-convertible}
 use Rattle.omega_types.proofs.BinderPuts.{form-is, lifts-maps}
 use Rattle.sig_laws.proofs.Algebra.SigAlgebra.{substitute-vars_sig, substitute-vars_abs, substitute-vars_row}

@@ -3,8 +3,8 @@ use Rattle.std.specs.Prelude.{List, [], ◌∷◌, ◌≡◌}
 use Rattle.std.proofs.Math.Path.{refl, subst}
 use Rattle.omega_kinds.specs.Kind.{Kind}
 use Rattle.omega_types.specs.Binders.{extend}
-use Rattle.signatures.specs.Signatures.Sig.{Module}
-use Rattle.signatures.specs.Env.{Env, Entry, kinds, type_vars}
+use Rattle.sig_definitions.specs.Signatures.Sig.{Module}
+use Rattle.sig_definitions.specs.Env.{Env, Entry, kinds, type_vars}
 use Rattle.sig_laws.specs.Good.{OkModule}
 
 pub kinds-type_vars : (g : Env) (ks : List Kind) → kinds (type_vars g ks) ≡ extend (kinds g) ks

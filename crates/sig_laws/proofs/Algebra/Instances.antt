@@ -11,9 +11,9 @@ use Rattle.omega_types.specs.Normaliser.{normal}
 use Rattle.omega_types.specs.Binders.{extend, past, puts, OfKinds, NormalForms}
 use Rattle.omega_types.proofs.Preservation.{Substitutes}
 use Rattle.omega_types.proofs.Hereditary.{normal-gives}
-use Rattle.signatures.specs.Signatures.Sig.{Sig, Abs}
-use Rattle.signatures.specs.Signatures.SigSubst.{substitute_sig, substitute_abs, raise_sig, raise_abs, sig_at, abs_at}
-use Rattle.signatures.specs.Signatures.Alike.{ConvSig, NormalSigForm}
+use Rattle.sig_definitions.specs.Signatures.Sig.{Sig, Abs}
+use Rattle.sig_definitions.specs.Signatures.SigSubst.{substitute_sig, substitute_abs, raise_sig, raise_abs, sig_at, abs_at}
+use Rattle.sig_definitions.specs.Signatures.Alike.{ConvSig, NormalSigForm}
 use Rattle.sig_laws.proofs.Algebra.BinderLaws.{puts-past, past-length}
 use Rattle.sig_laws.proofs.Algebra.SigAlgebra.{substitute-rename_sig, substitute-rename_abs, substitute_sig-id, substitute_abs-id}
 use Rattle.sig_laws.proofs.Algebra.AlikeLaws.{conv_sig-sym, conv-form_sig, conv_sig-substitute}

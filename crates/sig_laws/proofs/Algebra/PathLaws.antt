@@ -6,10 +6,10 @@ use Rattle.omega_kinds.specs.declared.effect.Effect.TheVariants.{Pure}
 use Rattle.omega_kinds.specs.Name.{Name}
 use Rattle.omega_types.specs.Ty.{Ty}
 use Rattle.omega_types.specs.Binders.{extend, unders}
-use Rattle.signatures.specs.Signatures.Sig.{Sig, Abs, SigRow, HasField, here, there, NoField}
-use Rattle.signatures.specs.Signatures.SigSubst.{substitute_sig, substitute_sig_row}
-use Rattle.signatures.specs.Signatures.Alike.{Between, AlikeSig, AlikeRow, str, fun, ex, end, more, NormalSig, NormalSigRow}
-use Rattle.signatures.specs.Explicit.SigPath.{SigPath, Item, PartAt, ParamOn}
+use Rattle.sig_definitions.specs.Signatures.Sig.{Sig, Abs, SigRow, HasField, here, there, NoField}
+use Rattle.sig_definitions.specs.Signatures.SigSubst.{substitute_sig, substitute_sig_row}
+use Rattle.sig_definitions.specs.Signatures.Alike.{Between, AlikeSig, AlikeRow, str, fun, ex, end, more, NormalSig, NormalSigRow}
+use Rattle.sig_definitions.specs.Explicit.SigPath.{SigPath, Item, PartAt, ParamOn}
 use Rattle.sig_laws.proofs.Algebra.BinderLaws.{extend-append, unders-append}
 
 -- fields

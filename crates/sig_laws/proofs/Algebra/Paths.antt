@@ -4,11 +4,11 @@ use Rattle.std.proofs.Math.Path.{refl, sym, ap, ap₂, subst}
 use Rattle.omega_kinds.specs.Kind.{Kind}
 use Rattle.omega_kinds.specs.Name.{Name}
 use Rattle.omega_types.specs.Ty.{Ty}
-use Rattle.signatures.specs.Signatures.Sig.{Sig}
-use Rattle.signatures.specs.Explicit.SigPath.{Item, SigPath, by_name, PathBefore, first, later, PartAt}
+use Rattle.sig_definitions.specs.Signatures.Sig.{Sig}
+use Rattle.sig_definitions.specs.Explicit.SigPath.{Item, SigPath, by_name, PathBefore, first, later, PartAt}
 use Rattle.sig_laws.proofs.Algebra.PathLaws.{one-field}
 use Rattle.sig_laws.proofs.Algebra.Names.{Compared, before, after, same, NameBefore, compare-names}
-use Rattle.signatures.specs.Explicit.RootPath.{Rooted, at, root_path, root_of, LeastRoot, least}
+use Rattle.sig_definitions.specs.Explicit.RootPath.{Rooted, at, root_path, root_of, LeastRoot, least}
 use Rattle.std.proofs.Math.Logic.{inl, inr}
 
 pub same_name_of : {l m : Name} {p q : SigPath} → Item.Part l ∷ p ≡ Item.Part m ∷ q → l ≡ m

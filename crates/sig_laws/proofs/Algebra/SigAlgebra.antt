@@ -5,8 +5,8 @@ use Rattle.omega_types.specs.Ty.{Ty}
 use Rattle.omega_types.specs.Substitution.{rename, substitute}
 use Rattle.omega_types.specs.Binders.{lifts, unders}
 use Rattle.omega_types.proofs.Algebra.{rename-rename, substitute-rename, rename-substitute, substitute-substitute, substitute-vars, rename-id}
-use Rattle.signatures.specs.Signatures.Sig.{Sig, Abs, SigRow}
-use Rattle.signatures.specs.Signatures.SigSubst.{rename_sig, rename_abs, rename_sig_row, substitute_sig, substitute_abs, substitute_sig_row}
+use Rattle.sig_definitions.specs.Signatures.Sig.{Sig, Abs, SigRow}
+use Rattle.sig_definitions.specs.Signatures.SigSubst.{rename_sig, rename_abs, rename_sig_row, substitute_sig, substitute_abs, substitute_sig_row}
 use Rattle.sig_laws.proofs.Algebra.BinderLaws.{lifts-lifts, lifts-unders, unders-unders, unders-vars, lifts-id}
 use Rattle.omega_types.proofs.BinderPuts.{unders-lifts}
 

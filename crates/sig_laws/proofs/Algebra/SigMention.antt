@@ -9,10 +9,10 @@ use Rattle.omega_types.specs.Substitution.{rename, rename_row, substitute, subst
 use Rattle.omega_types.specs.Mentions.{Mentions, Mentions_row, m_var, m_from, m_to, m_fields, m_all, m_ex, m_lam, m_operator, m_arg, m_part, m_rest}
 use Rattle.omega_types.specs.Binders.{past, unders}
 use Rattle.omega_types.proofs.Mention.{unmentioned}
-use Rattle.signatures.specs.Signatures.Sig.{Sig, Abs, SigRow}
-use Rattle.signatures.specs.Signatures.SigSubst.{substitute_sig, substitute_abs, substitute_sig_row}
-use Rattle.signatures.specs.Signatures.SigMentions.{MentionsSig, MentionsAbs, MentionsRow}
-use Rattle.signatures.specs.Signatures.Alike.{AlikeRow, val, typ, meta, str, fun, ex, end, more, ConvBetween, ConvSig, ConvAbs, NormalSig, NormalAbs, NormalSigRow}
+use Rattle.sig_definitions.specs.Signatures.Sig.{Sig, Abs, SigRow}
+use Rattle.sig_definitions.specs.Signatures.SigSubst.{substitute_sig, substitute_abs, substitute_sig_row}
+use Rattle.sig_definitions.specs.Signatures.SigMentions.{MentionsSig, MentionsAbs, MentionsRow}
+use Rattle.sig_definitions.specs.Signatures.Alike.{AlikeRow, val, typ, meta, str, fun, ex, end, more, ConvBetween, ConvSig, ConvAbs, NormalSig, NormalAbs, NormalSigRow}
 
 -- substitutions that agree on what a type mentions
 

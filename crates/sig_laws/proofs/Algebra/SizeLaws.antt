@@ -5,10 +5,10 @@ use Rattle.std.proofs.Math.Path.{refl, ap, ap₂, sym}
 use Rattle.omega_kinds.specs.Kind.{Kind}
 use Rattle.omega_kinds.specs.Name.{Name}
 use Rattle.omega_types.specs.Ty.{Ty}
-use Rattle.signatures.specs.Signatures.Sig.{Sig, Abs, SigRow, HasField, here, there}
-use Rattle.signatures.specs.Signatures.SigSubst.{rename_abs, substitute_sig, substitute_abs}
-use Rattle.signatures.specs.Signatures.Alike.{Between, AlikeSig, AlikeAbs, AlikeRow, val, typ, meta, str, fun, ex, end, more}
-use Rattle.signatures.specs.Signatures.SigSize.{size, size_abs, size_row}
+use Rattle.sig_definitions.specs.Signatures.Sig.{Sig, Abs, SigRow, HasField, here, there}
+use Rattle.sig_definitions.specs.Signatures.SigSubst.{rename_abs, substitute_sig, substitute_abs}
+use Rattle.sig_definitions.specs.Signatures.Alike.{Between, AlikeSig, AlikeAbs, AlikeRow, val, typ, meta, str, fun, ex, end, more}
+use Rattle.sig_definitions.specs.Signatures.SigSize.{size, size_abs, size_row}
 use Rattle.sig_laws.proofs.Algebra.AlikeLaws.{alike-substitute, alike_abs-substitute, alike_abs-rename}
 
 mutual

@@ -19,11 +19,11 @@ use Rattle.omega_terms.specs.Shorthands.{insts, ty_lam_over}
 use Rattle.omega_terms.proofs.NormalTyping.{Typed, TypedFields, cast, recast, typed-more}
 use Rattle.omega_terms.proofs.NormalInstance.{form_at, shifts-raise}
 use Rattle.omega_terms.proofs.TypedShorthands.{typed-ty_lam_over, typed-insts, typed-packs, typed-opens, opened, at-opened}
-use Rattle.signatures.specs.Signatures.Sig.{Sig, Abs, SigRow}
-use Rattle.signatures.specs.Signatures.SigSubst.{rename_sig, sig_at, abs_at_under, substitute_abs}
-use Rattle.signatures.specs.Signatures.Alike.{NormalSigForm, NormalAbsForm, NormalSigRow}
-use Rattle.signatures.specs.Signatures.Encoding.{one_part, enc, enc_abs, enc_row}
-use Rattle.signatures.specs.Matching.Subtyping.{Sub, SubFields, SubResult, SubAbs, Match}
+use Rattle.sig_definitions.specs.Signatures.Sig.{Sig, Abs, SigRow}
+use Rattle.sig_definitions.specs.Signatures.SigSubst.{rename_sig, sig_at, abs_at_under, substitute_abs}
+use Rattle.sig_definitions.specs.Signatures.Alike.{NormalSigForm, NormalAbsForm, NormalSigRow}
+use Rattle.sig_definitions.specs.Signatures.Encoding.{one_part, enc, enc_abs, enc_row}
+use Rattle.sig_definitions.specs.Matching.Subtyping.{Sub, SubFields, SubResult, SubAbs, Match}
 use Rattle.sig_laws.proofs.Encoded.EncodingTyping.{ShapeAbs, ShapeRow, shape-substitute, shape-alike, shape_abs-substitute, shape_abs-alike, fresh-row, enc-normal, enc_abs-normal, enc-form, enc_abs-form, Good, GoodAbs, good-rename, good-normal, good_abs-normal, good-field, enc-field, one_part-normal}
 use Rattle.omega_types.proofs.Inverse.{same-normal}
 use Rattle.sig_laws.proofs.Encoded.EncodingLaws.{enc-rename, enc-substitute, enc_abs-substitute}

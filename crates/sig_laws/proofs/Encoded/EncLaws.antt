@@ -3,9 +3,9 @@ use Rattle.std.specs.Prelude.{List}
 use Rattle.omega_kinds.specs.Kind.{Kind}
 use Rattle.omega_types.specs.Kinding.{HasKind}
 use Rattle.omega_types.proofs.Preservation.{conv-kinds}
-use Rattle.signatures.specs.Signatures.Sig.{Sig, Abs}
-use Rattle.signatures.specs.Signatures.Encoding.{enc, enc_abs}
-use Rattle.signatures.specs.Explicit.WellFormed.{WellFormed, WellFormedAbs, Explicit}
+use Rattle.sig_definitions.specs.Signatures.Sig.{Sig, Abs}
+use Rattle.sig_definitions.specs.Signatures.Encoding.{enc, enc_abs}
+use Rattle.sig_definitions.specs.Explicit.WellFormed.{WellFormed, WellFormedAbs, Explicit}
 use Rattle.sig_laws.proofs.Formed.WellFormedLaws.{well_formed-kinds, well_formed_abs-kinds, explicit-kinds}
 use Rattle.sig_laws.proofs.Encoded.EncodingLaws.{enc-conv, enc_well_formed-conv, enc_abs-conv}
 

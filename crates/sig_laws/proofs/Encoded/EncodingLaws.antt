@@ -16,12 +16,12 @@ use Rattle.omega_types.proofs.Algebra.{substitute-weaken, substitute-vars, singl
 use Rattle.omega_types.proofs.Inverse.{same-normal}
 use Rattle.omega_types.proofs.LawProofs.{normal_of_normal}
 use Rattle.omega_terms.specs.Coercions.{result_label}
-use Rattle.signatures.specs.Signatures.Sig.{Sig, Abs, SigRow}
-use Rattle.signatures.specs.Signatures.SigSubst.{rename_sig, rename_abs, substitute_sig, substitute_abs, substitute_sig_row}
-use Rattle.signatures.specs.Signatures.Encoding.{one_part, shown_type, enc, enc_abs, enc_row}
+use Rattle.sig_definitions.specs.Signatures.Sig.{Sig, Abs, SigRow}
+use Rattle.sig_definitions.specs.Signatures.SigSubst.{rename_sig, rename_abs, substitute_sig, substitute_abs, substitute_sig_row}
+use Rattle.sig_definitions.specs.Signatures.Encoding.{one_part, shown_type, enc, enc_abs, enc_row}
 use Rattle.sig_laws.specs.NormalSig.{normal_sig}
-use Rattle.signatures.specs.Signatures.Alike.{ConvSig, ConvAbs, NormalSig, NormalAbs}
-use Rattle.signatures.specs.Explicit.WellFormed.{WellFormed, WellFormedAbs, Explicit}
+use Rattle.sig_definitions.specs.Signatures.Alike.{ConvSig, ConvAbs, NormalSig, NormalAbs}
+use Rattle.sig_definitions.specs.Explicit.WellFormed.{WellFormed, WellFormedAbs, Explicit}
 use Rattle.sig_laws.proofs.Algebra.SigAlgebra.{substitute-vars_sig, substitute-vars_abs}
 use Rattle.sig_laws.proofs.Algebra.AlikeLaws.{form-conv_sig, form_sig-normal, conv_sig-gives, same-conv_sig}
 use Rattle.sig_laws.proofs.Formed.WellFormedLaws.{well_formed-kinds, well_formed-conv}

@@ -21,10 +21,10 @@ use Rattle.omega_types.proofs.Preservation.{maps-suc, conv-rename, normal-rename
 use Rattle.omega_types.proofs.BinderPuts.{all_over-normal, ex_over-normal, conv-all_over, conv-ex_over}
 use Rattle.omega_terms.specs.Typing.{HasPart}
 use Rattle.omega_terms.specs.Coercions.{result_label}
-use Rattle.signatures.specs.Signatures.Sig.{Sig, Abs, SigRow, HasField, NoField}
-use Rattle.signatures.specs.Signatures.SigSubst.{rename_sig, rename_abs, rename_sig_row, substitute_sig, substitute_abs}
-use Rattle.signatures.specs.Signatures.Alike.{Between, AlikeSig, AlikeAbs, AlikeRow, NormalSigForm, NormalAbsForm, NormalSig, NormalAbs, NormalSigRow}
-use Rattle.signatures.specs.Signatures.Encoding.{enc, enc_abs, enc_row, one_part, shown_type}
+use Rattle.sig_definitions.specs.Signatures.Sig.{Sig, Abs, SigRow, HasField, NoField}
+use Rattle.sig_definitions.specs.Signatures.SigSubst.{rename_sig, rename_abs, rename_sig_row, substitute_sig, substitute_abs}
+use Rattle.sig_definitions.specs.Signatures.Alike.{Between, AlikeSig, AlikeAbs, AlikeRow, NormalSigForm, NormalAbsForm, NormalSig, NormalAbs, NormalSigRow}
+use Rattle.sig_definitions.specs.Signatures.Encoding.{enc, enc_abs, enc_row, one_part, shown_type}
 use Rattle.sig_laws.specs.Good.{Distinct, DistinctAbs, DistinctRow}
 use Rattle.sig_laws.proofs.Algebra.AlikeLaws.{form_sig-normal, form_abs-normal, normal_sig-rename, alike-sym_abs, alike-substitute, alike_abs-substitute, alike-rename, alike_abs-rename, alike_row-rename}
 use Rattle.omega_types.specs.Substitution.{rename}

@@ -17,10 +17,10 @@ use Rattle.omega_terms.specs.PartTerms.{value_term, type_term}
 use Rattle.omega_types.specs.Normality.Normal.{n_neutral}
 use Rattle.omega_terms.proofs.NormalTyping.{Typed, TypedFields, cast, typed-under, typed-vars, AllNormal, all-shift}
 use Rattle.omega_terms.proofs.NormalInstance.{shifts}
-use Rattle.signatures.specs.Signatures.Sig.{Sig, SigRow}
-use Rattle.signatures.specs.Signatures.Alike.{NormalSigRow}
-use Rattle.signatures.specs.Signatures.Encoding.{one_part, shown_type, enc}
-use Rattle.signatures.specs.Env.{Entry, Env, kinds, types, past_type, past_term, type_param, find, type_vars, with_module, named_fields}
+use Rattle.sig_definitions.specs.Signatures.Sig.{Sig, SigRow}
+use Rattle.sig_definitions.specs.Signatures.Alike.{NormalSigRow}
+use Rattle.sig_definitions.specs.Signatures.Encoding.{one_part, shown_type, enc}
+use Rattle.sig_definitions.specs.Env.{Entry, Env, kinds, types, past_type, past_term, type_param, find, type_vars, with_module, named_fields}
 use Rattle.sig_laws.proofs.Encoded.EncodingTyping.{Good, good-rename, good-normal, ShapeRow}
 use Rattle.sig_laws.proofs.Encoded.EncodingLaws.{enc-rename}
 use Rattle.sig_laws.proofs.Algebra.FormLaws.{kinds-type_vars}

@@ -20,11 +20,11 @@ use Rattle.omega_types.proofs.LawProofs.{normal_of_normal}
 use Rattle.omega_types.proofs.BinderPuts.{Fits, NormalTypes, types-fit, types-substitute, fits-length, puts-past, puts-map, unders-lifts, unders-var, substitute-applied, applied-lam_over, lam_over-normal, substitute-all_over, normal-all_over, placed, Placed, form-is}
 use Rattle.omega_terms.proofs.NormalInstance.{form_at}
 use Rattle.omega_terms.proofs.TypedShorthands.{form-form}
-use Rattle.signatures.specs.Signatures.Sig.{Sig, Abs}
-use Rattle.signatures.specs.Signatures.SigSubst.{rename_sig, substitute_sig}
-use Rattle.signatures.specs.Signatures.Alike.{AlikeAbs}
-use Rattle.signatures.specs.Signatures.Encoding.{one_part, enc}
-use Rattle.signatures.specs.Lifting.{own_vars, lifting, lifted_kinds, lifted_types, Lift}
+use Rattle.sig_definitions.specs.Signatures.Sig.{Sig, Abs}
+use Rattle.sig_definitions.specs.Signatures.SigSubst.{rename_sig, substitute_sig}
+use Rattle.sig_definitions.specs.Signatures.Alike.{AlikeAbs}
+use Rattle.sig_definitions.specs.Signatures.Encoding.{one_part, enc}
+use Rattle.sig_definitions.specs.Lifting.{own_vars, lifting, lifted_kinds, lifted_types, Lift}
 use Rattle.sig_laws.proofs.Algebra.BinderLaws.{past-length}
 use Rattle.sig_laws.proofs.Algebra.Own.{split_index}
 use Rattle.sig_laws.proofs.Encoded.EncodingTyping.{Shape, shape-rename, shape-substitute, shape-alike, shape_abs-alike, enc-form, Good, GoodAbs, good-normal}

@@ -1,6 +1,6 @@
 -- What well-formedness of the two sides says of the parts that subtyping compares.
 use Rattle.omega_terms.specs.Term.{Term}
-use Rattle.signatures.specs.Matching.Subtyping.{Match}
+use Rattle.sig_definitions.specs.Matching.Subtyping.{Match}
 use Rattle.omega_types.proofs.BinderPuts.{forms-types, types-kinds}
 use Rattle.std.specs.Prelude.{List, []}
 use Rattle.omega_kinds.specs.Kind.{Kind}
@@ -9,10 +9,10 @@ use Rattle.omega_kinds.specs.declared.effect.Effect.TheVariants.{Pure, Impure}
 use Rattle.omega_kinds.specs.Name.{Name}
 use Rattle.omega_types.specs.Ty.{Ty}
 use Rattle.omega_types.specs.Binders.{extend, past, puts, OfKinds}
-use Rattle.signatures.specs.Signatures.Sig.{Sig, Abs, SigRow, HasField, here, there}
-use Rattle.signatures.specs.Signatures.SigSubst.{raise_abs, sig_at, abs_at_under}
-use Rattle.signatures.specs.Signatures.Alike.{NormalSigForm, NormalAbsForm}
-use Rattle.signatures.specs.Explicit.WellFormed.{EachRooted, WellFormed, WellFormedRow, WellFormedAbs, ExplicitResults, ExplicitResultsRow, Explicit, abs, explicit, in_str, in_pure, in_impure, in_end, in_more}
+use Rattle.sig_definitions.specs.Signatures.Sig.{Sig, Abs, SigRow, HasField, here, there}
+use Rattle.sig_definitions.specs.Signatures.SigSubst.{raise_abs, sig_at, abs_at_under}
+use Rattle.sig_definitions.specs.Signatures.Alike.{NormalSigForm, NormalAbsForm}
+use Rattle.sig_definitions.specs.Explicit.WellFormed.{EachRooted, WellFormed, WellFormedRow, WellFormedAbs, ExplicitResults, ExplicitResultsRow, Explicit, abs, explicit, in_str, in_pure, in_impure, in_end, in_more}
 use Rattle.sig_laws.proofs.Algebra.AlikeLaws.{form-conv_sig, form-conv_abs}
 use Rattle.sig_laws.proofs.Formed.WellFormedLaws.{well_formed-substitute, well_formed-conv, well_formed_abs-substitute, well_formed_abs-conv, explicit_results-substitute, explicit_results-conv, explicit-rename}
 use Rattle.sig_laws.proofs.Algebra.Instances.{at-substitutes, under-at-substitutes}

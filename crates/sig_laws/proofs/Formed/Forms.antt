@@ -9,9 +9,9 @@ use Rattle.omega_kinds.specs.declared.effect.Effect.TheVariants.{Pure, Impure}
 use Rattle.omega_kinds.specs.Name.{Name}
 use Rattle.omega_types.specs.Ty.{Ty, Row}
 use Rattle.omega_terms.specs.Typing.{HasPart}
-use Rattle.signatures.specs.Signatures.Sig.{Sig, Abs, SigRow, HasField, Sig-discrete, Abs-discrete}
-use Rattle.signatures.specs.Signatures.RecordOrder.{IsNew, AreNew, FirstOld}
-use Rattle.signatures.specs.Verdict.{One, Perhaps, one, none}
+use Rattle.sig_definitions.specs.Signatures.Sig.{Sig, Abs, SigRow, HasField, Sig-discrete, Abs-discrete}
+use Rattle.sig_definitions.specs.Signatures.RecordOrder.{IsNew, AreNew, FirstOld}
+use Rattle.sig_definitions.specs.Verdict.{One, Perhaps, one, none}
 use Rattle.omega_kinds.proofs.NameLaws.{dec_label, dec_name}
 use Rattle.sig_laws.specs.Decide.{dec_ty}
 

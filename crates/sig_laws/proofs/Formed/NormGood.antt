@@ -12,9 +12,9 @@ use Rattle.omega_types.specs.Normaliser.{kind_at}
 use Rattle.omega_types.specs.Normalises.{Maps}
 use Rattle.omega_types.specs.Binders.{extend, past, own}
 use Rattle.omega_types.proofs.BinderPuts.{past-lookup, past-plus, placed, Placed}
-use Rattle.signatures.specs.Signatures.Sig.{Sig, Abs, SigRow, NoField}
-use Rattle.signatures.specs.Signatures.Alike.{NormalSig, NormalAbs, NormalSigRow}
-use Rattle.signatures.specs.QuantifierOrder.{IsNoneOf, Untaken, Counts, Taking, NewOrder, reordered, place, renumber, NormSig, Norm, NormRow}
+use Rattle.sig_definitions.specs.Signatures.Sig.{Sig, Abs, SigRow, NoField}
+use Rattle.sig_definitions.specs.Signatures.Alike.{NormalSig, NormalAbs, NormalSigRow}
+use Rattle.sig_definitions.specs.QuantifierOrder.{IsNoneOf, Untaken, Counts, Taking, NewOrder, reordered, place, renumber, NormSig, Norm, NormRow}
 use Rattle.sig_laws.proofs.Encoded.EncodingTyping.{Shape, ShapeAbs, ShapeRow, shape-rename, shape_abs-rename, GoodAbs}
 use Rattle.omega_types.proofs.Hereditary.{lookup-kind_at}
 use Rattle.sig_laws.proofs.Algebra.AlikeLaws.{normal_sig-rename, normal_abs-rename}

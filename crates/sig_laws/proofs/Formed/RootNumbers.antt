@@ -4,9 +4,9 @@ use Rattle.std.proofs.Common.{arith}
 use Rattle.std.proofs.Math.Path.{subst}
 use Rattle.omega_kinds.specs.Kind.{Kind}
 use Rattle.omega_types.specs.Binders.{extend, own}
-use Rattle.signatures.specs.Signatures.Sig.{Sig}
-use Rattle.signatures.specs.Explicit.SigPath.{SigPath}
-use Rattle.signatures.specs.Explicit.RootPath.{Rooted, ParamsAvoid, root_of, RootPath, root_path, LeastRoot, least}
+use Rattle.sig_definitions.specs.Signatures.Sig.{Sig}
+use Rattle.sig_definitions.specs.Explicit.SigPath.{SigPath}
+use Rattle.sig_definitions.specs.Explicit.RootPath.{Rooted, ParamsAvoid, root_of, RootPath, root_path, LeastRoot, least}
 
 -- the later of two hidden variables stands inside of the other
 pub own_falls : (ks : List Kind) (i j : ℕ) → i ≤ j → own ks j ≤ own ks i

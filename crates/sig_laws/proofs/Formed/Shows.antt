@@ -9,13 +9,13 @@ use Rattle.omega_types.specs.Mentions.{Mentions}
 use Rattle.omega_types.specs.Binders.{extend, unders, applied}
 use Rattle.omega_types.specs.Conversion.Conv.{c_sym, c_trans}
 use Rattle.omega_types.proofs.Preservation.{Substitutes, conv-substitute}
-use Rattle.signatures.specs.Signatures.Sig.{Sig}
-use Rattle.signatures.specs.Signatures.SigSubst.{substitute_sig}
+use Rattle.sig_definitions.specs.Signatures.Sig.{Sig}
+use Rattle.sig_definitions.specs.Signatures.SigSubst.{substitute_sig}
 use Rattle.sig_laws.specs.NormalSig.{normal_sig}
-use Rattle.signatures.specs.Signatures.Alike.{ConvSig, NormalSigForm, AlikeSig, typ, ConvBetween}
-use Rattle.signatures.specs.Signatures.SigMentions.{MentionsSig, Avoids, by_normal_form}
-use Rattle.signatures.specs.Explicit.SigPath.{SigPath, PartAt}
-use Rattle.signatures.specs.Explicit.RootPath.{Rooted, at}
+use Rattle.sig_definitions.specs.Signatures.Alike.{ConvSig, NormalSigForm, AlikeSig, typ, ConvBetween}
+use Rattle.sig_definitions.specs.Signatures.SigMentions.{MentionsSig, Avoids, by_normal_form}
+use Rattle.sig_definitions.specs.Explicit.SigPath.{SigPath, PartAt}
+use Rattle.sig_definitions.specs.Explicit.RootPath.{Rooted, at}
 use Rattle.sig_laws.proofs.Algebra.AlikeLaws.{conv_sig-sym, conv_sig-trans, form-conv_sig, form_sig-normal, form_sig-unique, conv_sig-gives, conv_sig-substitute, substitutes-convertible}
 use Rattle.sig_laws.proofs.Algebra.SigMention.{mentions_sig-substitute, unmentioned_sig}
 use Rattle.sig_laws.proofs.Algebra.PathLaws.{part-substitute, part-alike}

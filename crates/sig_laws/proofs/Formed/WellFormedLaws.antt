@@ -11,13 +11,13 @@ use Rattle.omega_types.specs.Mentions.{Mentions}
 use Rattle.omega_types.specs.Normalises.{Maps}
 use Rattle.omega_types.specs.Binders.{extend, past, unders, own}
 use Rattle.omega_types.proofs.Preservation.{Substitutes, conv-kinds, kind-substitute}
-use Rattle.signatures.specs.Signatures.Sig.{Sig, Abs, SigRow, HasField, here, there}
-use Rattle.signatures.specs.Signatures.SigSubst.{rename_sig, rename_abs, substitute_sig, substitute_abs, substitute_sig_row}
-use Rattle.signatures.specs.Signatures.Alike.{Between, AlikeRow, val, typ, meta, str, fun, ex, end, more, ConvBetween, ConvSig, ConvAbs}
-use Rattle.signatures.specs.Signatures.SigMentions.{Avoids, by_normal_form}
-use Rattle.signatures.specs.Explicit.SigPath.{SigPath}
-use Rattle.signatures.specs.Explicit.RootPath.{ParamsAvoid, RootPath, root_path, root_of}
-use Rattle.signatures.specs.Explicit.WellFormed.{BeforeAll, Rising, WellFormed, WellFormedRow, WellFormedAbs, ExplicitResults, ExplicitResultsRow, Explicit, abs, explicit, in_val, in_typ, in_meta, in_str, in_pure, in_impure, in_end, in_more}
+use Rattle.sig_definitions.specs.Signatures.Sig.{Sig, Abs, SigRow, HasField, here, there}
+use Rattle.sig_definitions.specs.Signatures.SigSubst.{rename_sig, rename_abs, substitute_sig, substitute_abs, substitute_sig_row}
+use Rattle.sig_definitions.specs.Signatures.Alike.{Between, AlikeRow, val, typ, meta, str, fun, ex, end, more, ConvBetween, ConvSig, ConvAbs}
+use Rattle.sig_definitions.specs.Signatures.SigMentions.{Avoids, by_normal_form}
+use Rattle.sig_definitions.specs.Explicit.SigPath.{SigPath}
+use Rattle.sig_definitions.specs.Explicit.RootPath.{ParamsAvoid, RootPath, root_path, root_of}
+use Rattle.sig_definitions.specs.Explicit.WellFormed.{BeforeAll, Rising, WellFormed, WellFormedRow, WellFormedAbs, ExplicitResults, ExplicitResultsRow, Explicit, abs, explicit, in_val, in_typ, in_meta, in_str, in_pure, in_impure, in_end, in_more}
 use Rattle.sig_laws.proofs.Algebra.SigAlgebra.{substitute-vars_sig, substitute-vars_abs}
 use Rattle.sig_laws.proofs.Algebra.AlikeLaws.{conv_sig-sym, conv_sig-trans, form-conv_sig, conv-form_sig, conv_sig-substitute, substitutes-convertible, conv_abs-substitute, alike_row-substitute}
 use Rattle.sig_laws.proofs.Algebra.SigMention.{mentions-unders}

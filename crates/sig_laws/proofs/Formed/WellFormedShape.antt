@@ -6,9 +6,9 @@ use Rattle.omega_kinds.specs.declared.label.Label.{Label}
 use Rattle.omega_kinds.specs.Name.{Name}
 use Rattle.omega_kinds.specs.LabelOrder.{name_before}
 use Rattle.omega_kinds.proofs.LabelLaws.{irreflexive}
-use Rattle.signatures.specs.Signatures.Sig.{Sig, Abs, SigRow, NoField, HasField, Module, made}
-use Rattle.signatures.specs.Signatures.Alike.{NormalSig, NormalAbs}
-use Rattle.signatures.specs.Explicit.WellFormed.{BeforeAll, Rising, WellFormed, WellFormedRow, WellFormedAbs, Explicit}
+use Rattle.sig_definitions.specs.Signatures.Sig.{Sig, Abs, SigRow, NoField, HasField, Module, made}
+use Rattle.sig_definitions.specs.Signatures.Alike.{NormalSig, NormalAbs}
+use Rattle.sig_definitions.specs.Explicit.WellFormed.{BeforeAll, Rising, WellFormed, WellFormedRow, WellFormedAbs, Explicit}
 use Rattle.sig_laws.specs.Good.{KindedModule, OkModule}
 use Rattle.sig_laws.proofs.Encoded.EncodingTyping.{Shape, ShapeAbs, ShapeRow, Good, GoodAbs, shape_abs-distinct}
 use Rattle.sig_laws.proofs.Algebra.PathLaws.{field-not}

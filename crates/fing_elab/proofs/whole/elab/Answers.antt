@@ -1,11 +1,11 @@
 use Rattle.std.proofs.Common.{ap, ◌∙◌}
 use Rattle.semantic_sigs.specs.Made.{module_of}
 use Rattle.fing_syntax.specs.View.{binds as binds_of}
-use Rattle.elab_rules.specs.Judgments.Meaning.{BindsMean}
-use Rattle.elab_rules.specs.Refusals.Task.{binds}
-use Rattle.refusal_lines.specs.Plain.{Says}
-use Rattle.elaboration.specs.Answered.{RefusedAs}
-use Rattle.elaboration.proofs.Given.{exit}
+use Rattle.elab_judgments.specs.Judgments.Meaning.{BindsMean}
+use Rattle.elab_judgments.specs.Refusals.Task.{binds}
+use Rattle.fing_refusals.specs.Plain.{Says}
+use Rattle.elab_phrases.specs.Answered.{RefusedAs}
+use Rattle.elab_phrases.proofs.Given.{exit}
 use Rattle.fing_elab.specs.Exactly.{IsRefused}
 use Rattle.fing_elab.proofs.Programs.{entered, good, meaning, typed, refused}
 use Rattle.fing_elab.proofs.whole.elab.Goals as goal

@@ -1,5 +1,5 @@
 use Rattle.std.proofs.Common.{◌≡◌, [], length}
-use Rattle.fing_grammar.specs.Steps.{moves}
+use Rattle.parse_grammar.specs.Steps.{moves}
 use Rattle.parse_stack.specs.Part.{held}
 use Rattle.parse_stack.specs.Play.{play_all}
 use Rattle.fing_parser.proofs.build.build.Given as goal

@@ -1,7 +1,7 @@
 use Rattle.fing_top.specs.Compiled.{IsRefused}
 use Rattle.fing_top.proofs.Answering.{is_compiled, program_refused}
 use Rattle.fing_top.proofs.compiling.compile.Goals as goal
-use Rattle.elaboration.proofs.Given.{exit}
+use Rattle.elab_phrases.proofs.Given.{exit}
 
 pub returns-in_err-found-clause-refused : goal.returns-in_err-found-clause-refused
 returns-in_err-found-clause-refused c =

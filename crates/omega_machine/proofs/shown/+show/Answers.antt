@@ -1,7 +1,7 @@
 use Rattle.std.proofs.lemmas.Result.{on_ok_weaker}
 use Rattle.omega_terms.specs.KindText.{label_text}
 use Rattle.omega_terms.proofs.OneIndex.{left-smaller}
-use Rattle.omega_machine.specs.ValueText.{shown}
+use Rattle.omega_terms.specs.ValueText.{shown}
 use Rattle.omega_machine.proofs.Texts.{field-text, fields-first, fields-more, fields-end, single-val, single-other, record-many}
 use Rattle.omega_machine.proofs.shown.+show.Goals as goal
 

@@ -1,6 +1,6 @@
 use Rattle.std.proofs.lemmas.Result.{on_ok_weaker}
 use Rattle.omega_terms.specs.KindText.{label_text}
-use Rattle.omega_machine.specs.ValueText.{shown}
+use Rattle.omega_terms.specs.ValueText.{shown}
 use Rattle.omega_machine.proofs.Texts.{line-text}
 use Rattle.omega_machine.proofs.shown.show_line.Goals as goal
 

@@ -1,6 +1,6 @@
 use Rattle.std.proofs.Common.{◌≡◌, ◌++◌, drop}
 use Rattle.omega_terms.specs.Fields.{term_row}
-use Rattle.omega_machine.specs.ValueText.{lines}
+use Rattle.omega_terms.specs.ValueText.{lines}
 use Rattle.omega_machine.proofs.shown.show_lines.Given as goal
 
 abbrev pub invariant-loop-field : goal.invariant-loop-field

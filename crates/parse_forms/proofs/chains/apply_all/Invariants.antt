@@ -1,6 +1,6 @@
 use Rattle.std.proofs.Common.{◌≡◌, length}
 use Rattle.std.specs.Prelude.{reverse}
-use Rattle.fing_grammar.specs.Forms as form
+use Rattle.parse_grammar.specs.Forms as form
 use Rattle.parse_forms.proofs.chains.apply_all.Given as goal
 
 abbrev pub invariant-chain : goal.invariant-chain

@@ -1,7 +1,7 @@
 use Rattle.std.proofs.Common.{◌≡◌, length, map}
 use Rattle.std.specs.Prelude.{reverse}
 use Rattle.parse_forms.specs.Part.{ascription_in}
-use Rattle.fing_grammar.specs.Forms as form
+use Rattle.parse_grammar.specs.Forms as form
 use Rattle.parse_forms.proofs.chains.ascribe_all.Given as goal
 
 abbrev pub invariant-chain : goal.invariant-chain

@@ -1,6 +1,6 @@
 use Rattle.std.proofs.Common.{◌≡◌, refl}
 use Rattle.std.specs.Prelude.{None}
-use Rattle.fing_grammar.specs.Grammar as the
+use Rattle.parse_grammar.specs.Grammar as the
 use Rattle.parse_stack.specs.Part.{held}
 use Rattle.parse_stack.specs.Play.{played}
 use Rattle.parse_forms.proofs.Chained.{if_err}

@@ -1,5 +1,5 @@
 use Rattle.std.proofs.Common.{◌≡◌, IfOk, ◌∙◌, subst}
-use Rattle.signatures.specs.Signatures.Sig.{Sig}
+use Rattle.sig_definitions.specs.Signatures.Sig.{Sig}
 use Rattle.std.proofs.lemmas.Result.{IfOk-weaker}
 use Rattle.semantic_sigs.proofs.HeadLaws.{sig-lowered}
 use Rattle.semantic_sigs.proofs.Lowered.{lowered-raised, lowered-normal}

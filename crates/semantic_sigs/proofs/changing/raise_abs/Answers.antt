@@ -1,6 +1,6 @@
 use Rattle.std.proofs.Common.{◌≡◌, IfOk, ◌∙◌, subst}
 use Rattle.std.proofs.lemmas.Result.{IfOk-weaker}
-use Rattle.signatures.specs.Signatures.Sig.{Abs}
+use Rattle.sig_definitions.specs.Signatures.Sig.{Abs}
 use Rattle.semantic_sigs.proofs.HeadLaws.{abs-raised, abs-raised-normal}
 use Rattle.semantic_sigs.proofs.changing.raise_abs.Goals as goal
 

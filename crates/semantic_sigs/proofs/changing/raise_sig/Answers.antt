@@ -1,6 +1,6 @@
 use Rattle.std.proofs.Common.{◌≡◌, IfOk, ◌∙◌, subst}
 use Rattle.std.proofs.lemmas.Result.{IfOk-weaker}
-use Rattle.signatures.specs.Signatures.Sig.{Sig}
+use Rattle.sig_definitions.specs.Signatures.Sig.{Sig}
 use Rattle.semantic_sigs.proofs.HeadLaws.{sig-raised, sig-raised-normal}
 use Rattle.semantic_sigs.proofs.changing.raise_sig.Goals as goal
 

@@ -1,5 +1,5 @@
 use Rattle.std.proofs.Common.{◌↔◌, ◌≤◌, drop}
-use Rattle.signatures.specs.Signatures.SigMentions.{MentionsRow}
+use Rattle.sig_definitions.specs.Signatures.SigMentions.{MentionsRow}
 use Rattle.semantic_sigs.specs.Fields.{sig_row}
 use Rattle.semantic_sigs.specs.Size.{sig_pairs_nodes}
 use Rattle.semantic_sigs.proofs.mentioning.+mentions.Given as goal

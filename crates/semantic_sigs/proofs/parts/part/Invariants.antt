@@ -1,6 +1,6 @@
 use Rattle.std.proofs.Common.{◌↔◌, [], drop, map}
-use Rattle.signatures.specs.Explicit.SigPath.{Item, PartAt}
-use Rattle.signatures.specs.Signatures.Sig.{Sig}
+use Rattle.sig_definitions.specs.Explicit.SigPath.{Item, PartAt}
+use Rattle.sig_definitions.specs.Signatures.Sig.{Sig}
 use Rattle.semantic_sigs.proofs.parts.part.Given as goal
 
 abbrev pub invariant-loop-name : goal.invariant-loop-name

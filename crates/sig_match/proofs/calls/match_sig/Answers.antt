@@ -1,5 +1,5 @@
 use Rattle.std.proofs.Common.{sym}
-use Rattle.signatures.specs.Env.{kinds}
+use Rattle.sig_definitions.specs.Env.{kinds}
 use Rattle.sig_match.proofs.Exact.{only-match}
 use Rattle.sig_match.proofs.calls.match_sig.Goals as goal
 

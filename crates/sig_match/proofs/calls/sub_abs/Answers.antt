@@ -1,5 +1,5 @@
 use Rattle.std.proofs.Common.{sym}
-use Rattle.signatures.specs.Env.{kinds}
+use Rattle.sig_definitions.specs.Env.{kinds}
 use Rattle.sig_match.proofs.Exact.{only-sub_abs}
 use Rattle.sig_match.proofs.calls.sub_abs.Goals as goal
 

@@ -5,16 +5,16 @@ use Rattle.omega_kinds.specs.declared.effect.Effect.TheVariants.{Pure}
 use Rattle.semantic_sigs.specs.Fields.{SigPairs, sig_row}
 use Rattle.semantic_sigs.specs.Items.{item_of}
 use Rattle.semantic_sigs.specs.View.{sig_of, kinds_of}
-use Rattle.signatures.specs.Explicit.SigPath.{Item}
-use Rattle.signatures.specs.Signatures.Sig.{Sig}
-use Rattle.signatures.specs.Signatures.SigSize.{size, size_abs, size_row}
+use Rattle.sig_definitions.specs.Explicit.SigPath.{Item}
+use Rattle.sig_definitions.specs.Signatures.Sig.{Sig}
+use Rattle.sig_definitions.specs.Signatures.SigSize.{size, size_abs, size_row}
 use Rattle.sig_laws.proofs.Algebra.SizeLaws.{field-size, size_abs-rename}
 use Rattle.sig_match.specs.Looking.{EachLook, EachLookInto, NextSides}
 use Rattle.sig_match.specs.Outcomes.{EachSub, MaySub}
 use Rattle.sig_match.specs.Refusals.{plain_refusal}
 use Rattle.omega_types.specs.Binders.{past}
-use Rattle.signatures.specs.Matching.MatchRefusal.{Effects, RefusesSub}
-use Rattle.signatures.specs.Signatures.Encoding.{enc}
+use Rattle.sig_definitions.specs.Matching.MatchRefusal.{Effects, RefusesSub}
+use Rattle.sig_definitions.specs.Signatures.Encoding.{enc}
 use Rattle.sig_match.proofs.PutSteps.{raised-past}
 use Rattle.sig_match.proofs.SubSteps.{clashed, abs-size, labelled-none, meta-form, fields-form, functor-form, label-follows, labelled-next, item-size}
 use Rattle.sig_match.proofs.NextSteps.{rooted}

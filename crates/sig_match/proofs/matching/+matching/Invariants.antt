@@ -1,5 +1,5 @@
 use Rattle.std.proofs.Common.{◌≡◌, ◌+◌, ◌*◌, length, take}
-use Rattle.signatures.specs.Signatures.SigSize.{size, size_abs, size_row}
+use Rattle.sig_definitions.specs.Signatures.SigSize.{size, size_abs, size_row}
 use Rattle.semantic_sigs.specs.Fields.{sig_row}
 use Rattle.sig_match.specs.Made.{AllHold}
 use Rattle.sig_match.proofs.CallSteps.{EachFirst, EachParts}

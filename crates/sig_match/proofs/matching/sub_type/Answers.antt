@@ -1,5 +1,5 @@
-use Rattle.signatures.specs.Matching.MatchRefusal.{RefusesSub, Why}
-use Rattle.signatures.specs.Signatures.Sig.{Sig}
+use Rattle.sig_definitions.specs.Matching.MatchRefusal.{RefusesSub, Why}
+use Rattle.sig_definitions.specs.Signatures.Sig.{Sig}
 use Rattle.omega_kinds.specs.View.{kind_tree}
 use Rattle.sig_match.specs.Refusals.{plain_refusal}
 use Rattle.sig_match.proofs.SubSteps.{clashed, clash-given, type-form, type-same, type-differs}

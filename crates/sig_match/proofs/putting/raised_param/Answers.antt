@@ -2,8 +2,8 @@ use Rattle.std.proofs.Common.{◌≡◌, List, length, ap, ap₂, ◌∙◌}
 use Rattle.omega_kinds.specs.Kind.{Kind}
 use Rattle.std.proofs.lemmas.Result.{IfOk-weaker}
 use Rattle.omega_types.specs.Index.{bump}
-use Rattle.signatures.specs.Signatures.Sig.{Abs}
-use Rattle.signatures.specs.Signatures.SigSubst.{raise_abs, rename_abs}
+use Rattle.sig_definitions.specs.Signatures.Sig.{Abs}
+use Rattle.sig_definitions.specs.Signatures.SigSubst.{raise_abs, rename_abs}
 use Rattle.sig_match.proofs.PutSteps.{raised-past}
 use Rattle.sig_match.proofs.putting.raised_param.Goals as goal
 

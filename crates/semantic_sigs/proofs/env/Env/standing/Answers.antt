@@ -1,7 +1,7 @@
 use Rattle.std.proofs.Common.{rules, refl, ◌≡◌, ◌+◌, ◌-◌, ◌<◌, ◌≤◌, [], Some, None, get_or, length, take, sym, ap, ap₂, ◌∙◌, subst}
 use Rattle.omega_types.specs.Index.{bump}
-use Rattle.signatures.specs.Env.{find}
-use Rattle.signatures.specs.Signatures.SigSubst.{rename_sig}
+use Rattle.sig_definitions.specs.Env.{find}
+use Rattle.sig_definitions.specs.Signatures.SigSubst.{rename_sig}
 use Rattle.semantic_sigs.proofs.FoundSteps.{find-missing, find-there, found-module, no-variable, nothing-found, place-inside, terms-inside, types-inside}
 use Rattle.semantic_sigs.proofs.env.Env.standing.Goals as goal
 

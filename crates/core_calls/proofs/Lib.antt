@@ -1,5 +1,0 @@
-mod Conclusions
-mod Entries
-mod Forms
-mod Inserting
-mod RecordSteps

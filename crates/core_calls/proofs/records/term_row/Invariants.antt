@@ -1,6 +1,0 @@
-use Rattle.std.proofs.Common.{◌≡◌, ◌++◌}
-use Rattle.core_calls.specs.Records.{labelled}
-use Rattle.core_calls.proofs.records.term_row.Given as goal
-
-abbrev pub invariant-loop-name : goal.invariant-loop-name
-invariant-loop-name l = l.fields ++ labelled (λ e. e.term) l.name-iterator ≡ labelled (λ e. e.term) l.parts.entries

@@ -1,6 +1,0 @@
-use Rattle.core_rules.specs.TypeRules.{OperatorGives}
-use Rattle.core_calls.proofs.types.lam_ty.Goals as goal
-
-pub returns : goal.returns
-returns c =
-    rw (c.in_ok-made.ensures, c.in_ok-arrow.ensures, c.in_ok-share.ensures, c.in_ok-share-2.ensures, c.plain.ensures, c.in_ok-share-3.ensures, c.in_ok-share-4.ensures) OperatorGives.operator

@@ -1,0 +1,4 @@
+pub mod CoreWhy
+pub mod ExpRules
+pub mod OneOutcome
+pub mod TypeRules

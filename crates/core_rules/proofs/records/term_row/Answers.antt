@@ -1,0 +1,11 @@
+use Rattle.std.proofs.Common.{ap}
+use Rattle.std.proofs.lemmas.Map.Iter.{rest_more}
+use Rattle.std.specs.Map.Iter.{deref_pair}
+use Rattle.omega_kinds.specs.declared.label.Label.{Label}
+use Rattle.core_rules.proofs.RecordSteps.{entry-follows}
+use Rattle.core_rules.proofs.records.term_row.Goals as goal
+
+pub push-requires : goal.push-requires
+push-requires c =
+    let step = rest_more deref_pair c.loop-name.name-iterator c.next.new.self c.next.result (c.in-Some.name, c.in-Some.exp) c.in-Some.is c.next.ensures.steps in
+    entry-follows (λ e. e.term) c.loop-name.fields c.args.parts.now.entries c.loop-name.name-iterator c.next.new.self (c.in-Some.name.now, c.in-Some.exp.now) (Label.Name c.in_ok-share.field-0) c.into_iter-name-iterator.ensures.into_iter_gives.5 c.loop-name.invariant step (ap Label.Name c.in_ok-share.ensures)

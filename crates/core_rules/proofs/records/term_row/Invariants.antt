@@ -1,0 +1,6 @@
+use Rattle.std.proofs.Common.{◌≡◌, ◌++◌}
+use Rattle.core_rules.specs.Records.{labelled}
+use Rattle.core_rules.proofs.records.term_row.Given as goal
+
+abbrev pub invariant-loop-name : goal.invariant-loop-name
+invariant-loop-name l = l.fields ++ labelled (λ e. e.term) l.name-iterator ≡ labelled (λ e. e.term) l.parts.entries

@@ -1,8 +1,0 @@
-use Rattle.std.proofs.Common.{rules}
-use Rattle.module_calls.specs.Plain.{plain_why}
-use Rattle.elab_rules.specs.Refusals.Refusal.{of_mod}
-use Rattle.elaboration.proofs.Placing.{mapped}
-use Rattle.elaboration.proofs.mod_rules.part_rule.Goals as goal
-
-pub returns-clause-refused : goal.returns-clause-refused
-returns-clause-refused c = mapped of_mod plain_why _ c.standing_part.result c.map_err.result c.map_err.ensures.cases c.standing_part.ensures.refused (λ w e p. search rules)

@@ -1,5 +1,0 @@
-use Rattle.fing_grammar.proofs.Laws.{one_farthest}
-use Rattle.fing_grammar.proofs.facts.one_place.Goals as goal
-
-pub returns : goal.returns
-returns c = λ tokens a b p q. one_farthest tokens a b p q

@@ -1,9 +1,0 @@
-use Rattle.std.proofs.Common.{◌≡◌, ◌++◌, map, drop, length, IfSome}
-use Rattle.omega_kinds.specs.View.{kind_tree}
-use Rattle.functor_calls.specs.Lifted.{IsLifted}
-use Rattle.functor_calls.specs.LiftedVars.{lifted_vars}
-use Rattle.functor_calls.proofs.parameters.lifted_vars.Given as goal
-
-abbrev pub invariant-loop-kind : goal.invariant-loop-kind
-invariant-loop-kind l =
-    (l.inner ≡ length (drop l.kind-index l.kind-items)) × (l.types ++ lifted_vars l.kinds (map kind_tree (drop l.kind-index l.kind-items)) ≡ lifted_vars l.kinds l.hidden) × IfSome l.before (IsLifted l.kinds)

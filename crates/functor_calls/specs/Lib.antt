@@ -1,2 +1,0 @@
-pub mod LiftedVars
-pub mod Lifted

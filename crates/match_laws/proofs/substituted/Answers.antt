@@ -1,8 +1,0 @@
-use Rattle.match_laws.proofs.substituted.Goals as goal
-use Rattle.match_laws.proofs.AnyTypes.SubSubst.{sub_substitute, sub_abs_substitute}
-
-pub returns-clause-sub : goal.returns-clause-sub
-returns-clause-sub c = sub_substitute
-
-pub returns-clause-abs : goal.returns-clause-abs
-returns-clause-abs c = sub_abs_substitute

@@ -1,7 +1,0 @@
-use Rattle.std.proofs.Common.{refl}
-use Rattle.module_calls.proofs.Made.{seal-made}
-use Rattle.module_calls.proofs.functors.seal.Goals as goal
-
-pub returns : goal.returns
-returns c =
-    seal-made c.args.found c.args.coercion c.in_ok-term.term c.args.target.now c.in_ok-sig.sig c.args.types c.args.types c.in_ok-sig.ensures refl c.in_ok-term.ensures

@@ -1,0 +1,28 @@
+// The rules of modules and bindings: what each makes of premises that are elaborated already, and how it is refused.
+// Specifications and their laws only; the calls that follow them stand in a crate of their own above.
+// Stands on sig_definitions and sig_premise_laws.
+// Proved (`module_rules`): each rule with a condition or a choice has exactly one conclusion or exactly one refusal.
+#![tactic(auto)]
+
+ghost use Rattle.module_judgments.specs.OneOutcome.{OneNamed, OneProjected, OneTypePath, OneValuePath, OneSigPath, OneGenerative, OneParts, OneApply, OneInclude, OneEnd, OneSequence, OneSeal, OneValueModule, OneTypeModule, OneSignatureModule};
+
+/// Names, projections, paths, the parts of a functor's signature, applications and includes have exactly one conclusion or
+/// exactly one refusal; generative functors, sealing, single bindings, finished structures and sequences of bindings have
+/// exactly one conclusion.
+pub fn module_rules()
+    ensures named { OneNamed }
+    ensures projected { OneProjected }
+    ensures type_path { OneTypePath }
+    ensures value_path { OneValuePath }
+    ensures sig_path { OneSigPath }
+    ensures generative { OneGenerative }
+    ensures parts { OneParts }
+    ensures apply { OneApply }
+    ensures include { OneInclude }
+    ensures end { OneEnd }
+    ensures sequence { OneSequence }
+    ensures seal { OneSeal }
+    ensures value { OneValueModule }
+    ensures type_ { OneTypeModule }
+    ensures signature { OneSignatureModule }
+{}

@@ -1,0 +1,14 @@
+use Rattle.std.proofs.Common.{◌≡◌, map, take}
+use Rattle.omega_kinds.specs.declared.label.Label.{Label}
+use Rattle.omega_terms.specs.Fields.{term_row}
+use Rattle.semantic_sigs.specs.Fields.{sig_row}
+use Rattle.module_judgments.specs.Sequence.{Collected}
+use Rattle.module_rules.proofs.Ended.{firsts}
+use Rattle.module_rules.proofs.bindings.end_struct.Given as goal
+
+abbrev pub invariant-loop-name : goal.invariant-loop-name
+invariant-loop-name l = record {
+  names : firsts l.parts ≡ take l.name-index l.name-items;
+  labels : firsts l.terms ≡ map Label.Name (take l.name-index l.name-items);
+  found : Collected l.env (take l.name-index l.name-items) (sig_row l.parts) (term_row l.terms);
+}

@@ -1,0 +1,94 @@
+// Bindings of values, types and signatures, and finished structures.
+ghost use Rattle.std.specs.Prelude.{◌≡◌, [], List, IfOk};
+ghost use Rattle.omega_kinds.specs.View.{kind_tree};
+ghost use Rattle.omega_kinds.specs.declared.effect.Effect.TheVariants.{Pure};
+ghost use Rattle.omega_terms.specs.Fields.{term_row};
+ghost use Rattle.omega_terms.specs.PartTerms.{sig_term as sig_term_of};
+ghost use Rattle.omega_terms.specs.Term.{Fields, TermRow};
+ghost use Rattle.sig_definitions.specs.Signatures.Encoding.{enc_abs};
+ghost use Rattle.sig_definitions.specs.Signatures.RecordOrder.{NamesRise};
+ghost use Rattle.sig_definitions.specs.Signatures.Sig.{Str, SigRow, Abs as AbsTree, made};
+ghost use Rattle.sig_laws.specs.Good.{Bound};
+ghost use Rattle.semantic_sigs.specs.Fields.{sig_row};
+ghost use Rattle.semantic_sigs.specs.Made.{module_of};
+ghost use Rattle.module_judgments.specs.ModRules.{ValueGives, TypeGives, SignatureGives};
+ghost use Rattle.module_judgments.specs.Sequence.{Collected};
+
+use crate::naming::open_module;
+use omega_kinds::{Label, Mem, Names};
+use omega_shorthands::{one_field, variable};
+use omega_terms::{Term, TermFields, TermNode};
+use semantic_sigs::{
+    Abs, Env, Kinded, Module, Sig, SigFields, SigNode, Typed, encode, type_term, value_term,
+};
+use std::alloc::Global;
+use type_normal::plain;
+
+/// `val X = E`: a value part. `Err` is want of memory, as for all calls of this file.
+pub fn bind_val(alloc: Global, value: Typed) -> Result<Module, Mem>
+    ensures { IfOk result (λ m. ValueGives value.ty value.term (module_of m)) }
+{
+    let sig = Sig::make(alloc, SigNode::Val(value.ty))?;
+    let term = value_term(alloc, value.term)?;
+    open_module(alloc, sig, term)
+}
+
+/// `type X = T`: a type part.
+pub fn bind_type(alloc: Global, ty: &Kinded) -> Result<Module, Mem>
+    ensures { IfOk result (λ m. TypeGives ty.now.ty (kind_tree ty.now.kind) (module_of m)) }
+{
+    let shared = ty.ty.share()?;
+    let kind = ty.kind.share()?;
+    let sig = Sig::make(alloc, SigNode::Typ(shared, kind))?;
+    let term = type_term(alloc, plain(&ty.ty), &ty.kind)?;
+    open_module(alloc, sig, term)
+}
+
+/// `signature X = S`: a signature part.
+pub fn bind_sig(alloc: Global, sig: &Abs) -> Result<Module, Mem>
+    ensures { IfOk result (λ m. SignatureGives sig.now (module_of m)) }
+{
+    let term = sig_term(alloc, sig)?;
+    let shared = sig.share()?;
+    let part = Sig::make(alloc, SigNode::Meta(shared))?;
+    open_module(alloc, part, term)
+}
+
+// The term of a signature part.
+fn sig_term(alloc: Global, sig: &Abs) -> Result<Term, Mem>
+    ensures { IfOk result (λ e. e ≡ sig_term_of (enc_abs sig.now)) }
+{
+    let encoded = encode(alloc, sig)?;
+    let identity = Term::make(alloc, TermNode::Lam(encoded, variable(alloc, 0)?))?;
+    one_field(alloc, Label::Sig, identity)
+}
+
+/// The end of a structure: a structure of what the environment has for each of these names, which are in rising order
+/// and are all bound.
+pub fn end_struct(alloc: Global, env: &Env, names: &Names) -> Result<Module, Mem>
+    requires found { Bound env.now names.now }
+    requires rising { NamesRise names.now }
+    ensures { IfOk result (λ m. (fs : SigRow) × (es : TermRow) × Collected env.now names.now fs es × (module_of m ≡ made Pure (AbsTree.Ex [] (Str fs)) [] (Fields es))) }
+{
+    let mut parts = SigFields::with_capacity(alloc, names.items().len())?;
+    let mut terms = TermFields::with_capacity(alloc, names.items().len())?;
+    for name in names.items() {
+        let Some(found) = env.find(alloc, name)? else {
+            unreachable!();
+        };
+        let part = name.share()?;
+        let field = name.share()?;
+        parts.push((part, found.0))?;
+        terms.push((Label::Name(field), found.1))?;
+    }
+    finished(alloc, parts, terms)
+}
+
+// A structure of these parts, as a pure module.
+fn finished(alloc: Global, parts: SigFields, terms: TermFields) -> Result<Module, Mem>
+    ensures { IfOk result (λ m. module_of m ≡ made Pure (AbsTree.Ex [] (Str (sig_row parts))) [] (Fields (term_row terms))) }
+{
+    let sig = Sig::make(alloc, SigNode::Str(parts))?;
+    let term = Term::make(alloc, TermNode::Fields(terms))?;
+    open_module(alloc, sig, term)
+}

@@ -1,7 +1,0 @@
-pub mod NormedLaws
-pub mod PackSteps
-pub mod RenumberSteps
-pub mod Steps
-pub mod SweepLaws
-pub mod Taken
-pub mod TurnLaws

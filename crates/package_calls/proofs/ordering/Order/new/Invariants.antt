@@ -1,7 +1,0 @@
-use Rattle.std.proofs.Common.{◌≡◌, map, take}
-use Rattle.omega_kinds.specs.View.{kind_tree}
-use Rattle.package_calls.specs.Turns.{untaken}
-use Rattle.package_calls.proofs.ordering.Order.new.Given as goal
-
-abbrev pub invariant-loop-kind : goal.invariant-loop-kind
-invariant-loop-kind l = l.places.items ≡ untaken (map kind_tree (take l._kind-index l._kind-items))

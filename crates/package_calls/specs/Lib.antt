@@ -1,6 +1,0 @@
-pub mod First
-pub mod Normed
-pub mod Plain
-pub mod Renumbered
-pub mod Swept
-pub mod Turns

@@ -1,5 +1,0 @@
-use Rattle.package_laws.proofs.renamed_norms.Goals as goal
-use Rattle.package_laws.proofs.PackageClaims.{norm_of_renamed}
-
-pub returns : goal.returns
-returns c = norm_of_renamed

@@ -1,4 +1,0 @@
-pub mod Plain
-pub mod Line
-pub mod InScope
-pub mod Pieces

@@ -1,6 +1,0 @@
-use Rattle.std.proofs.Common.{◌≡◌, map, take}
-use Rattle.semantic_sigs.specs.Items.{item_of}
-use Rattle.root_paths.proofs.walk.Walk.way.Given as goal
-
-abbrev pub invariant-loop-item : goal.invariant-loop-item
-invariant-loop-item l = l.path ≡ map item_of (take l.item-index l.item-items)

@@ -1,9 +1,0 @@
-pub mod Declared
-pub mod Fixing
-pub mod Following
-pub mod Including
-pub mod Lists
-pub mod Merging
-pub mod NameKeys
-pub mod Naming
-pub mod Putting

@@ -1,5 +1,0 @@
-use Rattle.sig_calls.proofs.NameKeys.{key-new}
-use Rattle.sig_calls.proofs.name_set.NameSet.contains.Goals as goal
-
-pub returns : goal.returns
-returns c = rw (c.contains.ensures, ← c.self.view_is) (key-new c.self.inside.names.keys c.args.name.now)

@@ -1,6 +1,0 @@
-use Rattle.std.proofs.Common.{◌≡◌, map, take}
-use Rattle.signatures.specs.Explicit.SigPath.{Item}
-use Rattle.sig_calls.proofs.refinement.parts.Given as goal
-
-abbrev pub invariant-loop-name : goal.invariant-loop-name
-invariant-loop-name l = l.path ≡ map Item.Part (take l.name-index l.names)

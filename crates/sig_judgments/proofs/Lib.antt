@@ -1,0 +1,4 @@
+pub mod Paths
+pub mod Refining
+pub mod Verdicts
+pub mod WhereVerdict

@@ -1,0 +1,4 @@
+pub mod OneOutcome
+pub mod Refinement
+pub mod SigRules
+pub mod SigWhy

@@ -1,0 +1,22 @@
+// The rules of signatures and declarations: what each makes of premises that are elaborated already, and how it is refused.
+// Specifications and their laws only; the calls that follow them stand in a crate of their own above.
+// Stands on sig_definitions and sig_premise_laws.
+// Proved: each rule has exactly one conclusion or exactly one refusal (`signature_rules`).
+#![tactic(auto)]
+
+ghost use Rattle.sig_judgments.specs.OneOutcome.{OneValue, OneType, OneAbstract, OneModule, OneSignature, OneInclude, OneDistinct, OneDeclarations, OneGenerative, OneWhere};
+
+/// Each rule of signatures and declarations gives exactly one signature, or has exactly one refusal, its first condition
+/// that fails; those that are never refused give exactly one.
+pub fn signature_rules()
+    ensures value { OneValue }
+    ensures type_ { OneType }
+    ensures hidden { OneAbstract }
+    ensures module_ { OneModule }
+    ensures signature { OneSignature }
+    ensures include { OneInclude }
+    ensures distinct { OneDistinct }
+    ensures declarations { OneDeclarations }
+    ensures generative { OneGenerative }
+    ensures where_type { OneWhere }
+{}

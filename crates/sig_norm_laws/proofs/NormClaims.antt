@@ -1,0 +1,48 @@
+-- Orders and norms, as the contract says it.
+use Rattle.std.specs.Prelude.{◌⊎◌}
+use Rattle.std.proofs.Math.Path.{refl}
+use Rattle.sig_definitions.specs.Signatures.Sig.{Abs}
+use Rattle.sig_definitions.specs.QuantifierOrder.{Norm}
+use Rattle.sig_definitions.specs.Explicit.WellFormed.{explicit}
+use Rattle.sig_norm_laws.proofs.Orders.OrderUnique.{one-order}
+use Rattle.sig_norm_laws.proofs.Orders.OrderExists.{order_exists, norm_abs_exists, NormOfAbs}
+use mathlib.Core.Logic.{inl, inr}
+use Rattle.sig_definitions.specs.Explicit.SigPath.{SigPath}
+use Rattle.sig_definitions.specs.Explicit.RootPath.{RootPath, LeastRoot}
+use Rattle.sig_norm_laws.proofs.Orders.Roots.{Roots, roots}
+use Rattle.sig_norm_laws.proofs.Norm.NormUnique.{norm_abs_unique}
+use Rattle.sig_norm_laws.proofs.Norm.NormKeeps.{norm_abs-explicit}
+use Rattle.sig_norm_laws.proofs.Norm.NormAgain.{norm_abs-again}
+use Rattle.sig_norm_laws.specs.Norms.{RootsFound, OneLeastRoot, OrderExists, OrderUnique, NormExists, NormUnique, NormKeeps, NormOfNorm}
+use Rattle.sig_laws.proofs.Algebra.Paths.{one_least}
+
+pub roots_found : RootsFound
+roots_found ctx ks s i w = go (roots ctx ks s i w)
+  where
+    go : Roots ctx ks s i → ((p : SigPath) × LeastRoot ctx ks s i p) ⊎ ((p : SigPath) → RootPath ctx ks s i p → ⊥)
+    go (Roots.found p l) = inl (p, l)
+    go (Roots.none h) = inr h
+
+pub one_least_root : OneLeastRoot
+one_least_root ctx ks s i p q a b = one_least a b
+
+pub order_found : OrderExists
+order_found ctx ks s (explicit w r e) = order_exists ctx ks s w e
+
+pub order_one : OrderUnique
+order_one ctx ks s order other a b = one-order refl a b
+
+pub norm_found : NormExists
+norm_found ctx x e = go (norm_abs_exists e)
+  where
+    go : NormOfAbs ctx x → (y : Abs) × Norm ctx x y
+    go (NormOfAbs.norm_of y n) = (y, n)
+
+pub norm_one : NormUnique
+norm_one ctx x y z a b = norm_abs_unique a b
+
+pub norm_keeps : NormKeeps
+norm_keeps ctx x y n e = norm_abs-explicit n e
+
+pub norm_of_norm : NormOfNorm
+norm_of_norm ctx x y n = norm_abs-again n
