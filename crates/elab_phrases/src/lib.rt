@@ -1,8 +1,8 @@
 // The elaboration of phrases: types, expressions, signatures, declarations, modules and bindings, each in an environment.
 // Stands on the rules in code, one crate for each kind of rule, and on elab_judgments and elab_laws, whose judgments over
 // phrases its contracts cite.
-// Proved (`structure`, and so for each form of phrase): what is answered is derived by the judgments, and each refusal is
-// one of the phrase, or want of memory, of which nothing more is said.
+// Proved (for `structure` and for a call for each form of phrase): what is answered is derived by the judgments, and each
+// refusal is one of the phrase, or want of memory, of which nothing more is said.
 #![tactic(auto)]
 
 mod bindings;
@@ -16,6 +16,7 @@ mod naming;
 mod package_rules;
 mod path_rules;
 mod paths;
+mod phrases;
 mod places;
 mod refusing;
 mod scopes;
@@ -27,4 +28,5 @@ mod types;
 mod uses;
 
 pub use bindings::structure;
+pub use phrases::{expression_phrase, module_phrase, signature_phrase, type_phrase};
 pub use sets::NameSet;

@@ -1,5 +1,5 @@
 // Kinds, whose parts are shared.
-ghost use Rattle.std.specs.Prelude.{◌≡◌, ◌↔◌, IfOk, IsTrue};
+ghost use Rattle.std.specs.Prelude.{◌≡◌, ◌↔◌, ◌+◌, ◌≤◌, IfOk, IsTrue, max, min};
 ghost use Rattle.omega_kinds.specs.Kind.{Star, Arrow, kind_eq};
 ghost use Rattle.omega_kinds.specs.View.{height_kept, kind_tree, size_kept};
 
@@ -45,9 +45,13 @@ impl Kind {
     }
 }
 
-/// The kind of operators from one kind to another. `Err` is want of memory, also for a kind that is too high or too large.
+/// The kind of operators from one kind to another, which keeps its height and its size. `Err` is want of memory, also for a
+/// kind that is too high or too large.
 pub fn arrow(alloc: Global, from: Kind, to: Kind) -> Result<Kind, Mem>
-    ensures { IfOk result (λ k. kind_tree k ≡ Arrow (kind_tree from) (kind_tree to)) }
+    ensures tree { IfOk result (λ k. kind_tree k ≡ Arrow (kind_tree from) (kind_tree to)) }
+    ensures height { IfOk result (λ k. height_kept k ≡ max (height_kept from) (height_kept to) + 1) }
+    ensures size { IfOk result (λ k. size_kept k ≡ min (size_kept from + size_kept to) 4294967295 + 1) }
+    ensures high { IfOk result (λ k. height_kept k ≤ 4096) }
 {
     let extent = from.extent().beside(to.extent()).over(1)?;
     let from = Rc::new(alloc, from)?;
