@@ -8,7 +8,7 @@ ghost use Rattle.coercion_terms.specs.Rows.{HasFieldsType, HasFunctorType, HasMe
 
 use omega_kinds::{Effect, Kinds, Label, Mem};
 use omega_shorthands::{insts, one_field, ty_lam_over, variable};
-use omega_terms::{Term, TermFields, TermNode};
+use omega_terms::{Term, TermFields, TermNode, result_label};
 use omega_types::Ty;
 use std::alloc::Global;
 use type_normal::NormalTy;
@@ -107,14 +107,4 @@ fn applied(alloc: Global, left: Effect, types: &[NormalTy], inner: &Term) -> Res
     let functor = insts(alloc, variable(alloc, 1)?, types)?;
     let called = Term::make(alloc, TermNode::Call(functor, arg))?;
     Term::make(alloc, TermNode::Get(called, result_label(left)))
-}
-
-// The label round the result of a functor of this effect.
-fn result_label(effect: Effect) -> Label
-    ensures { result ≡ label_of effect }
-{
-    match effect {
-        Effect::Pure => Label::App,
-        Effect::Impure => Label::Gen,
-    }
 }

@@ -15,7 +15,7 @@ ghost use Rattle.elab_phrases.specs.Answered.{RefusedAs};
 ghost use Rattle.elab_phrases.specs.Modules.{IsSingle};
 
 use crate::expressions::exp;
-use crate::mod_rules::{end_rule, fields_of, include_rule};
+use crate::mod_rules::{end_rule, include_rule};
 use crate::modules::module;
 use crate::refusing::refuse;
 use crate::scopes::{leave, push_fields, push_module};
@@ -156,7 +156,7 @@ fn included(
     ensures same { OnOk result (env.new ≡ env.old) }
 {
     let head = module(alloc, env, whole)?;
-    let Some(fields) = fields_of(head.sig.body()) else {
+    let Some(fields) = head.sig.body().as_structure() else {
         return Err(refuse(env, whole.span, ElabWhy::NotStructure));
     };
     let tail = included_under(alloc, env, before, &head.sig, fields, rest)?;

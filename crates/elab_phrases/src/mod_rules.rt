@@ -1,5 +1,5 @@
 // The rules of modules, refused at a place in an environment.
-ghost use Rattle.std.specs.Prelude.{◌≡◌, [], List, MatchOption, Some, IfErr, IfOk};
+ghost use Rattle.std.specs.Prelude.{◌≡◌, [], List, Some, IfErr, IfOk};
 ghost use Rattle.omega_kinds.specs.Kind.{Kind as KindTree};
 ghost use Rattle.omega_kinds.specs.declared.effect.Effect.{Effect as EffectTree};
 ghost use Rattle.omega_kinds.specs.declared.effect.Effect.TheVariants.{Pure};
@@ -10,7 +10,6 @@ ghost use Rattle.sig_definitions.specs.Matching.Subtyping.{Match};
 ghost use Rattle.sig_definitions.specs.Signatures.RecordOrder.{NamesRise};
 ghost use Rattle.sig_definitions.specs.Signatures.Sig.{Abs as AbsTree, Sig as SigTree, SigRow, Str, made};
 ghost use Rattle.sig_laws.specs.Good.{Bound, KindedModule, OkRight, OkSig};
-ghost use Rattle.semantic_sigs.specs.Fields.{sig_row};
 ghost use Rattle.semantic_sigs.specs.Made.{module_of};
 ghost use Rattle.semantic_sigs.specs.Standing.{standing_module};
 ghost use Rattle.semantic_sigs.specs.View.{body_of, kinds_of};
@@ -35,7 +34,7 @@ use module_rules::{
 };
 use omega_kinds::{Effect, Mem, Name};
 use omega_terms::Term;
-use semantic_sigs::{Abs, Env, Module, Sig, SigFields, SigNode, Standing};
+use semantic_sigs::{Abs, Env, Module, Standing};
 use sig_match::{Matched, match_sig};
 use std::alloc::Global;
 
@@ -141,16 +140,6 @@ pub(crate) fn apply_rule(
         Ok(made) => Ok(made),
         Err(ModRefusal::Mem) => Err(Mem),
         Err(_) => unreachable!(),
-    }
-}
-
-/// The fields of a structure.
-pub(crate) fn fields_of(sig: &Sig) -> Option<&SigFields>
-    ensures { MatchOption result ((fs : SigRow) → sig.now ≡ Str fs → ⊥) (λ fields. sig.now ≡ Str (sig_row fields.now)) }
-{
-    match sig.node() {
-        SigNode::Str(fields) => Some(fields),
-        _ => None,
     }
 }
 

@@ -24,7 +24,7 @@ use crate::projecting::packed_term;
 use crate::refusal::ModRefusal;
 use omega_kinds::{Effect, Label, Mem};
 use omega_shorthands::{insts, one_field, ty_lam_over};
-use omega_terms::{Term, TermNode};
+use omega_terms::{Term, TermNode, result_label};
 use semantic_sigs::{Abs, Module, Sig, SigNode, Witnesses, encode_sig, instantiate_abs};
 use std::alloc::Global;
 use type_normal::NormalTy;
@@ -151,14 +151,4 @@ fn applied(
     let coerced = Term::make(alloc, TermNode::Call(coercion, arg))?;
     let called = Term::make(alloc, TermNode::Call(function, coerced))?;
     Term::make(alloc, TermNode::Get(called, result_label(effect)))
-}
-
-// The label round the result of a functor of this effect.
-fn result_label(effect: Effect) -> Label
-    ensures { result ≡ label_of effect }
-{
-    match effect {
-        Effect::Pure => Label::App,
-        Effect::Impure => Label::Gen,
-    }
 }

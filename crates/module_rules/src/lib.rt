@@ -5,7 +5,6 @@
 #![tactic(auto)]
 
 mod bindings;
-mod forms;
 mod functors;
 mod hidden;
 mod naming;

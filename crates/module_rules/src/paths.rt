@@ -11,7 +11,6 @@ ghost use Rattle.module_judgments.specs.ModRules.{TypePathRefuses, ValuePathRefu
 ghost use Rattle.module_judgments.specs.PathUse.{TypeOfPath, ValueOfPath, SigOfPath, value_of as value_of_path};
 ghost use Rattle.module_rules.specs.Plain.{plain_why};
 
-use crate::forms::{kinded_type, shown_sig, value_type};
 use crate::hidden::{count_of, outside, outside_sig};
 use crate::projecting::opened;
 use crate::refusal::ModRefusal;
@@ -27,7 +26,7 @@ pub fn path_type(alloc: Global, whole: Module) -> Result<Kinded, ModRefusal>
     ensures given { IfOk result (λ o. (ctx : List KindTree) → KindedModule ctx (module_of whole) → TypeOfPath ctx (module_of whole) o.ty (kind_tree o.kind)) }
     ensures refused { IfErr result (λ e. IfSome (plain_why e) (λ why. (ctx : List KindTree) → KindedModule ctx (module_of whole) → TypePathRefuses ctx (module_of whole) why)) }
 {
-    let Some(shown) = kinded_type(whole.sig.body()) else {
+    let Some(shown) = whole.sig.body().as_type() else {
         return Err(ModRefusal::WrongPath);
     };
     let count = count_of(whole.sig.kinds());
@@ -45,7 +44,7 @@ pub fn path_value(alloc: Global, whole: Module) -> Result<Typed, ModRefusal>
     ensures given { IfOk result (λ o. (ctx : List KindTree) → KindedModule ctx (module_of whole) → ValueOfPath ctx (module_of whole) o.ty o.term) }
     ensures refused { IfErr result (λ e. IfSome (plain_why e) (λ why. (ctx : List KindTree) → KindedModule ctx (module_of whole) → ValuePathRefuses ctx (module_of whole) why)) }
 {
-    let Some(shown) = value_type(whole.sig.body()) else {
+    let Some(shown) = whole.sig.body().as_value() else {
         return Err(ModRefusal::WrongPath);
     };
     let count = count_of(whole.sig.kinds());
@@ -62,14 +61,14 @@ pub fn path_sig(alloc: Global, whole: Module) -> Result<Abs, ModRefusal>
     ensures given { IfOk result (λ x. (ctx : List KindTree) → KindedModule ctx (module_of whole) → SigOfPath ctx (module_of whole) x) }
     ensures refused { IfErr result (λ e. IfSome (plain_why e) (λ why. (ctx : List KindTree) → KindedModule ctx (module_of whole) → SigPathRefuses ctx (module_of whole) why)) }
 {
-    let Some(_hiding) = shown_sig(whole.sig.body()) else {
+    let Some(_hiding) = whole.sig.body().as_signature() else {
         return Err(ModRefusal::WrongPath);
     };
     let count = count_of(whole.sig.kinds());
     let Some(sig) = outside_sig(alloc, whole.sig.body(), count)? else {
         return Err(ModRefusal::Escapes);
     };
-    let Some(shown) = shown_sig(&sig) else {
+    let Some(shown) = sig.as_signature() else {
         unreachable!();
     };
     Ok(shown.share()?)

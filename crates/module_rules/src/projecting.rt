@@ -17,7 +17,6 @@ ghost use Rattle.module_rules.specs.Shown.{PackedAgain};
 ghost use Rattle.omega_kinds.specs.declared.effect.Effect.TheVariants.{Pure, Impure};
 ghost use Rattle.omega_shorthands.specs.Packed.{Fills};
 
-use crate::forms::fields_of;
 use crate::hidden::{count_of, own_types};
 use crate::refusal::ModRefusal;
 use omega_kinds::{Effect, Kinds, Label, Mem, Name};
@@ -34,7 +33,7 @@ pub fn project(alloc: Global, whole: Module, name: &Name) -> Result<Module, ModR
     ensures given { IfOk result (λ m. (ctx : List KindTree) → KindedModule ctx (module_of whole) → Projected ctx (module_of whole) name.now (module_of m)) }
     ensures refused { IfErr result (λ e. IfSome (plain_why e) (λ why. ProjectRefuses (module_of whole) name.now why)) }
 {
-    let Some(fields) = fields_of(whole.sig.body()) else {
+    let Some(fields) = whole.sig.body().as_structure() else {
         return Err(ModRefusal::NotStructure);
     };
     let Some(part) = find_field(fields, name) else {

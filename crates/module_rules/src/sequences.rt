@@ -21,7 +21,6 @@ ghost use Rattle.module_judgments.specs.Sequence.{Seq, joined, field_lets as fie
 ghost use Rattle.module_rules.specs.Plain.{plain_why};
 ghost use Rattle.module_rules.specs.Shown.{OpenedTerm};
 
-use crate::forms::fields_of;
 use crate::hidden::count_of;
 use crate::projecting::{opened, packed_again, packed_term};
 use crate::refusal::ModRefusal;
@@ -66,7 +65,7 @@ pub fn include_bind(alloc: Global, first: Module, rest: Module) -> Result<Module
     ensures given { IfOk result (λ m. (ctx : List KindTree) → KindedModule ctx (module_of first) → KindedModule (extend ctx (kinds_of first.sig)) (module_of rest) → IncludeGives ctx (module_of first) (module_of rest) (module_of m)) }
     ensures refused { IfErr result (λ e. IfSome (plain_why e) (λ why. IncludeRefuses (module_of first) why)) }
 {
-    let Some(fields) = fields_of(first.sig.body()) else {
+    let Some(fields) = first.sig.body().as_structure() else {
         return Err(ModRefusal::NotStructure);
     };
     let term = field_lets(alloc, fields, rest.term)?;

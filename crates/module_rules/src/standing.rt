@@ -7,7 +7,6 @@ ghost use Rattle.module_judgments.specs.ModRules.{ProjectRefuses};
 ghost use Rattle.module_judgments.specs.Projection.{Projected};
 ghost use Rattle.module_rules.specs.Plain.{plain_why};
 
-use crate::forms::fields_of;
 use crate::naming::open_module;
 use crate::projecting::named_part;
 use crate::refusal::ModRefusal;
@@ -25,7 +24,7 @@ pub fn standing_part<'a>(
     ensures given { IfOk result (λ m. (ctx : List KindTree) → Projected ctx (standing_module whole.now) name.now (standing_module m)) }
     ensures refused { IfErr result (λ e. IfSome (plain_why e) (λ why. ProjectRefuses (standing_module whole.now) name.now why)) }
 {
-    let Some(fields) = fields_of(whole.sig) else {
+    let Some(fields) = whole.sig.as_structure() else {
         return Err(ModRefusal::NotStructure);
     };
     let Some(sig) = find_field(fields, name) else {

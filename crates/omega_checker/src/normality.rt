@@ -4,13 +4,13 @@ ghost use Rattle.std.specs.Option.{option_map};
 ghost use Rattle.omega_kinds.specs.Kind.{Star};
 ghost use Rattle.omega_kinds.specs.View.{kind_tree};
 ghost use Rattle.omega_types.specs.Fields.{row};
-ghost use Rattle.omega_types.specs.KindIn.{are_distinct, is_star as is_star_of};
+ghost use Rattle.omega_types.specs.KindIn.{are_distinct};
 ghost use Rattle.omega_types.specs.Normality.{Normal};
 ghost use Rattle.omega_types.specs.Scope.{scope_of};
 ghost use Rattle.omega_checker.specs.IsNormal.{are_normal as are_normal_of, is_normal as is_normal_of, neutral_kind as neutral_kind_of, scope_below, with_arg as with_arg_of};
 
 use omega_kinds::{Kind, Mem, same_kind};
-use omega_types::{Ty, TyFields, TyNode, variable_kind};
+use omega_types::{Ty, TyFields, TyNode, is_star, variable_kind};
 use std::alloc::Global;
 
 /// Whether a type is normal at a kind, beta-normal and eta-long, in a context, which lists the kinds of the type
@@ -35,13 +35,6 @@ fn kind_at(ctx: &[Kind], inner: &[Kind], index: u64) -> Result<Option<Kind>, Mem
     } else {
         variable_kind(ctx, index - passed)
     }
-}
-
-// Whether the kind is `*`.
-fn is_star(kind: &Option<Kind>) -> bool
-    ensures { result ≡ is_star_of (option_map kind_tree kind.now) }
-{
-    matches!(kind, Some(Kind::Star))
 }
 
 // Whether the type is normal at the kind.

@@ -6,6 +6,7 @@
 #![tactic(auto)]
 
 mod counting;
+mod labels;
 mod op;
 mod putting_terms;
 mod putting_types;
@@ -14,6 +15,7 @@ mod theory;
 mod tree;
 
 pub use counting::nodes;
+pub use labels::result_label;
 pub use op::Op;
 pub use putting_terms::put_term;
 pub use putting_types::put_type;

@@ -48,8 +48,8 @@ pub fn variable_kind(ctx: &[Kind], index: u64) -> Result<Option<Kind>, Mem>
     }
 }
 
-// Whether the kind is `*`.
-fn is_star(kind: &Option<Kind>) -> bool
+/// Whether there is a kind, and it is `*`.
+pub fn is_star(kind: &Option<Kind>) -> bool
     ensures { result ≡ is_star_of (option_map kind_tree kind.now) }
 {
     matches!(kind, Some(Kind::Star))

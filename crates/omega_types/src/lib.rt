@@ -11,7 +11,7 @@ mod shifting;
 mod theory;
 mod tree;
 
-pub use kinding::{kind_of, share_context, variable_kind};
+pub use kinding::{is_star, kind_of, share_context, variable_kind};
 pub use levels::next_level;
 pub use putting::substitute;
 pub use shifting::shift;

@@ -4,14 +4,14 @@ ghost use Rattle.omega_kinds.specs.View.{kind_tree};
 ghost use Rattle.omega_types.specs.View.{ty_of};
 ghost use Rattle.semantic_sigs.specs.Quantified.{quantified, quantified_once};
 ghost use Rattle.omega_types.specs.Fields.{row};
-ghost use Rattle.omega_terms.specs.Coercions.{result_label as label_of};
 ghost use Rattle.sig_definitions.specs.Signatures.Encoding.{enc, enc_abs, enc_row, one_part as one_part_of, shown_type as shown_type_of};
 ghost use Rattle.semantic_sigs.specs.Fields.{sig_row};
 ghost use Rattle.semantic_sigs.specs.View.{sig_of};
 
 use crate::part_terms::at_predicate;
 use crate::tree::{Abs, Sig, SigFields, SigNode};
-use omega_kinds::{Effect, Kind, Kinds, Label, Mem, arrow};
+use omega_kinds::{Kind, Kinds, Label, Mem, arrow};
+use omega_terms::result_label;
 use omega_types::{Ty, TyFields, TyNode};
 use std::alloc::Global;
 use type_normal::plain;
@@ -96,16 +96,6 @@ fn shown_type(alloc: Global, ty: &Ty, kind: &Kind) -> Result<Ty, Mem>
     let body = Ty::make(alloc, TyNode::Arrow(part.share()?, part))?;
     let predicate = arrow(alloc, kind.share()?, Kind::Star)?;
     Ty::make(alloc, TyNode::All(predicate, body))
-}
-
-// The label round the result of a functor of this effect.
-fn result_label(effect: Effect) -> Label
-    ensures { result ≡ label_of effect }
-{
-    match effect {
-        Effect::Pure => Label::App,
-        Effect::Impure => Label::Gen,
-    }
 }
 
 // What binds the variables of a list.

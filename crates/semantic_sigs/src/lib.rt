@@ -1,13 +1,14 @@
 // Semantic signatures in code: shared trees, what elaboration makes of phrases, environments, and operations on them.
 // Stands on the crates of types and terms, and on sig_definitions and sig_laws, whose definitions its contracts cite.
 // Proved: `raise_sig`, `raise_abs` and `lower_sig` rename as the definitions do, `instantiate` and `instantiate_abs` give
-// the normal form of a signature at types, `sig_mentions` decides mentions, `field` finds a part by its name and `part` by a path, `encode` and
-// `encode_sig` give the encoding, and `find` gives exactly what an environment has for a name.
+// the normal form of a signature at types, `sig_mentions` decides mentions, `field` finds a part by its name and `part` by
+// a path, `encode` and `encode_sig` give the encoding, and `find` gives exactly what an environment has for a name.
 #![tactic(auto)]
 
 mod changing;
 mod encoding;
 mod env;
+mod forms;
 mod heads;
 mod made;
 mod mentioning;
@@ -21,6 +22,7 @@ mod witnesses;
 pub use changing::{instantiate, instantiate_abs, lower_sig, put_types, raise_abs, raise_sig};
 pub use encoding::{encode, encode_sig};
 pub use env::{Entry, Env};
+pub use forms::Functor;
 pub use made::{Kinded, Module, Typed, Why};
 pub use mentioning::sig_mentions;
 pub use part_terms::{type_term, value_term};

@@ -4,13 +4,12 @@ ghost use Rattle.omega_terms.specs.Coercions.{functor_part as functor_part_of};
 ghost use Rattle.sig_definitions.specs.Signatures.Encoding.{enc, enc_abs};
 ghost use Rattle.sig_match.specs.Coerced.{IsAbsCoercion};
 
-use crate::forms::Functor;
 use crate::refusal::Matched;
 use coercion_terms::{Functors, abs_part, functor_part, match_part};
 use omega_kinds::Mem;
 use omega_terms::Term;
 use omega_types::Ty;
-use semantic_sigs::{Abs, encode, encode_sig};
+use semantic_sigs::{Abs, Functor, encode, encode_sig};
 use std::alloc::Global;
 
 /// The coercion between functors: `from` is the encoding of the left one, `inner` is the match of its parameter, and

@@ -6,7 +6,7 @@
 
 mod calls;
 mod coercing;
-mod forms;
+mod effects;
 mod made;
 mod matching;
 mod putting;

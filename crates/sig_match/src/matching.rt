@@ -15,9 +15,7 @@ ghost use Rattle.sig_match.specs.Made.{AllHold};
 ghost use Rattle.sig_match.specs.Outcomes.{EachField, EachMatch, EachResult, EachSub, EachSubAbs, MayMatch, MayResult, MaySub, MaySubAbs, SubGives};
 
 use crate::coercing::{abs_coercion, functor_coercion};
-use crate::forms::{
-    Functor, as_functor, both_pure, impure_for_pure, sig_part, structure, type_part, value_part,
-};
+use crate::effects::{both_pure, impure_for_pure};
 use crate::made::{Made, keep, key_of, known};
 use crate::putting::{at_found, at_types, count, lam_found, raised_param, result_at, sum};
 use crate::refusal::{MatchRefusal, Matched};
@@ -27,7 +25,7 @@ use omega_kinds::{Effect, Kind, Kinds, Label, Mem, Name, same_kind};
 use omega_terms::{Term, TermFields};
 use omega_types::Ty;
 use semantic_sigs::{
-    Abs, Item, Path, Sig, SigFields, SigNode, Why, Witnesses, encode, encode_sig, field,
+    Abs, Functor, Item, Path, Sig, SigFields, SigNode, Why, Witnesses, encode, encode_sig, field,
     find_field, raise_abs,
 };
 use sig_roots::roots;
@@ -199,10 +197,10 @@ fn look_part(
 fn look_end(left: &Sig, right: &Sig) -> Result<Option<NormalTy>, Mem>
     ensures { IfOk result (λ o. Ends left.now right.now o) }
 {
-    let Some((ty, kind)) = type_part(left) else {
+    let Some((ty, kind)) = left.as_type() else {
         return Ok(None);
     };
-    let Some((_, other)) = type_part(right) else {
+    let Some((_, other)) = right.as_type() else {
         return Ok(None);
     };
     if same_kind(kind, other) {
@@ -227,10 +225,10 @@ fn look_result(
     ensures found { IfOk result (λ o. EachLookInto depth left.now (map item_of rest.now) right.now o) }
     ensures made { AllHold made.new.items }
 {
-    let Some(left) = as_functor(left) else {
+    let Some(left) = left.as_functor() else {
         return Ok(None);
     };
-    let Some(right) = as_functor(right) else {
+    let Some(right) = right.as_functor() else {
         return Ok(None);
     };
     if !both_pure(left.effect, right.effect) {
@@ -330,11 +328,11 @@ fn sub_sig(
     match left.node() {
         SigNode::Val(ty) => sub_value(alloc, depth, &from, ty, right),
         SigNode::Typ(ty, kind) => sub_type(alloc, depth, &from, ty, kind, right),
-        SigNode::Meta(abs) => match sig_part(right) {
+        SigNode::Meta(abs) => match right.as_signature() {
             Some(other) => sub_meta(alloc, depth, &from, abs, other),
             None => Err(clash(alloc, depth, Why::Form)),
         },
-        SigNode::Str(fields) => match structure(right) {
+        SigNode::Str(fields) => match right.as_structure() {
             Some(other) => sub_fields(alloc, depth, &from, fields, other, made),
             None => Err(clash(alloc, depth, Why::Form)),
         },
@@ -350,7 +348,7 @@ fn sub_sig(
                 param,
                 target: result,
             };
-            match as_functor(right) {
+            match right.as_functor() {
                 Some(right) => sub_functor(alloc, depth, &from, &left, &right, made),
                 None => Err(clash(alloc, depth, Why::Form)),
             }
@@ -369,7 +367,7 @@ fn sub_value(
     requires { from.now ≡ enc (Val ty.now) }
     ensures { (ctx : List KindTree) → length ctx ≡ depth → SubGives ctx (Val ty.now) right.now result }
 {
-    let Some(other) = value_part(right) else {
+    let Some(other) = right.as_value() else {
         return Err(clash(alloc, depth, Why::Form));
     };
     if same(ty, other) {
@@ -391,7 +389,7 @@ fn sub_type(
     requires { from.now ≡ enc (Typ ty.now (kind_tree kind.now)) }
     ensures { (ctx : List KindTree) → length ctx ≡ depth → SubGives ctx (Typ ty.now (kind_tree kind.now)) right.now result }
 {
-    let Some(other) = type_part(right) else {
+    let Some(other) = right.as_type() else {
         return Err(clash(alloc, depth, Why::Form));
     };
     if alike(ty, kind, other.0, other.1) {

@@ -10,10 +10,9 @@ ghost use Rattle.semantic_sigs.specs.View.{body_of, kinds_of};
 ghost use Rattle.sig_match.specs.Looking.{lam_found as lam_found_of};
 ghost use Rattle.sig_match.specs.Put.{EachPut, EachPutUnder, MayPut, MayPutUnder, any_type as any_type_of, filled as filled_of, or_any};
 
-use crate::forms::Functor;
 use omega_kinds::{Kind, Kinds, Mem};
 use omega_types::{Ty, TyNode};
-use semantic_sigs::{Abs, Sig, SigNode, Witnesses, instantiate, raise_abs};
+use semantic_sigs::{Abs, Functor, Sig, SigNode, Witnesses, instantiate, raise_abs};
 use std::alloc::Global;
 use type_normal::{NormalTy, as_normal, plain};
 

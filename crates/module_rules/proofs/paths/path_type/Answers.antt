@@ -15,7 +15,7 @@ pub returns-in_default : goal.returns-in_default
 returns-in_default c =
     let w = c.args.whole in
     let b = c.body.result.now in
-    let none = none-case c.kinded_type.result ((t : Ty) (k : Kind) → b ≡ Sig.Typ t k → ⊥) (λ o. b ≡ Sig.Typ o.0.now (kind_tree o.1.now)) c.in_default.not-Some c.kinded_type.ensures in
+    let none = none-case c.as_type.result ((t : Ty) (k : Kind) → b ≡ Sig.Typ t k → ⊥) (λ o. b ≡ Sig.Typ o.0.now (kind_tree o.1.now)) c.in_default.not-Some c.as_type.ensures in
     record { given = tt; refused = type-wrong w.effect w.sig w.types w.term b c.body.ensures none }
 
 pub returns-in_default-2-clause-refused : goal.returns-in_default-2-clause-refused
@@ -25,7 +25,7 @@ returns-in_default-2-clause-refused c =
     let count = c.count_of-count.result in
     let t = c.in-Some.shown.0.now in
     let k = kind_tree c.in-Some.shown.1.now in
-    let is = some-case c.kinded_type.result ((t : Ty) (k : Kind) → b ≡ Sig.Typ t k → ⊥) (λ o. b ≡ Sig.Typ o.0.now (kind_tree o.1.now)) c.in-Some.shown c.in-Some.is c.kinded_type.ensures in
+    let is = some-case c.as_type.result ((t : Ty) (k : Kind) → b ≡ Sig.Typ t k → ⊥) (λ o. b ≡ Sig.Typ o.0.now (kind_tree o.1.now)) c.in-Some.shown c.in-Some.is c.as_type.ensures in
     let inside = none-case c.in_ok-ty.field-0 (MentionsHidden count t) (λ n. IsOutside count t n) c.in_default-2.not-Some c.in_ok-ty.ensures in
     type-escapes w.effect w.sig w.types w.term t k count inside.0 (sym c.body.ensures ∙ is) (sym (c.count_of-count.ensures ∙ ap length c.kinds.ensures)) inside.1 inside.2
 
@@ -36,6 +36,6 @@ returns-clause-given c =
     let count = c.count_of-count.result in
     let t = c.in-Some.shown.0.now in
     let k = kind_tree c.in-Some.shown.1.now in
-    let is = some-case c.kinded_type.result ((t : Ty) (k : Kind) → b ≡ Sig.Typ t k → ⊥) (λ o. b ≡ Sig.Typ o.0.now (kind_tree o.1.now)) c.in-Some.shown c.in-Some.is c.kinded_type.ensures in
+    let is = some-case c.as_type.result ((t : Ty) (k : Kind) → b ≡ Sig.Typ t k → ⊥) (λ o. b ≡ Sig.Typ o.0.now (kind_tree o.1.now)) c.in-Some.shown c.in-Some.is c.as_type.ensures in
     let out = some-case c.in_ok-ty.field-0 (MentionsHidden count t) (λ n. IsOutside count t n) c.in-Some-2.ty c.in-Some-2.is c.in_ok-ty.ensures in
     λ ctx ok. subst (TypeOfPath ctx (module_of w) c.in-Some-2.ty) (sym c.in_ok-kind.ensures) (type-path w.effect w.sig w.types w.term t c.in-Some-2.ty k count (sym c.body.ensures ∙ is) (sym (c.count_of-count.ensures ∙ ap length c.kinds.ensures)) out.0 out.1 ctx ok)

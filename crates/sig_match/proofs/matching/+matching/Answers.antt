@@ -185,13 +185,13 @@ pub sub_sig-returns-in-Meta : goal.sub_sig-returns-in-Meta
 sub_sig-returns-in-Meta t c = each-form c.args.depth c.args.left.now (Sig.Meta c.in-Meta.abs) c.args.right.now c.clash.result (sym c.node.ensures ∙ ap sig_of c.in-Meta.is) c.clash.ensures (λ ctx. meta-form ctx c.in-Meta.abs c.args.right.now c.in-None.ensures)
 
 pub sub_sig-sub_fields-requires : goal.sub_sig-sub_fields-requires
-sub_sig-sub_fields-requires t c = (omega (arith, ap size (sym c.node.ensures ∙ ap sig_of c.in-Str.is), ap size c.in-Some-structure.ensures, c.decreases), (c.in_ok-from.ensures ∙ ap enc (sym c.node.ensures ∙ ap sig_of c.in-Str.is), (may-sub c.args.depth c.args.left.now c.args.right.now (Sig.Str (sig_row c.in-Str.fields)) (Sig.Str (sig_row c.in-Some-structure.other.now)) (sym c.node.ensures ∙ ap sig_of c.in-Str.is) c.in-Some-structure.ensures c.requires.sides, c.requires.made)))
+sub_sig-sub_fields-requires t c = (omega (arith, ap size (sym c.node.ensures ∙ ap sig_of c.in-Str.is), ap size c.in-Some-as_structure.ensures, c.decreases), (c.in_ok-from.ensures ∙ ap enc (sym c.node.ensures ∙ ap sig_of c.in-Str.is), (may-sub c.args.depth c.args.left.now c.args.right.now (Sig.Str (sig_row c.in-Str.fields)) (Sig.Str (sig_row c.in-Some-as_structure.other.now)) (sym c.node.ensures ∙ ap sig_of c.in-Str.is) c.in-Some-as_structure.ensures c.requires.sides, c.requires.made)))
 
-pub sub_sig-returns-in-Some-structure : goal.sub_sig-returns-in-Some-structure
-sub_sig-returns-in-Some-structure t c = each-sub c.args.depth c.args.left.now c.args.right.now (Sig.Str (sig_row c.in-Str.fields)) (Sig.Str (sig_row c.in-Some-structure.other.now)) c.sub_fields.result (sym c.node.ensures ∙ ap sig_of c.in-Str.is) c.in-Some-structure.ensures c.sub_fields.ensures
+pub sub_sig-returns-in-Some-as_structure : goal.sub_sig-returns-in-Some-as_structure
+sub_sig-returns-in-Some-as_structure t c = each-sub c.args.depth c.args.left.now c.args.right.now (Sig.Str (sig_row c.in-Str.fields)) (Sig.Str (sig_row c.in-Some-as_structure.other.now)) c.sub_fields.result (sym c.node.ensures ∙ ap sig_of c.in-Str.is) c.in-Some-as_structure.ensures c.sub_fields.ensures
 
 pub sub_sig-returns-in-Str : goal.sub_sig-returns-in-Str
-sub_sig-returns-in-Str t c = each-form c.args.depth c.args.left.now (Sig.Str (sig_row c.in-Str.fields)) c.args.right.now c.clash-in-None-structure.result (sym c.node.ensures ∙ ap sig_of c.in-Str.is) c.clash-in-None-structure.ensures (λ ctx. fields-form ctx (sig_row c.in-Str.fields) c.args.right.now c.in-None-structure.ensures)
+sub_sig-returns-in-Str t c = each-form c.args.depth c.args.left.now (Sig.Str (sig_row c.in-Str.fields)) c.args.right.now c.clash-in-None-as_structure.result (sym c.node.ensures ∙ ap sig_of c.in-Str.is) c.clash-in-None-as_structure.ensures (λ ctx. fields-form ctx (sig_row c.in-Str.fields) c.args.right.now c.in-None-as_structure.ensures)
 
 pub sub_sig-sub_functor-requires : goal.sub_sig-sub_functor-requires
 sub_sig-sub_functor-requires t c = (omega (arith, ap size (sym c.node.ensures ∙ ap sig_of c.in-Fun.is), ap size c.in-Some-as_functor.ensures, c.decreases), (c.in_ok-from.ensures ∙ ap enc (sym c.node.ensures ∙ ap sig_of c.in-Fun.is), (may-sub c.args.depth c.args.left.now c.args.right.now (Sig.Fun c.in-Fun.effect c.in-Fun.kinds c.in-Fun.param c.in-Fun.result) (Sig.Fun c.in-Some-as_functor.right.effect c.in-Some-as_functor.right.kinds.now c.in-Some-as_functor.right.param.now c.in-Some-as_functor.right.target.now) (sym c.node.ensures ∙ ap sig_of c.in-Fun.is) c.in-Some-as_functor.ensures c.requires.sides, c.requires.made)))
