@@ -34,7 +34,7 @@ use module_rules::{
 };
 use omega_kinds::{Effect, Mem, Name};
 use omega_terms::Term;
-use semantic_sigs::{Abs, Env, Module, Standing};
+use semantic_sigs::{Abs, Env, Module, Sig, Standing};
 use sig_match::{Matched, match_sig};
 use std::alloc::Global;
 

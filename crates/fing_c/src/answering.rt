@@ -13,12 +13,10 @@ ghost use Rattle.fing_c.specs.Returns.{Replied, Returns, ReturnsNumber};
 
 use crate::draft::Draft;
 use fing_gen::source_of;
+use fing_text::SOURCE_LIMIT;
 use fing_top::{Status, reply};
 use fing_words::{CommandLine, read_words};
 use std::alloc::{AllocError, Global};
-
-// The most bytes that a source has.
-const LIMIT: usize = 1048576;
 
 // A status, and how many bytes were written to the beginning of the page.
 #[derive(Clone, Copy)]
@@ -85,7 +83,7 @@ fn answer_command(alloc: Global, command: CommandLine, source: &[u8], page: &mut
     if let CommandLine::Gen { size } = command {
         return answer_generated(alloc, size, page);
     }
-    if source.len() > LIMIT {
+    if source.len() > SOURCE_LIMIT {
         return Answer {
             status: Status::TooLong,
             written: 0,

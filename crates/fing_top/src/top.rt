@@ -13,14 +13,11 @@ use crate::running::run;
 use crate::status::Status;
 use crate::verifying::verify;
 use fing_gen::source_of;
-use fing_text::{ReadEnd, Sink, Source, read_all};
+use fing_text::{ReadEnd, SOURCE_LIMIT, Sink, Source, read_all};
 use fing_words::{CommandLine, read_words};
 use omega_checker::Checked;
 use omega_kinds::Mem;
 use std::alloc::Global;
-
-// The most bytes that a source has.
-const LIMIT: usize = 1048576;
 
 // The bytes that a command answers for: all those of the source; or, for `gen`, the generated program, and then the source
 // is not read.
@@ -34,7 +31,7 @@ fn taken<S: Source>(alloc: Global, command: CommandLine, source: &mut S) -> Resu
     if let CommandLine::Gen { size } = command {
         return source_of(alloc, size).map_err(|_| ReadEnd::Mem);
     }
-    read_all(alloc, source, LIMIT)
+    read_all(alloc, source, SOURCE_LIMIT)
 }
 
 /// Answers a command for all its bytes, of which there are at most 1,048,576, and reads no source. The bytes are those
