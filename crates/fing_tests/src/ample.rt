@@ -41,6 +41,8 @@ fn kinds(rt: HostRuntime) -> Result<(), Fail> {
     let kind = arrow(rt.alloc(), Kind::Star, operators(rt.alloc())?)?;
     assert!(rt; same_kind(&kind.share()?, &kind));
     assert!(rt; !same_kind(&kind, &Kind::Star));
+    assert_eq!(rt; kind.extent().height, 2);
+    assert_eq!(rt; kind.share()?.extent().size, 2);
     assert_eq!(rt; kinds_of(rt.alloc(), kind)?.items().len(), 1);
     Ok(())
 }

@@ -37,8 +37,8 @@ fn counts(rt: HostRuntime) -> Result<(), Fail> {
     Ok(())
 }
 
-// The tree of a source.
-fn tree(alloc: Global, source: &[u8]) -> Result<Program, Fail> {
+/// The tree of a source.
+pub fn tree(alloc: Global, source: &[u8]) -> Result<Program, Fail> {
     if source.len() > 1048576 {
         return Err(Fail::new("too many bytes"));
     }

@@ -20,6 +20,8 @@ mod heights;
 #[cfg(test)]
 mod outcomes;
 #[cfg(test)]
+mod phrases;
+#[cfg(test)]
 mod reasons;
 #[cfg(test)]
 mod runs;

@@ -1,6 +1,5 @@
 pub mod NormedLaws
 pub mod PackSteps
-pub mod RenumberSteps
 pub mod Steps
 pub mod SweepLaws
 pub mod Taken

@@ -1,6 +1,5 @@
 pub mod First
 pub mod Normed
 pub mod Plain
-pub mod Renumbered
 pub mod Swept
 pub mod Turns

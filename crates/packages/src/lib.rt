@@ -10,8 +10,6 @@ mod norms;
 mod ordering;
 mod packing;
 mod refusal;
-mod renumbering;
-mod renumbering_types;
 mod sweeping;
 
 pub use norms::norm;

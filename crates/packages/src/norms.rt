@@ -9,9 +9,8 @@ ghost use Rattle.semantic_sigs.specs.Fields.{sig_row};
 ghost use Rattle.packages.specs.Normed.{functor_in_order, normed_sig, normed_abs, normed_row};
 
 use crate::ordering::order_of;
-use crate::renumbering::{renumber_abs, renumber_sig};
 use omega_kinds::{Effect, Kinds, Mem};
-use semantic_sigs::{Abs, Sig, SigFields, SigNode};
+use semantic_sigs::{Abs, Sig, SigFields, SigNode, renumber_abs, renumber_sig};
 use std::alloc::Global;
 
 /// The signature with every quantifier inside in its order: variables are taken one after the other, at each turn the one
@@ -36,7 +35,7 @@ fn norm_abs(alloc: Global, abs: &Abs) -> Result<Abs, Mem>
     let inner = norm_sig(alloc, abs.body())?;
     let order = order_of(alloc, abs.kinds(), &inner)?;
     let places = order.places.as_slice();
-    let moved = renumber_sig(alloc, &inner, places, 0)?;
+    let moved = renumber_sig(alloc, &inner, places)?;
     Abs::make(alloc, order.kinds, moved)
 }
 
@@ -103,8 +102,8 @@ fn impure_functor(alloc: Global, kinds: &Kinds, from: &Sig, to: &Abs) -> Result<
 {
     let order = order_of(alloc, kinds, from)?;
     let places = order.places.as_slice();
-    let moved_from = renumber_sig(alloc, from, places, 0)?;
-    let moved_to = renumber_abs(alloc, to, places, 0)?;
+    let moved_from = renumber_sig(alloc, from, places)?;
+    let moved_to = renumber_abs(alloc, to, places)?;
     let functor = SigNode::Fun {
         effect: Effect::Impure,
         kinds: order.kinds,

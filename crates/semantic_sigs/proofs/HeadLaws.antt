@@ -1,5 +1,5 @@
 -- What the changes are: renamings, and the normal form of a substitution.
-use Rattle.std.specs.Prelude.{ℕ, zero, suc, ◌+◌, ◌-◌, ◌≡◌, List, [], ◌∷◌, length}
+use Rattle.std.specs.Prelude.{ℕ, zero, suc, ◌+◌, ◌-◌, ◌≡◌, List, [], ◌∷◌, Option, length}
 use Rattle.std.proofs.Common.{arith}
 use Rattle.std.proofs.Math.Path.{refl, sym, ◌∙◌, ap, ap₂, subst, fun_ext}
 use Rattle.omega_kinds.specs.Kind.{Kind}
@@ -28,7 +28,8 @@ use Rattle.sig_definitions.specs.Signatures.Alike.{AlikeSig, AlikeAbs, AlikeRow,
 use Rattle.sig_laws.proofs.Algebra.AlikeLaws.{normal_sig-rename, normal_abs-rename}
 use Rattle.semantic_sigs.specs.View.{kinds_of, body_of}
 use Rattle.semantic_sigs.proofs.SigSteps.{sinks-sunk}
-use Rattle.semantic_sigs.specs.Changes.{Head, stands, came, tree, raised, apply_head, under_head, sunk, sinks, head_in, row_in, ty_in, sig_in, abs_in, sig_row_in, front_head, put_heads, raising, lowering, putting}
+use Rattle.semantic_sigs.specs.Moved.{moved}
+use Rattle.semantic_sigs.specs.Changes.{Head, stands, came, tree, raised, apply_head, under_head, sunk, sinks, head_in, row_in, ty_in, sig_in, abs_in, sig_row_in, front_head, put_heads, raising, lowering, putting, moving}
 
 -- renamings
 
@@ -90,6 +91,12 @@ abs-raised by from x = ap (λ h. abs_in h x) (sunk-raising by from) ∙ abs-rena
 
 pub sig-lowered : (by : ℕ) (s : Sig) → sig_in (sunk 0 (lowering by)) s ≡ rename_sig (λ i. i - by) s
 sig-lowered by s = sig-renamed (λ i. i - by) s
+
+pub sig-moved : (ps : List (Option ℕ)) (s : Sig) → sig_in (sunk 0 (moving ps)) s ≡ rename_sig (moved ps) s
+sig-moved ps s = sig-renamed (moved ps) s
+
+pub abs-moved : (ps : List (Option ℕ)) (x : Abs) → abs_in (sunk 0 (moving ps)) x ≡ rename_abs (moved ps) x
+abs-moved ps x = abs-renamed (moved ps) x
 
 pub sig-raised-normal : (by from : ℕ) (given raised : Sig) → raised ≡ rename_sig (bump by from) given → (ctx other : List Kind) → Maps ctx other (bump by from) → NormalSig ctx given → NormalSig other raised
 sig-raised-normal by from given raised e ctx other h n = subst (NormalSig other) (sym e) (normal_sig-rename (bump by from) h given n)

@@ -1,5 +1,5 @@
 -- What a change of variables does at each form of type, with indexes counted as the code counts them.
-use Rattle.std.proofs.Common.{◌≡◌, ℕ, zero, suc, ◌+◌, ◌-◌, ◌<◌, ◌≤◌, List, [], ◌∷◌, length, get_or, refl, sym, ap, ap₂, ◌∙◌, arith}
+use Rattle.std.proofs.Common.{◌≡◌, ℕ, zero, suc, ◌+◌, ◌-◌, ◌<◌, ◌≤◌, List, [], ◌∷◌, Option, length, get_or, refl, sym, ap, ap₂, ◌∙◌, arith}
 use Rattle.omega_kinds.specs.Kind.{Kind}
 use Rattle.omega_types.specs.Ty.{Ty, Row}
 use Rattle.omega_types.specs.Bound.{bound_of, bound_row}
@@ -8,7 +8,8 @@ use Rattle.omega_types.specs.Index.{shift}
 use Rattle.omega_types.specs.Substitution.{rename}
 use Rattle.omega_types.proofs.Single.{shift-zero}
 use Rattle.omega_types.proofs.Steps.{deeper, map_parts, may_follow-at}
-use Rattle.semantic_sigs.specs.Changes.{Head, stands, came, tree, raised, apply_head, under_head, sunk, head_in, row_in, ty_in, front_head, put_heads, raising, lowering, putting}
+use Rattle.semantic_sigs.specs.Moved.{moved}
+use Rattle.semantic_sigs.specs.Changes.{Head, stands, came, tree, raised, apply_head, under_head, sunk, head_in, row_in, ty_in, front_head, put_heads, raising, lowering, putting, moving}
 
 -- an index that is bound inside stays
 
@@ -111,6 +112,10 @@ raise-var by depth index le =
 pub lower-var : (by depth index : ℕ) → depth ≤ index → stands (Ty.Var (depth + (index - depth - by))) ≡ sunk depth (lowering by) index
 lower-var by depth index le =
     sym (sunk-above depth (lowering by) index (index - depth) (omega arith) ∙ var-above depth (index - depth - by) (depth + (index - depth - by)) refl)
+
+pub move-var : (ps : List (Option ℕ)) (depth index : ℕ) → depth ≤ index → stands (Ty.Var (depth + moved ps (index - depth))) ≡ sunk depth (moving ps) index
+move-var ps depth index le =
+    sym (sunk-above depth (moving ps) index (index - depth) (omega arith) ∙ var-above depth (moved ps (index - depth)) (depth + moved ps (index - depth)) refl)
 
 pub put-outside : (ts : List Ty) (depth index : ℕ) → depth ≤ index → length ts ≤ index - depth → stands (Ty.Var (index - length ts)) ≡ sunk depth (putting ts) index
 put-outside ts depth index le out =

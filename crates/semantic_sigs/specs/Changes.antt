@@ -1,11 +1,12 @@
 -- Types put in for variables in parallel, and the normal form of the result at once: a type that comes in for the head
 -- of an application takes the argument by hereditary substitution.
-use Rattle.std.specs.Prelude.{ℕ, zero, suc, ◌+◌, ◌-◌, List, [], ◌∷◌}
+use Rattle.std.specs.Prelude.{ℕ, zero, suc, ◌+◌, ◌-◌, List, [], ◌∷◌, Option}
 use Rattle.omega_kinds.specs.Kind.{Kind}
 use Rattle.omega_types.specs.Ty.{Ty, Row}
 use Rattle.omega_types.specs.Substitution.{rename}
 use Rattle.omega_types.specs.Normaliser.{hsubst}
 use Rattle.sig_definitions.specs.Signatures.Sig.{Sig, Abs, SigRow}
+use Rattle.semantic_sigs.specs.Moved.{moved}
 
 -- what becomes of a part of a type: its own head stands, or a normal type came in for the head
 pub data Head : Type 0 where
@@ -84,7 +85,7 @@ abbrev pub put_heads : List Ty → (ℕ → Head) → ℕ → Head
 put_heads [] h = h
 put_heads (t ∷ ts) h = put_heads ts (front_head t h)
 
--- the three changes of indexes
+-- the four changes of indexes
 abbrev pub raising : ℕ → ℕ → Head
 raising by i = stands (Ty.Var (by + i))
 
@@ -93,3 +94,6 @@ lowering by i = stands (Ty.Var (i - by))
 
 abbrev pub putting : List Ty → ℕ → Head
 putting ts = put_heads ts (λ i. stands (Ty.Var i))
+
+abbrev pub moving : List (Option ℕ) → ℕ → Head
+moving places i = stands (Ty.Var (moved places i))

@@ -1,4 +1,4 @@
-// Operations on the variables in signatures: raised, lowered, and types put in for the hidden ones.
+// Operations on the variables in signatures: raised, lowered, moved, and types put in for the hidden ones.
 ghost use Rattle.std.specs.Prelude.{◌≡◌, ℕ, ◌+◌, ◌-◌, ◌<◌, ◌++◌, IfOk, List, length};
 ghost use Rattle.omega_kinds.specs.Kind.{Kind as KindTree};
 ghost use Rattle.omega_types.specs.Binders.{NormalForms, extend, puts, unders};
@@ -13,6 +13,7 @@ ghost use Rattle.sig_definitions.specs.Signatures.SigSubst.{rename_sig, rename_a
 ghost use Rattle.semantic_sigs.specs.Change.{change_of};
 ghost use Rattle.semantic_sigs.specs.Changes.{sig_in, abs_in, sig_row_in, sunk, sinks, ty_in, putting};
 ghost use Rattle.semantic_sigs.specs.Fields.{sig_row};
+ghost use Rattle.semantic_sigs.specs.Moved.{moved};
 ghost use Rattle.semantic_sigs.specs.View.{kinds_of, body_of};
 
 use crate::heads::{Change, change_ty, sum};
@@ -85,6 +86,21 @@ pub fn lower_sig(alloc: Global, sig: &Sig, by: u64) -> Result<Sig, Mem>
     ensures normal { IfOk result (λ s. (inner ctx : List KindTree) → length inner ≡ by → NormalSig (inner ++ ctx) sig.now → ((i : ℕ) → i < by → MentionsSig i sig.now → ⊥) → NormalSig ctx s) }
 {
     changed_sig(alloc, sig, Change::Lower(by), 0)
+}
+
+/// The signature with a new index for each free variable that has one in `places`, a list that begins with the innermost
+/// variable's; each other index stays. `Err` is want of memory, also where an index would pass the last number.
+pub fn renumber_sig(alloc: Global, sig: &Sig, places: &[Option<u64>]) -> Result<Sig, Mem>
+    ensures { IfOk result (λ s. s ≡ rename_sig (moved places.now) sig.now) }
+{
+    changed_sig(alloc, sig, Change::Move(places), 0)
+}
+
+/// The same for an abstract signature.
+pub fn renumber_abs(alloc: Global, abs: &Abs, places: &[Option<u64>]) -> Result<Abs, Mem>
+    ensures { IfOk result (λ x. x ≡ rename_abs (moved places.now) abs.now) }
+{
+    changed_abs(alloc, abs, Change::Move(places), 0)
 }
 
 // The signature, changed below `depth` binders; shared where nothing changes.

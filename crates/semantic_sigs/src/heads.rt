@@ -1,8 +1,9 @@
-// Changes of the variables in types: raised, lowered, or normal types put in for them.
-ghost use Rattle.std.specs.Prelude.{◌≡◌, ◌≤◌, ◌+◌, ℕ, IfOk, IsTrue};
+// Changes of the variables in types: raised, lowered, moved, or normal types put in for them.
+ghost use Rattle.std.specs.Prelude.{◌≡◌, ◌≤◌, ◌+◌, ◌-◌, ℕ, IfOk, IsTrue};
 ghost use Rattle.omega_types.specs.Fields.{row};
 ghost use Rattle.semantic_sigs.specs.Change.{change_of, head_of};
-ghost use Rattle.semantic_sigs.specs.Changes.{apply_head, head_in, row_in, stands, came, sunk, ty_in, under_head, putting};
+ghost use Rattle.semantic_sigs.specs.Changes.{apply_head, head_in, row_in, stands, came, sunk, ty_in, under_head, putting, moving};
+ghost use Rattle.semantic_sigs.specs.Moved.{moved, place_in};
 ghost use Rattle.omega_types.specs.Ty.{Var};
 ghost use Rattle.omega_types.specs.Normaliser.{hsubst};
 ghost use Rattle.omega_kinds.specs.View.{kind_tree};
@@ -12,13 +13,15 @@ use omega_types::{Ty, TyFields, TyNode, next_level, shift};
 use std::alloc::Global;
 use type_normal::{NormalTy, as_normal, hsubst, plain};
 
-// What happens to the free variables: each index rises or falls by a number, or the innermost variables, as many as
-// there are types, are replaced by these, the first for the outermost of them, and each other index falls by their number.
+// What happens to the free variables: each index rises or falls by a number; or the innermost variables, as many as
+// there are types, are replaced by these, the first for the outermost of them, and each other index falls by their number;
+// or each variable that has a new index in the list, which begins with the innermost one's, gets it.
 #[derive(Clone, Copy)]
 pub(crate) enum Change<'a> {
     Raise(u64),
     Lower(u64),
     Put(&'a [NormalTy]),
+    Move(&'a [Option<u64>]),
 }
 
 impl Change<'_> {
@@ -29,6 +32,7 @@ impl Change<'_> {
         match self {
             Change::Raise(by) | Change::Lower(by) => by == 0,
             Change::Put(types) => types.is_empty(),
+            Change::Move(places) => places.is_empty(),
         }
     }
 }
@@ -141,6 +145,7 @@ fn change_var(alloc: Global, change: Change<'_>, depth: u64, index: u64) -> Resu
         Change::Raise(by) => stand(alloc, sum(index, by)?),
         Change::Lower(by) => stand(alloc, depth + (index - depth).saturating_sub(by)),
         Change::Put(types) => put_var(alloc, types, depth, index),
+        Change::Move(places) => move_var(alloc, places, depth, index),
     }
 }
 
@@ -170,6 +175,35 @@ fn put_var(alloc: Global, types: &[NormalTy], depth: u64, index: u64) -> Result<
     }
     let ty = &types[types.len() - 1 - place as usize];
     Ok(Filled::Came(shift(alloc, plain(ty), depth, 0)?))
+}
+
+// A free variable below `depth` binders, with its new index.
+fn move_var(alloc: Global, places: &[Option<u64>], depth: u64, index: u64) -> Result<Filled, Mem>
+    requires { depth ≤ index }
+    ensures { IfOk result (λ p. head_of p ≡ sunk depth (moving places.now) index) }
+{
+    let new = new_index(places, depth, index)?;
+    stand(alloc, new)
+}
+
+// The new index of a free variable below `depth` binders.
+#[tactic(auto, using(crate::proofs::MoveSteps::index_steps))]
+fn new_index(places: &[Option<u64>], depth: u64, index: u64) -> Result<u64, Mem>
+    requires { depth ≤ index }
+    ensures { IfOk result (λ new. new ≡ depth + moved places.now (index - depth)) }
+{
+    match place_of(places, index - depth) {
+        Some(new) => sum(new, depth),
+        None => Ok(index),
+    }
+}
+
+// The place of a variable, `None` where it has none.
+#[tactic(auto, using(crate::proofs::MoveSteps::place_steps))]
+fn place_of(places: &[Option<u64>], index: u64) -> Option<u64>
+    ensures { result ≡ place_in places.now index }
+{
+    places.get(index as usize).copied().flatten()
 }
 
 // A part at an argument: a type that came in for the head takes it.

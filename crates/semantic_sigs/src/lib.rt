@@ -1,6 +1,6 @@
 // Semantic signatures in code: shared trees, what elaboration makes of phrases, environments, and operations on them.
 // Stands on the crates of types and terms, and on sig_definitions and sig_laws, whose definitions its contracts cite.
-// Proved: `raise_sig`, `raise_abs` and `lower_sig` rename as the definitions do, `instantiate` and `instantiate_abs` give
+// Proved: `raise_sig`, `lower_sig`, `renumber_sig` and their like rename as the definitions do, `instantiate` and `instantiate_abs` give
 // the normal form of a signature at types, `sig_mentions` decides mentions, `field` finds a part by its name and `part` by
 // a path, `encode` and `encode_sig` give the encoding, and `find` gives exactly what an environment has for a name.
 #![tactic(auto)]
@@ -19,7 +19,10 @@ mod standing;
 mod tree;
 mod witnesses;
 
-pub use changing::{instantiate, instantiate_abs, lower_sig, put_types, raise_abs, raise_sig};
+pub use changing::{
+    instantiate, instantiate_abs, lower_sig, put_types, raise_abs, raise_sig, renumber_abs,
+    renumber_sig,
+};
 pub use encoding::{encode, encode_sig};
 pub use env::{Entry, Env};
 pub use forms::Functor;
