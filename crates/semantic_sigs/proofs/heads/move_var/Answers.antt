@@ -5,7 +5,7 @@ use Rattle.semantic_sigs.specs.Changes.{Head, stands}
 use Rattle.semantic_sigs.proofs.HeadSteps.{move-var}
 use Rattle.semantic_sigs.proofs.heads.move_var.Goals as goal
 
-pub returns-in_ok-new : goal.returns-in_ok-new
-returns-in_ok-new c =
+pub returns : goal.returns
+returns c =
     let e = ap (λ n. stands (Ty.Var n)) c.in_ok-new.ensures ∙ move-var c.args.places.now c.args.depth c.args.index c.requires in
     subst (λ (u : Head). IfOk c.stand.result (λ p. head_of p ≡ u)) e c.stand.ensures
