@@ -2,10 +2,9 @@
 use Rattle.std.proofs.Common.{◌≡◌, ℕ, zero, suc, ◌+◌, ◌<◌, ◌≤◌, true, refl, sym, ◌∙◌, ap, subst, List, [], ◌∷◌, ◌++◌, length, take, append_assoc, append-nil, length-append, arith, inl, inr, ◌⊎◌}
 use Rattle.parse_grammar.specs.Grammar.{kind_of, Class, Binds, phrase}
 use Rattle.fing_lexer.specs.declared.token.Token.{Token}
-use Rattle.fing_syntax.specs.Phrase as tree
 use Rattle.parse_grammar.specs.Meaning.{Value, Values}
 use Rattle.parse_grammar.specs.Tree.{spelling, values, Phrase}
-use Rattle.parse_grammar.specs.Program.{BeginsProgram, Farthest}
+use Rattle.parse_grammar.specs.Program.{Start, programs, Begins, Farthest}
 use Rattle.parse_grammar.specs.Tables.{number_of}
 use Rattle.parse_grammar.proofs.Sets.{fits}
 use Rattle.parse_grammar.proofs.Checks.{behind_ok}
@@ -42,46 +41,50 @@ take_front : (a l : List Token) → take (length a) (a ++ l) ≡ a
 take_front [] l = refl
 take_front (b ∷ a) l = ap (λ z. b ∷ z) (take_front a l)
 
-whole_run : {p : tree.Binds} {ts : List Token} (g : ℕ) → (w : Phrase Binds ts p) → size w.parts ≤ g → run g (phrase Binds ∷ []) ts ≡ got (values w.parts) []
-whole_run {p} {ts} g w h =
-    ap (λ z. run g (phrase Binds ∷ []) z) (sym (ap (λ z. z ++ []) w.spelled ∙ append-nil ts)) ∙ complete w.parts [] g h (behind_ok Binds)
+-- the end may stand behind a class from which a text starts
+pub start_ok : {n : Class} → Start n → fits (phrase n ∷ []) (ahead []) ≡ true
+start_ok programs = behind_ok Binds
+
+whole_run : {n : Class} {p : Value n} {ts : List Token} (g : ℕ) → Start n → (w : Phrase n ts p) → size w.parts ≤ g → run g (phrase n ∷ []) ts ≡ got (values w.parts) []
+whole_run {n} {p} {ts} g st w h =
+    ap (λ z. run g (phrase n ∷ []) z) (sym (ap (λ z. z ++ []) w.spelled ∙ append-nil ts)) ∙ complete w.parts [] g h (start_ok st)
 
 -- a run that stops shows where
-pub stop_is_farthest : (f : ℕ) (ts left : List Token) → run f (phrase Binds ∷ []) ts ≡ stop left
-    → (at : ℕ) × (at + length left ≡ length ts) × Farthest ts at × ((p : tree.Binds) → Phrase Binds ts p → ⊥)
-stop_is_farthest f ts left e = (length s.taken, lengths, record { within = omega (arith, lengths); begins = begins; longest = longest }, none)
+pub stop_is_farthest : {n : Class} (f : ℕ) (ts left : List Token) → Start n → run f (phrase n ∷ []) ts ≡ stop left
+    → (at : ℕ) × (at + length left ≡ length ts) × Farthest n ts at × ((p : Value n) → Phrase n ts p → ⊥)
+stop_is_farthest {n} f ts left st e = (length s.taken, lengths, record { within = omega (arith, lengths); begins = begins; longest = longest }, none)
   where
-    s : Stopped f (phrase Binds ∷ []) ts left
-    s = stopped f (phrase Binds ∷ []) ts left e
+    s : Stopped f (phrase n ∷ []) ts left
+    s = stopped f (phrase n ∷ []) ts left e
 
     lengths : length s.taken + length left ≡ length ts
     lengths = sym (length-append s.taken left) ∙ ap length s.split
 
-    never : (x : List Token) (p : tree.Binds) → ahead x ≡ ahead left → Phrase Binds (s.taken ++ x) p → ⊥
-    never x p a w = got_not_stop (sym (whole_run (f + size w.parts) w (omega arith)) ∙ s.other (f + size w.parts) x (omega arith) a)
+    never : (x : List Token) (p : Value n) → ahead x ≡ ahead left → Phrase n (s.taken ++ x) p → ⊥
+    never x p a w = got_not_stop (sym (whole_run (f + size w.parts) st w (omega arith)) ∙ s.other (f + size w.parts) x (omega arith) a)
 
-    begins : BeginsProgram (take (length s.taken) ts)
-    begins = subst (λ z. BeginsProgram z) (sym (ap (λ z. take (length s.taken) z) (sym s.split) ∙ take_front s.taken left))
-        (record { more = s.more; program = (values s.trees).0; whole = record { parts = s.trees; spelled = s.begins; given = refl } })
+    begins : Begins n (take (length s.taken) ts)
+    begins = subst (λ z. Begins n z) (sym (ap (λ z. take (length s.taken) z) (sym s.split) ∙ take_front s.taken left))
+        (record { more = s.more; tree = (values s.trees).0; whole = record { parts = s.trees; spelled = s.begins; given = refl } })
 
-    longest : (k : ℕ) → length s.taken < k → k ≤ length ts → BeginsProgram (take k ts) → ⊥
+    longest : (k : ℕ) → length s.taken < k → k ≤ length ts → Begins n (take k ts) → ⊥
     longest k h w b =
         let l : (t : Token) × (x : List Token) × (take k (s.taken ++ left) ≡ s.taken ++ t ∷ x) × (number_of (kind_of t) ≡ ahead left)
         = longer s.taken left k h (subst (λ z. k ≤ length z) (sym s.split) w) in
         let eq : take k ts ++ b.more ≡ s.taken ++ (l.0 ∷ (l.1 ++ b.more)) =
         ap (λ z. take k z ++ b.more) (sym s.split) ∙ ap (λ z. z ++ b.more) l.2 ∙ append_assoc s.taken (l.0 ∷ l.1) b.more in
-        never (l.0 ∷ (l.1 ++ b.more)) b.program l.3 (subst (λ z. Phrase Binds z b.program) eq b.whole)
+        never (l.0 ∷ (l.1 ++ b.more)) b.tree l.3 (subst (λ z. Phrase n z b.tree) eq b.whole)
 
-    none : (p : tree.Binds) → Phrase Binds ts p → ⊥
-    none p w = never left p refl (subst (λ z. Phrase Binds z p) (sym s.split) w)
+    none : (p : Value n) → Phrase n ts p → ⊥
+    none p w = never left p refl (subst (λ z. Phrase n z p) (sym s.split) w)
 
 -- so does one that leaves tokens
-pub rest_is_farthest : (f : ℕ) (ts : List Token) (vs : Values (phrase Binds ∷ [])) (t : Token) (rest : List Token) → run f (phrase Binds ∷ []) ts ≡ got vs (t ∷ rest)
-    → (at : ℕ) × (at + length (t ∷ rest) ≡ length ts) × Farthest ts at × ((p : tree.Binds) → Phrase Binds ts p → ⊥)
-rest_is_farthest f ts vs t rest e = (length taken, lengths, record { within = omega (arith, lengths); begins = begins; longest = longest }, none)
+pub rest_is_farthest : {n : Class} (f : ℕ) (ts : List Token) (vs : Values (phrase n ∷ [])) (t : Token) (rest : List Token) → Start n → run f (phrase n ∷ []) ts ≡ got vs (t ∷ rest)
+    → (at : ℕ) × (at + length (t ∷ rest) ≡ length ts) × Farthest n ts at × ((p : Value n) → Phrase n ts p → ⊥)
+rest_is_farthest {n} f ts vs t rest st e = (length taken, lengths, record { within = omega (arith, lengths); begins = begins; longest = longest }, none)
   where
-    s : Got f (phrase Binds ∷ []) ts vs (t ∷ rest)
-    s = sound f (phrase Binds ∷ []) ts vs (t ∷ rest) e
+    s : Got f (phrase n ∷ []) ts vs (t ∷ rest)
+    s = sound f (phrase n ∷ []) ts vs (t ∷ rest) e
 
     taken : List Token
     taken = spelling s.trees
@@ -89,35 +92,35 @@ rest_is_farthest f ts vs t rest e = (length taken, lengths, record { within = om
     lengths : length taken + length (t ∷ rest) ≡ length ts
     lengths = sym (length-append taken (t ∷ rest)) ∙ ap length s.spelled
 
-    never : (u : Token) (x : List Token) (p : tree.Binds) → number_of (kind_of u) ≡ number_of (kind_of t) → Phrase Binds (taken ++ u ∷ x) p → ⊥
-    never u x p a w = not_empty (got_rest (sym (whole_run (f + size w.parts) w (omega arith)) ∙ s.other (f + size w.parts) (u ∷ x) (omega arith) a))
+    never : (u : Token) (x : List Token) (p : Value n) → number_of (kind_of u) ≡ number_of (kind_of t) → Phrase n (taken ++ u ∷ x) p → ⊥
+    never u x p a w = not_empty (got_rest (sym (whole_run (f + size w.parts) st w (omega arith)) ∙ s.other (f + size w.parts) (u ∷ x) (omega arith) a))
       where
         not_empty : [] ≡ u ∷ x → ⊥
         not_empty q = cc
 
-    begins : BeginsProgram (take (length taken) ts)
-    begins = subst (λ z. BeginsProgram z) (sym (ap (λ z. take (length taken) z) (sym s.spelled) ∙ take_front taken (t ∷ rest)))
-        (record { more = []; program = (values s.trees).0; whole = record { parts = s.trees; spelled = sym (append-nil taken); given = refl } })
+    begins : Begins n (take (length taken) ts)
+    begins = subst (λ z. Begins n z) (sym (ap (λ z. take (length taken) z) (sym s.spelled) ∙ take_front taken (t ∷ rest)))
+        (record { more = []; tree = (values s.trees).0; whole = record { parts = s.trees; spelled = sym (append-nil taken); given = refl } })
 
-    longest : (k : ℕ) → length taken < k → k ≤ length ts → BeginsProgram (take k ts) → ⊥
+    longest : (k : ℕ) → length taken < k → k ≤ length ts → Begins n (take k ts) → ⊥
     longest k h w b =
         let l : (u : Token) × (x : List Token) × (take k (taken ++ t ∷ rest) ≡ taken ++ u ∷ x) × (number_of (kind_of u) ≡ number_of (kind_of t))
         = longer taken (t ∷ rest) k h (subst (λ z. k ≤ length z) (sym s.spelled) w) in
         let eq : take k ts ++ b.more ≡ taken ++ (l.0 ∷ (l.1 ++ b.more)) =
         ap (λ z. take k z ++ b.more) (sym s.spelled) ∙ ap (λ z. z ++ b.more) l.2 ∙ append_assoc taken (l.0 ∷ l.1) b.more in
-        never l.0 (l.1 ++ b.more) b.program l.3 (subst (λ z. Phrase Binds z b.program) eq b.whole)
+        never l.0 (l.1 ++ b.more) b.tree l.3 (subst (λ z. Phrase n z b.tree) eq b.whole)
 
-    none : (p : tree.Binds) → Phrase Binds ts p → ⊥
-    none p w = never t rest p refl (subst (λ z. Phrase Binds z p) (sym s.spelled) w)
+    none : (p : Value n) → Phrase n ts p → ⊥
+    none p w = never t rest p refl (subst (λ z. Phrase n z p) (sym s.spelled) w)
 
--- a run to the end gives the program
-pub end_is_program : (f : ℕ) (ts : List Token) (vs : Values (phrase Binds ∷ [])) → run f (phrase Binds ∷ []) ts ≡ got vs [] → Phrase Binds ts vs.0
-end_is_program f ts vs e =
-    let s : Got f (phrase Binds ∷ []) ts vs [] = sound f (phrase Binds ∷ []) ts vs [] e in
+-- a run to the end gives the phrase
+pub end_is_phrase : {n : Class} (f : ℕ) (ts : List Token) (vs : Values (phrase n ∷ [])) → run f (phrase n ∷ []) ts ≡ got vs [] → Phrase n ts vs.0
+end_is_phrase {n} f ts vs e =
+    let s : Got f (phrase n ∷ []) ts vs [] = sound f (phrase n ∷ []) ts vs [] e in
     record { parts = s.trees; spelled = sym (append-nil (spelling s.trees)) ∙ s.spelled; given = ap (λ z. z.0) s.given }
 
 -- there is one such number
-pub one_farthest : (ts : List Token) (a b : ℕ) → Farthest ts a → Farthest ts b → a ≡ b
+pub one_farthest : {n : Class} (ts : List Token) (a b : ℕ) → Farthest n ts a → Farthest n ts b → a ≡ b
 one_farthest ts a b p q = go (order a b)
   where
     order : (a b : ℕ) → (a < b) ⊎ ((b < a) ⊎ (a ≡ b))

@@ -2,10 +2,9 @@
 use Rattle.std.proofs.Common.{◌≡◌, ℕ, suc, Bool, true, false, ◌&&◌, ◌||◌, not, eqb, max, cond, ◌+◌, ◌-◌, ◌*◌, ◌<◌, refl, sym, ◌∙◌, ap, subst, List, [], ◌∷◌, ◌++◌, length, length-append, append_assoc, eqb-true, arith}
 use Rattle.std.specs.Prelude.{Option, None, Some, option_map}
 use Rattle.fing_lexer.specs.declared.token.Token.{Token}
-use Rattle.fing_syntax.specs.Phrase as tree
-use Rattle.parse_grammar.specs.Grammar.{Terminal, kind_of, Class, Binds, Symbol, token, phrase, Rule, rhs}
+use Rattle.parse_grammar.specs.Grammar.{Terminal, kind_of, Class, Symbol, token, phrase, Rule, rhs}
 use Rattle.parse_grammar.specs.Meaning.{Value, Values, act}
-use Rattle.parse_grammar.specs.Program.{Farthest}
+use Rattle.parse_grammar.specs.Program.{Start, Farthest}
 use Rattle.parse_grammar.specs.Reading.{Run, got, stop, spent, next, ahead, by_token, by_rule, reads, lead, need}
 use Rattle.parse_grammar.specs.Tables.{number_of, choose, can_be_empty, rank}
 use Rattle.parse_grammar.specs.Tree.{Trees, end, leaf, node, spelling, Phrase}
@@ -29,16 +28,16 @@ ended (stop x) = halted x
 ended spent = never
 
 -- these symbols are wanted behind the moves, and these tokens are left
-pub record Reached (tokens rest : List Token) (wanted : List Symbol) (moves : List Move) : Type 0 where
+pub record Reached (m : Class) (tokens rest : List Token) (wanted : List Symbol) (moves : List Move) : Type 0 where
   pub taken : List Token
   pub split : taken ++ rest ≡ tokens
-  pub grows : (c : Trees wanted) → (d : Trees (phrase Binds ∷ [])) × (spelling d ≡ taken ++ spelling c) × (track d [] ≡ track c moves)
-  pub ends : ended (reads wanted rest) ≡ ended (reads (phrase Binds ∷ []) tokens)
+  pub grows : (c : Trees wanted) → (d : Trees (phrase m ∷ [])) × (spelling d ≡ taken ++ spelling c) × (track d [] ≡ track c moves)
+  pub ends : ended (reads wanted rest) ≡ ended (reads (phrase m ∷ []) tokens)
 
--- no program, and its longest front that begins one is so long
-pub record WrongAt (tokens : List Token) (at : ℕ) : Type 0 where
-  pub farthest : Farthest tokens at
-  pub none : (p : tree.Binds) → Phrase Binds tokens p → ⊥
+-- no phrase of the class, and the longest front that begins one is so long
+pub record WrongAt (m : Class) (tokens : List Token) (at : ℕ) : Type 0 where
+  pub farthest : Farthest m tokens at
+  pub none : (p : Value m) → Phrase m tokens p → ⊥
 
 ended_map : {A B : Type 0} (f : A → B) (z : Run A) → ended (next z (λ v x. got (f v) x)) ≡ ended z
 ended_map f (got a x) = refl
@@ -108,27 +107,27 @@ cut (phrase n ∷ xs) ys (node r cs ts) =
       tracked = λ ms. i.tracked (track cs (by (any r) ∷ ms));
     }
 
-pub at_start : (tokens : List Token) → Reached tokens tokens (phrase Binds ∷ []) []
-at_start tokens = record { taken = []; split = refl; grows = λ c. (c, refl, refl); ends = refl }
+pub at_start : (m : Class) (tokens : List Token) → Reached m tokens tokens (phrase m ∷ []) []
+at_start m tokens = record { taken = []; split = refl; grows = λ c. (c, refl, refl); ends = refl }
 
-token_taken : {tokens rest : List Token} {ss : List Symbol} {ms : List Move} (k : Terminal) (t : Token) → eqb (number_of (kind_of t)) (number_of k) ≡ true
-    → Reached tokens (t ∷ rest) (token k ∷ ss) ms → Reached tokens rest ss (shift t ∷ ms)
-token_taken {tokens} {rest} {ss} {ms} k t e i = record {
+token_taken : {m : Class} {tokens rest : List Token} {ss : List Symbol} {ms : List Move} (k : Terminal) (t : Token) → eqb (number_of (kind_of t)) (number_of k) ≡ true
+    → Reached m tokens (t ∷ rest) (token k ∷ ss) ms → Reached m tokens rest ss (shift t ∷ ms)
+token_taken {m} {tokens} {rest} {ss} {ms} k t e i = record {
   taken = i.taken ++ t ∷ [];
   split = append_assoc i.taken (t ∷ []) rest ∙ i.split;
   grows = grows;
   ends = sym (ended_map (λ vs. (t, vs)) (reads ss rest)) ∙ ap (λ b. ended (by_token b (reads ss rest) t rest)) (sym e) ∙ ap ended (sym (reads_token k ss t rest)) ∙ i.ends;
 }
   where
-    grows : (c : Trees ss) → (d : Trees (phrase Binds ∷ [])) × (spelling d ≡ (i.taken ++ t ∷ []) ++ spelling c) × (track d [] ≡ track c (shift t ∷ ms))
+    grows : (c : Trees ss) → (d : Trees (phrase m ∷ [])) × (spelling d ≡ (i.taken ++ t ∷ []) ++ spelling c) × (track d [] ≡ track c (shift t ∷ ms))
     grows c =
-        let q : (d : Trees (phrase Binds ∷ [])) × (spelling d ≡ i.taken ++ t ∷ spelling c) × (track d [] ≡ track c (shift t ∷ ms))
+        let q : (d : Trees (phrase m ∷ [])) × (spelling d ≡ i.taken ++ t ∷ spelling c) × (track d [] ≡ track c (shift t ∷ ms))
         = i.grows (leaf t (same_terminal (kind_of t) k (eqb-true _ _ e)) c) in
         (q.0, q.1 ∙ sym (append_assoc i.taken (t ∷ []) (spelling c)), q.2)
 
-rule_chosen : {tokens rest : List Token} {ss : List Symbol} {ms : List Move} {n : Class} (r : Rule n) → choose n (ahead rest) ≡ Some r
-    → Reached tokens rest (phrase n ∷ ss) ms → Reached tokens rest (rhs r ++ ss) (by (any r) ∷ ms)
-rule_chosen {tokens} {rest} {ss} {ms} {n} r e i = record {
+rule_chosen : {m : Class} {tokens rest : List Token} {ss : List Symbol} {ms : List Move} {n : Class} (r : Rule n) → choose n (ahead rest) ≡ Some r
+    → Reached m tokens rest (phrase n ∷ ss) ms → Reached m tokens rest (rhs r ++ ss) (by (any r) ∷ ms)
+rule_chosen {m} {tokens} {rest} {ss} {ms} {n} r e i = record {
   taken = i.taken;
   split = i.split;
   grows = grows;
@@ -143,10 +142,10 @@ rule_chosen {tokens} {rest} {ss} {ms} {n} r e i = record {
     inside (stop x) = refl
     inside spent = refl
 
-    grows : (c : Trees (rhs r ++ ss)) → (d : Trees (phrase Binds ∷ [])) × (spelling d ≡ i.taken ++ spelling c) × (track d [] ≡ track c (by (any r) ∷ ms))
+    grows : (c : Trees (rhs r ++ ss)) → (d : Trees (phrase m ∷ [])) × (spelling d ≡ i.taken ++ spelling c) × (track d [] ≡ track c (by (any r) ∷ ms))
     grows c =
         let s : Cut (rhs r) ss c = cut (rhs r) ss c in
-        let q : (d : Trees (phrase Binds ∷ [])) × (spelling d ≡ i.taken ++ (spelling s.front ++ spelling s.behind)) × (track d [] ≡ track s.behind (track s.front (by (any r) ∷ ms)))
+        let q : (d : Trees (phrase m ∷ [])) × (spelling d ≡ i.taken ++ (spelling s.front ++ spelling s.behind)) × (track d [] ≡ track s.behind (track s.front (by (any r) ∷ ms)))
         = i.grows (node r s.front s.behind) in
         (q.0, q.1 ∙ ap (λ z. i.taken ++ z) (sym s.spelled), q.2 ∙ sym (s.tracked (by (any r) ∷ ms)))
 
@@ -157,19 +156,19 @@ none_some : {A : Type 0} {x : A} → None ≡ Some x → ⊥
 none_some e = cc
 
 -- a move keeps what was reached
-pub on_move : {tokens rest : List Token} {s : Symbol} {ss : List Symbol} {ms : List Move} {p : Move × List Token}
-    → advance s rest ≡ Some p → Reached tokens rest (s ∷ ss) ms → Reached tokens p.1 (pushed p.0 ++ ss) (p.0 ∷ ms)
+pub on_move : {m : Class} {tokens rest : List Token} {s : Symbol} {ss : List Symbol} {ms : List Move} {p : Move × List Token}
+    → advance s rest ≡ Some p → Reached m tokens rest (s ∷ ss) ms → Reached m tokens p.1 (pushed p.0 ++ ss) (p.0 ∷ ms)
 on_move {rest = []} {s = token k} e i = absurd (none_some e)
-on_move {tokens} {rest = t ∷ rest} {s = token k} {ss} {ms} {p} e i = go (eqb (number_of (kind_of t)) (number_of k)) refl e
+on_move {m} {tokens} {rest = t ∷ rest} {s = token k} {ss} {ms} {p} e i = go (eqb (number_of (kind_of t)) (number_of k)) refl e
   where
-    go : (b : Bool) → eqb (number_of (kind_of t)) (number_of k) ≡ b → by_number b t rest ≡ Some p → Reached tokens p.1 (pushed p.0 ++ ss) (p.0 ∷ ms)
-    go true h q = subst (λ z. Reached tokens z.1 (pushed z.0 ++ ss) (z.0 ∷ ms)) (some_same q) (token_taken k t h i)
+    go : (b : Bool) → eqb (number_of (kind_of t)) (number_of k) ≡ b → by_number b t rest ≡ Some p → Reached m tokens p.1 (pushed p.0 ++ ss) (p.0 ∷ ms)
+    go true h q = subst (λ z. Reached m tokens z.1 (pushed z.0 ++ ss) (z.0 ∷ ms)) (some_same q) (token_taken k t h i)
     go false h q = absurd (none_some q)
-on_move {tokens} {rest} {s = phrase n} {ss} {ms} {p} e i = go (choose n (ahead rest)) refl e
+on_move {m} {tokens} {rest} {s = phrase n} {ss} {ms} {p} e i = go (choose n (ahead rest)) refl e
   where
-    go : (o : Option (Rule n)) → choose n (ahead rest) ≡ o → any_move rest (option_map any o) ≡ Some p → Reached tokens p.1 (pushed p.0 ++ ss) (p.0 ∷ ms)
+    go : (o : Option (Rule n)) → choose n (ahead rest) ≡ o → any_move rest (option_map any o) ≡ Some p → Reached m tokens p.1 (pushed p.0 ++ ss) (p.0 ∷ ms)
     go None h q = absurd (none_some q)
-    go (Some r) h q = subst (λ z. Reached tokens z.1 (pushed z.0 ++ ss) (z.0 ∷ ms)) (some_same q) (rule_chosen r h i)
+    go (Some r) h q = subst (λ z. Reached m tokens z.1 (pushed z.0 ++ ss) (z.0 ∷ ms)) (some_same q) (rule_chosen r h i)
 
 lead_front : (xs ys : List Symbol) → all_empty xs ≡ false → lead (xs ++ ys) ≡ lead xs
 lead_front [] ys e = absurd (cc)
@@ -218,38 +217,38 @@ over_got (got a y) x e = let q : y ≡ x = cc in (a, ap (λ w. got a w) q)
 over_got (stop y) x e = absurd (cc)
 over_got spent x e = absurd (cc)
 
-wrong : (tokens rest : List Token) → (at : ℕ) × (at + length rest ≡ length tokens) × Farthest tokens at × ((p : tree.Binds) → Phrase Binds tokens p → ⊥) → WrongAt tokens (length tokens - length rest)
-wrong tokens rest q =
+wrong : {m : Class} (tokens rest : List Token) → (at : ℕ) × (at + length rest ≡ length tokens) × Farthest m tokens at × ((p : Value m) → Phrase m tokens p → ⊥) → WrongAt m tokens (length tokens - length rest)
+wrong {m} tokens rest q =
     let e : q.0 ≡ length tokens - length rest = omega (arith, q.1) in
-    record { farthest = subst (λ z. Farthest tokens z) e q.2; none = q.3 }
+    record { farthest = subst (λ z. Farthest m tokens z) e q.2; none = q.3 }
 
-stops_there : {tokens rest : List Token} → ended (reads (phrase Binds ∷ []) tokens) ≡ halted rest → WrongAt tokens (length tokens - length rest)
+stops_there : {m : Class} {tokens rest : List Token} → Start m → ended (reads (phrase m ∷ []) tokens) ≡ halted rest → WrongAt m tokens (length tokens - length rest)
 unfolding reads
-stops_there {tokens} {rest} e =
-    wrong tokens rest (stop_is_farthest (need (phrase Binds ∷ []) (length tokens)) tokens rest (halted_stop (reads (phrase Binds ∷ []) tokens) rest e))
+stops_there {m} {tokens} {rest} st e =
+    wrong tokens rest (stop_is_farthest (need (phrase m ∷ []) (length tokens)) tokens rest st (halted_stop (reads (phrase m ∷ []) tokens) rest e))
 
--- where no move can be made the tokens are no program
-pub on_stop : {tokens rest : List Token} {s : Symbol} {ss : List Symbol} {ms : List Move} → advance s rest ≡ None → Reached tokens rest (s ∷ ss) ms → WrongAt tokens (length tokens - length rest)
-on_stop {rest = []} {s = token k} {ss} e i = stops_there {rest = []} (sym i.ends ∙ ap ended (reads_no_token k ss))
-on_stop {tokens} {rest = t ∷ rest} {s = token k} {ss} e i = go (eqb (number_of (kind_of t)) (number_of k)) refl e
+-- where no move can be made the tokens are no phrase of the class
+pub on_stop : {m : Class} {tokens rest : List Token} {s : Symbol} {ss : List Symbol} {ms : List Move} → Start m → advance s rest ≡ None → Reached m tokens rest (s ∷ ss) ms → WrongAt m tokens (length tokens - length rest)
+on_stop {rest = []} {s = token k} {ss} st e i = stops_there {rest = []} st (sym i.ends ∙ ap ended (reads_no_token k ss))
+on_stop {m} {tokens} {rest = t ∷ rest} {s = token k} {ss} st e i = go (eqb (number_of (kind_of t)) (number_of k)) refl e
   where
-    go : (b : Bool) → eqb (number_of (kind_of t)) (number_of k) ≡ b → by_number b t rest ≡ None → WrongAt tokens (length tokens - length (t ∷ rest))
+    go : (b : Bool) → eqb (number_of (kind_of t)) (number_of k) ≡ b → by_number b t rest ≡ None → WrongAt m tokens (length tokens - length (t ∷ rest))
     go true h q = absurd (none_some (sym q))
-    go false h q = stops_there {rest = t ∷ rest} (sym i.ends ∙ ap ended (reads_token k ss t rest) ∙ ap (λ b. ended (by_token b (reads ss rest) t rest)) h)
-on_stop {tokens} {rest} {s = phrase n} {ss} e i = go (choose n (ahead rest)) refl e
+    go false h q = stops_there {rest = t ∷ rest} st (sym i.ends ∙ ap ended (reads_token k ss t rest) ∙ ap (λ b. ended (by_token b (reads ss rest) t rest)) h)
+on_stop {m} {tokens} {rest} {s = phrase n} {ss} st e i = go (choose n (ahead rest)) refl e
   where
-    go : (o : Option (Rule n)) → choose n (ahead rest) ≡ o → any_move rest (option_map any o) ≡ None → WrongAt tokens (length tokens - length rest)
-    go None h q = stops_there {rest = rest} (sym i.ends ∙ ap ended (reads_phrase n ss rest) ∙ ap (λ o. ended (by_rule ss reads o rest)) h)
+    go : (o : Option (Rule n)) → choose n (ahead rest) ≡ o → any_move rest (option_map any o) ≡ None → WrongAt m tokens (length tokens - length rest)
+    go None h q = stops_there {rest = rest} st (sym i.ends ∙ ap ended (reads_phrase n ss rest) ∙ ap (λ o. ended (by_rule ss reads o rest)) h)
     go (Some r) h q = absurd (none_some (sym q))
 
--- where nothing more is wanted the tokens taken are a program
-pub on_end : {tokens : List Token} {ms : List Move} → Reached tokens [] [] ms → (d : Trees (phrase Binds ∷ [])) × (spelling d ≡ tokens) × (track d [] ≡ ms)
+-- where nothing more is wanted the tokens taken are a phrase of the class
+pub on_end : {m : Class} {tokens : List Token} {ms : List Move} → Reached m tokens [] [] ms → (d : Trees (phrase m ∷ [])) × (spelling d ≡ tokens) × (track d [] ≡ ms)
 on_end i = let q = i.grows end in (q.0, q.1 ∙ i.split, q.2)
 
-left_over : {tokens rest : List Token} {t : Token} → (vs : Values (phrase Binds ∷ [])) × (reads (phrase Binds ∷ []) tokens ≡ got vs (t ∷ rest)) → WrongAt tokens (length tokens - length (t ∷ rest))
+left_over : {m : Class} {tokens rest : List Token} {t : Token} → Start m → (vs : Values (phrase m ∷ [])) × (reads (phrase m ∷ []) tokens ≡ got vs (t ∷ rest)) → WrongAt m tokens (length tokens - length (t ∷ rest))
 unfolding reads
-left_over {tokens} {rest} {t} q = wrong tokens (t ∷ rest) (rest_is_farthest (need (phrase Binds ∷ []) (length tokens)) tokens q.0 t rest q.1)
+left_over {m} {tokens} {rest} {t} st q = wrong tokens (t ∷ rest) (rest_is_farthest (need (phrase m ∷ []) (length tokens)) tokens q.0 t rest st q.1)
 
-pub on_rest : {tokens rest : List Token} {ms : List Move} → 0 < length rest → Reached tokens rest [] ms → WrongAt tokens (length tokens - length rest)
-on_rest {rest = []} h i = absurd (omega (arith, h))
-on_rest {tokens} {rest = t ∷ rest} h i = left_over (over_got (reads (phrase Binds ∷ []) tokens) (t ∷ rest) (sym i.ends ∙ ap ended (reads_none (t ∷ rest))))
+pub on_rest : {m : Class} {tokens rest : List Token} {ms : List Move} → Start m → 0 < length rest → Reached m tokens rest [] ms → WrongAt m tokens (length tokens - length rest)
+on_rest {rest = []} st h i = absurd (omega (arith, h))
+on_rest {m} {tokens} {rest = t ∷ rest} st h i = left_over st (over_got (reads (phrase m ∷ []) tokens) (t ∷ rest) (sym i.ends ∙ ap ended (reads_none (t ∷ rest))))

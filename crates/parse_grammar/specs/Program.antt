@@ -1,24 +1,28 @@
--- What a refusal of a list of tokens says.
+-- The classes from which a text may start, and what a refusal of a list of tokens says.
 use Rattle.std.specs.Prelude.{ℕ, ◌<◌, ◌≤◌, List, ◌++◌, length, take}
-use Rattle.parse_grammar.specs.Grammar.{Binds}
-use Rattle.fing_syntax.specs.Phrase as tree
+use Rattle.parse_grammar.specs.Grammar.{Class, Binds}
+use Rattle.parse_grammar.specs.Meaning.{Value}
 use Rattle.fing_lexer.specs.declared.token.Token.{Token}
 use Rattle.parse_grammar.specs.Tree.{Phrase}
 
--- the tokens of some program begin with these
-pub record BeginsProgram (tokens : List Token) : Type 0 where
+-- a text starts from this class
+pub data Start : Class → Type 0 where
+  programs : Start Binds
+
+-- the tokens of some phrase of the class begin with these
+pub record Begins (n : Class) (tokens : List Token) : Type 0 where
   pub more : List Token
-  pub program : tree.Binds
-  pub whole : Phrase Binds (tokens ++ more) program
+  pub tree : Value n
+  pub whole : Phrase n (tokens ++ more) tree
 
--- the longest front of the tokens that begins some program has this length
-pub record Farthest (tokens : List Token) (at : ℕ) : Type 0 where
+-- the longest front of the tokens that begins some phrase of the class has this length
+pub record Farthest (n : Class) (tokens : List Token) (at : ℕ) : Type 0 where
   pub within : at ≤ length tokens
-  pub begins : BeginsProgram (take at tokens)
-  pub longest : (k : ℕ) → at < k → k ≤ length tokens → BeginsProgram (take k tokens) → ⊥
+  pub begins : Begins n (take at tokens)
+  pub longest : (k : ℕ) → at < k → k ≤ length tokens → Begins n (take k tokens) → ⊥
 
--- no program, and the number
-pub record Refused (tokens : List Token) : Type 0 where
+-- no phrase of the class, and the number
+pub record Refused (n : Class) (tokens : List Token) : Type 0 where
   pub at : ℕ
-  pub farthest : Farthest tokens at
-  pub none : (p : tree.Binds) → Phrase Binds tokens p → ⊥
+  pub farthest : Farthest n tokens at
+  pub none : (p : Value n) → Phrase n tokens p → ⊥

@@ -1,6 +1,7 @@
 // The steps in which a list of tokens is read, with one token of look-ahead and a stack of the symbols still wanted.
 ghost use Rattle.std.specs.Prelude.{◌≡◌, eqb, ◌++◌, ◌≤◌, ◌-◌, [], ◌∷◌, List, length, map, option_map, IfOk, IfErr, OnOk};
-ghost use Rattle.parse_grammar.specs.Grammar.{Binds, kind_of, phrase, token as wants};
+ghost use Rattle.parse_grammar.specs.Grammar.{kind_of, phrase, token as wants};
+ghost use Rattle.parse_grammar.specs.Program.{Start};
 ghost use Rattle.parse_grammar.specs.Refusal.{Refuses};
 ghost use Rattle.parse_grammar.specs.Tree.{Trees, spelling};
 ghost use Rattle.parse_grammar.specs.View.{class_in, symbol_in, terminal_in};
@@ -83,18 +84,23 @@ fn want(stack: &mut Vec<Symbol>, step: Step<'_>) -> Result<(), Mem>
     }
 }
 
-/// The steps in which the tokens, of which there are at most 1,048,576, are read as a program, in the order of reading:
-/// a production stands before the steps of its parts. `Syntax` comes exactly where the tokens are no program, and its
-/// `at` is the number of tokens in their longest front that begins some program; `Mem` is want of memory.
-pub fn recognise<'a>(alloc: Global, tokens: &'a [Token]) -> Result<Vec<Step<'a>>, ParseRefusal>
-    requires { length tokens.now ≤ 1048576 }
-    ensures steps { IfOk result (λ v. (d : Trees (phrase Binds ∷ [])) × (spelling d ≡ tokens.now) × (track d [] ≡ moves v.items)) }
-    ensures refused { IfErr result (λ e. Refuses tokens.now e) }
+/// The steps in which the tokens, of which there are at most 1,048,576, are read as a phrase of the start class, in the
+/// order of reading: a production stands before the steps of its parts. `Syntax` comes exactly where the tokens are no such
+/// phrase, and its `at` is the number of tokens in their longest front that begins one; `Mem` is want of memory.
+pub fn recognise<'a>(
+    alloc: Global,
+    start: Class,
+    tokens: &'a [Token],
+) -> Result<Vec<Step<'a>>, ParseRefusal>
+    requires start { Start (class_in start) }
+    requires size { length tokens.now ≤ 1048576 }
+    ensures steps { IfOk result (λ v. (d : Trees (phrase (class_in start) ∷ [])) × (spelling d ≡ tokens.now) × (track d [] ≡ moves v.items)) }
+    ensures refused { IfErr result (λ e. Refuses (class_in start) tokens.now e) }
 {
     let mut stack = Vec::new(alloc);
     let mut steps = Vec::new(alloc);
     let mut rest = tokens;
-    stack.push(Symbol::Phrase(Class::Binds))?;
+    stack.push(Symbol::Phrase(start))?;
     'read: while let Some(symbol) = stack.pop() {
         let Some((step, more)) = advance(symbol, rest) else {
             return Err(ParseRefusal::Syntax {

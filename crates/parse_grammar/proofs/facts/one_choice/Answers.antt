@@ -1,8 +1,7 @@
 use Rattle.std.specs.Prelude.{[]}
-use Rattle.parse_grammar.specs.Grammar.{Binds}
-use Rattle.parse_grammar.proofs.Checks.{behind_ok}
+use Rattle.parse_grammar.proofs.Laws.{start_ok}
 use Rattle.parse_grammar.proofs.Run.{each_chosen}
 use Rattle.parse_grammar.proofs.facts.one_choice.Goals as goal
 
 pub returns : goal.returns
-returns c = λ d. each_chosen d [] (behind_ok Binds)
+returns c = λ n start d. each_chosen d [] (start_ok start)
