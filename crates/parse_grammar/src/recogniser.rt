@@ -84,9 +84,9 @@ fn want(stack: &mut Vec<Symbol>, step: Step<'_>) -> Result<(), Mem>
     }
 }
 
-/// The steps in which the tokens, of which there are at most 1,048,576, are read as a phrase of the start class, in the
-/// order of reading: a production stands before the steps of its parts. `Syntax` comes exactly where the tokens are no such
-/// phrase, and its `at` is the number of tokens in their longest front that begins one; `Mem` is want of memory.
+/// The steps in which the tokens, of which there are at most 1,048,576, are read as a phrase of the start class. They come
+/// in the order of reading: a production stands before the steps of its parts. `Syntax` comes exactly where the tokens are
+/// no such phrase. Its `at` is the number of tokens in their longest front that begins one. `Mem` is want of memory.
 pub fn recognise<'a>(
     alloc: Global,
     start: Class,

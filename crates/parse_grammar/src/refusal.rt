@@ -8,7 +8,7 @@ use thiserror::Error;
 /// Why a list of tokens has no tree.
 #[derive(Clone, Copy, Debug, PartialEq, Eq, Error)]
 pub enum ParseRefusal {
-    /// The tokens are no program: the longest front of them with which some program begins has `at` tokens.
+    /// The tokens are no phrase of the start class: the longest front of them that begins one has `at` tokens.
     #[error("no program goes on behind {at} tokens")]
     Syntax { at: u32 },
     /// Want of memory.
