@@ -7,6 +7,7 @@ ghost use Rattle.parse_grammar.specs.Tree.{Phrase};
 use crate::build::build;
 use fing_lexer::Token;
 use fing_syntax::Program;
+use parse_grammar::grammar::Class;
 use parse_grammar::{ParseRefusal, recognise};
 use parse_stack::BuildRefusal;
 use std::alloc::Global;
@@ -17,9 +18,9 @@ use std::alloc::Global;
 pub fn program(alloc: Global, tokens: &[Token]) -> Result<Program, ParseRefusal>
     requires { length tokens.now ≤ 1048576 }
     ensures program { IfOk result (λ p. Phrase Binds tokens.now p) }
-    ensures refused { IfErr result (λ e. Refuses tokens.now e) }
+    ensures refused { IfErr result (λ e. Refuses Binds tokens.now e) }
 {
-    let steps = recognise(alloc, tokens)?;
+    let steps = recognise(alloc, Class::Binds, tokens)?;
     match build(alloc, steps) {
         Ok(binds) => Ok(Program { binds }),
         Err(BuildRefusal::Mem) => Err(ParseRefusal::Mem),

@@ -24,6 +24,7 @@ use Rattle.fing_lexer.proofs.Slices.{sliced}
 use Rattle.fing_syntax.specs.Phrase.{Binds as Program}
 use Rattle.parse_grammar.specs.declared.refusal.ParseRefusal.{ParseRefusal}
 use Rattle.parse_grammar.specs.declared.refusal.ParseRefusal.TheVariants as parse
+use Rattle.parse_grammar.specs.Grammar.{Binds}
 use Rattle.parse_grammar.specs.Refusal.{Refuses as TokensRefuse}
 use Rattle.fing_words.specs.CommandLines.{IsCommandLine}
 use Rattle.fing_words.specs.declared.command_line.CommandLine.{CommandLine}
@@ -75,7 +76,7 @@ lexed_refused bytes (lex.BadText at) (inl e) l = absurd (cc)
 lexed_refused bytes (lex.Wide at) (inl e) l = absurd (cc)
 lexed_refused bytes (lex.TooDeep at) (inl e) l = absurd (cc)
 
-pub parsed_refused : (bytes : List ℕ) (ts : List Token) (r : ParseRefusal) → TokensOf bytes ts → TokensRefuse ts r → IsRefused bytes (unparsed r)
+pub parsed_refused : (bytes : List ℕ) (ts : List Token) (r : ParseRefusal) → TokensOf bytes ts → TokensRefuse Binds ts r → IsRefused bytes (unparsed r)
 parsed_refused bytes ts (parse.Syntax at) t h l = Refuses.syntax_error t h.0 h.1
 parsed_refused bytes ts parse.Mem t h l = absurd l
 

@@ -26,7 +26,7 @@ use Rattle.sig_definitions.specs.Signatures.Sig.{Abs, Module, made}
 use Rattle.sig_definitions.specs.Verdict.{holds, refuses}
 use Rattle.fing_syntax.specs.Phrase.{Binds as Program}
 use Rattle.parse_grammar.specs.Grammar.{Binds}
-use Rattle.parse_grammar.specs.Program.{Refused as NoProgram}
+use Rattle.parse_grammar.specs.Program.{programs, Refused as NoPhrase}
 use Rattle.parse_grammar.specs.Tree.{Phrase}
 use Rattle.parse_grammar.proofs.Answer.{one_answer}
 use Rattle.elab_judgments.specs.Judgments.Program.{ProgramMeans}
@@ -67,12 +67,12 @@ of_program : (Tells : Telling) → EachTold Tells → (bytes : List ℕ) (bs : P
 of_program Tells each bytes bs p (holds o h only never) = of_meaning Tells each bytes bs p o.0 o.1 h
 of_program Tells each bytes bs p (refuses r h only never) = (_, ProgramReplies.refuses (Refuses.meaningless p h))
 
-of_tokens : (Tells : Telling) → EachTold Tells → (bytes : List ℕ) (ts : List Token) → TokensOf bytes ts → ((p : Program) × Phrase Binds ts p) ⊎ NoProgram ts → AReply Tells bytes
+of_tokens : (Tells : Telling) → EachTold Tells → (bytes : List ℕ) (ts : List Token) → TokensOf bytes ts → ((p : Program) × Phrase Binds ts p) ⊎ NoPhrase Binds ts → AReply Tells bytes
 of_tokens Tells each bytes ts h (inl (bs, tree)) = of_program Tells each bytes bs (record { tokens = ts; lexed = h; tree = tree }) (each-program bs)
 of_tokens Tells each bytes ts h (inr none) = (_, ProgramReplies.refuses (Refuses.syntax_error h none.farthest none.none))
 
 of_outcome : (Tells : Telling) → EachTold Tells → (bytes : List ℕ) (o : Outcome) → Lexes 0 whole_file bytes o → AReply Tells bytes
-of_outcome Tells each bytes (Good ts) h = of_tokens Tells each bytes ts h (one_answer ts)
+of_outcome Tells each bytes (Good ts) h = of_tokens Tells each bytes ts h (one_answer Binds programs ts)
 of_outcome Tells each bytes (Bad why) h = (_, ProgramReplies.refuses (Refuses.no_tokens h))
 
 program_replied : (Tells : Telling) → EachTold Tells → (bytes : List ℕ) → AReply Tells bytes

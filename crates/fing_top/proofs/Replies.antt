@@ -64,8 +64,8 @@ spells_one {bytes} {ps} {qs} r s = one_tree {n = Binds} {u = ps} {v = qs} r.tree
 no_program : {bytes : List ℕ} {p : Program} {ts : List Token} → Spells bytes p → TokensOf bytes ts → ((q : Program) → Phrase Binds ts q → ⊥) → ⊥
 no_program {bytes} {p} {ts} s t n = n p (subst (λ (us : List Token). Phrase Binds us p) (one_tokens bytes s.tokens ts s.lexed t) s.tree)
 
-one_place : {bytes : List ℕ} {ts us : List Token} {a b : ℕ} → TokensOf bytes ts → TokensOf bytes us → Farthest ts a → Farthest us b → a ≡ b
-one_place {bytes} {ts} {us} {a} {b} p q f g = one_farthest ts a b f (subst (λ (xs : List Token). Farthest xs b) (one_tokens bytes us ts q p) g)
+one_place : {bytes : List ℕ} {ts us : List Token} {a b : ℕ} → TokensOf bytes ts → TokensOf bytes us → Farthest Binds ts a → Farthest Binds us b → a ≡ b
+one_place {bytes} {ts} {us} {a} {b} p q f g = one_farthest {n = Binds} ts a b f (subst (λ (xs : List Token). Farthest Binds xs b) (one_tokens bytes us ts q p) g)
 
 -- ---- one reply of `check` and of `emit`
 

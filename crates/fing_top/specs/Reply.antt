@@ -85,7 +85,7 @@ pub data TellsCounts (budget : ℕ) (program : Program) (f : Effect) (x : Abs) (
 -- front that begins a program, where they are none; or the first place that has no token
 pub data Refuses (bytes : List ℕ) : List ℕ → Type 0 where
   meaningless : {program : Program} {r : Refusal} → Spells bytes program → ProgramRefused program r → Refuses bytes (line r)
-  syntax_error : {tokens : List Token} {at : ℕ} → TokensOf bytes tokens → Farthest tokens at → ((program : Program) → Phrase Binds tokens program → ⊥) → Refuses bytes (syntax_line at)
+  syntax_error : {tokens : List Token} {at : ℕ} → TokensOf bytes tokens → Farthest Binds tokens at → ((program : Program) → Phrase Binds tokens program → ⊥) → Refuses bytes (syntax_line at)
   no_tokens : {why : LexRefusal} → RefusalOf bytes why → Refuses bytes (lexical_line why)
 
 -- `check`, `emit`, `run` and `gen`: what is told of the program that the bytes spell, or the line that refuses them
