@@ -10,7 +10,9 @@ use Rattle.omega_terms.specs.Instance.{TyInstance, Instance, Instances}
 use Rattle.sig_laws.specs.Good.{NormalTerm}
 use Rattle.semantic_sigs.specs.Changes.{Head, ty_in, sunk, putting}
 use Rattle.semantic_sigs.proofs.HeadLaws.{Good, good-under, in-normal, good-puts, good-vars}
+use Rattle.omega_walks.specs.Walk.{walked}
 use Rattle.sig_instances.specs.TermChanges.{term_in, fields_in}
+use Rattle.sig_instances.proofs.InstanceSteps.{filling, staying, walk-fills}
 
 type-given : {from mid other : List Kind} {s v : ℕ → Ty} {h : ℕ → Head} {t n : Ty} {k : Kind} → Good from other s h → TyInstance from mid v t k n → TyInstance from other s t k (ty_in h t)
 type-given g (TyInstance.made normal form) = TyInstance.made normal (in-normal g normal)
@@ -37,8 +39,8 @@ mutual
   row-given g Instances.end = Instances.end
   row-given g (Instances.more e rest) = Instances.more (given g e) (row-given g rest)
 
-pub instance_given : (ts : List Ty) (e : Term) (ctx ks : List Kind) → NormalTerm (extend ctx ks) e → NormalForms ctx ts ks ts → Instance (extend ctx ks) ctx (puts ts Ty.Var) e (term_in (sunk 0 (putting ts)) e)
-instance_given ts e ctx ks n ns = given (good-puts ns (good-vars ctx)) n
+pub instance_given : (ts : List Ty) (e : Term) (ctx ks : List Kind) → NormalTerm (extend ctx ks) e → NormalForms ctx ts ks ts → Instance (extend ctx ks) ctx (puts ts Ty.Var) e (walked (filling (putting ts)) staying 0 0 e)
+instance_given ts e ctx ks n ns = subst (Instance (extend ctx ks) ctx (puts ts Ty.Var) e) (sym (walk-fills (putting ts) 0 0 e)) (given (good-puts ns (good-vars ctx)) n)
 
 -- with no types put in, a term of normal types stays as it is
 pub instance_at_none : (ts : List Ty) (e d : Term) → length ts ≡ 0 → d ≡ e → (ctx ks : List Kind) → NormalTerm (extend ctx ks) e → NormalForms ctx ts ks ts → Instance (extend ctx ks) ctx (puts ts Ty.Var) e d

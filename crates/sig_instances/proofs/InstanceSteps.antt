@@ -1,11 +1,11 @@
--- What putting in does at each form of term, with indexes counted as the code counts them.
-use Rattle.std.proofs.Common.{◌≡◌, ℕ, suc, ◌+◌, ◌≤◌, [], ◌∷◌, refl, ap, ap₂, arith}
+-- The walk over a term that puts types in, and what it leaves as it is.
+use Rattle.std.proofs.Common.{◌≡◌, ℕ, suc, ◌+◌, ◌≤◌, refl, sym, ap, ap₂, ◌∙◌, arith}
+use Rattle.omega_types.specs.Ty.{Ty}
 use Rattle.omega_terms.specs.Term.{Term, TermRow}
 use Rattle.omega_terms.specs.Bound.{type_bound, row_type_bound}
-use Rattle.omega_terms.specs.Fields.{TermPairs, term_row}
-use Rattle.omega_terms.proofs.OneIndex.{map_terms, may_follow-at}
 use Rattle.omega_terms.proofs.Unchanged.{ap₃}
-use Rattle.semantic_sigs.specs.Changes.{Head, tree, under_head, sunk}
+use Rattle.omega_walks.specs.Walk.{walked, walked_row}
+use Rattle.semantic_sigs.specs.Changes.{Head, tree, ty_in, under_head, sunk}
 use Rattle.semantic_sigs.proofs.HeadSteps.{Keeps, sunk-below, under-keeps, head-unchanged}
 use Rattle.sig_instances.specs.TermChanges.{term_in, fields_in}
 
@@ -31,21 +31,43 @@ mutual
   row-unchanged n h TermRow.End k le = refl
   row-unchanged n h (TermRow.More l e rest) k le = ap₂ (TermRow.More l) (unchanged n h e k (omega arith)) (row-unchanged n h rest k (omega arith))
 
-pub term-closed : (depth : ℕ) (h : ℕ → Head) (e : Term) → type_bound e ≤ depth → term_in (sunk depth h) e ≡ e
+term-closed : (depth : ℕ) (h : ℕ → Head) (e : Term) → type_bound e ≤ depth → term_in (sunk depth h) e ≡ e
 term-closed depth h e le = unchanged depth (sunk depth h) e (sunk-below depth h) le
 
 next : (n : ℕ) → suc n ≡ n + 1
 next n = omega arith
 
-pub term-deeper : (depth : ℕ) (h : ℕ → Head) (e : Term) → term_in (under_head (sunk depth h)) e ≡ term_in (sunk (depth + 1) h) e
-term-deeper depth h e = ap (λ n. term_in (sunk n h) e) (next depth)
+term-deeper : (depth : ℕ) (h : ℕ → Head) (e : Term) → term_in (sunk (depth + 1) h) e ≡ term_in (under_head (sunk depth h)) e
+term-deeper depth h e = ap (λ n. term_in (sunk n h) e) (sym (next depth))
 
-pub row-changed : (h : ℕ → Head) (xs : TermPairs) → term_row (map_terms (term_in h) xs) ≡ fields_in h (term_row xs)
-row-changed h [] = refl
-row-changed h (x ∷ xs) = ap (TermRow.More x.0 (term_in h x.1)) (row-changed h xs)
+-- the walk that puts the types in, each variable of a term staying as it is
+abbrev pub filling : (ℕ → Head) → ℕ → Ty → Ty
+filling h depth t = ty_in (sunk depth h) t
 
-pub ruleset closed = (term-closed)
+abbrev pub staying : ℕ → ℕ → ℕ → Term
+staying types terms index = Term.Var index
 
-pub ruleset deeper = (term-deeper)
+mutual
+  pub walk-fills : (h : ℕ → Head) (i j : ℕ) (e : Term) → walked (filling h) staying i j e ≡ term_in (sunk i h) e
+  walk-fills h i j (Term.Var n) = refl
+  walk-fills h i j (Term.Int z) = refl
+  walk-fills h i j (Term.Bool b) = refl
+  walk-fills h i j (Term.Text x) = refl
+  walk-fills h i j (Term.Lam t e) = ap (Term.Lam (filling h i t)) (walk-fills h i (j + 1) e)
+  walk-fills h i j (Term.Call f a) = ap₂ Term.Call (walk-fills h i j f) (walk-fills h i j a)
+  walk-fills h i j (Term.TyLam k e) = ap (Term.TyLam k) (walk-fills h (i + 1) j e ∙ term-deeper i h e)
+  walk-fills h i j (Term.Inst e t) = ap (λ d. Term.Inst d (filling h i t)) (walk-fills h i j e)
+  walk-fills h i j (Term.Fields row) = ap Term.Fields (row-fills h i j row)
+  walk-fills h i j (Term.Get e l) = ap (λ d. Term.Get d l) (walk-fills h i j e)
+  walk-fills h i j (Term.Pack t e u) = ap (λ d. Term.Pack (filling h i t) d (filling h i u)) (walk-fills h i j e)
+  walk-fills h i j (Term.Unpack p e) = ap₂ Term.Unpack (walk-fills h i j p) (walk-fills h (i + 1) (j + 1) e ∙ term-deeper i h e)
+  walk-fills h i j (Term.If a b c) = ap₃ Term.If (walk-fills h i j a) (walk-fills h i j b) (walk-fills h i j c)
+  walk-fills h i j (Term.Arith o a b) = ap₂ (Term.Arith o) (walk-fills h i j a) (walk-fills h i j b)
+  walk-fills h i j (Term.Fix t u e) = ap (Term.Fix (filling h i t) (filling h i u)) (walk-fills h i (j + 1 + 1) e)
 
-pub ruleset rows = (row-changed, may_follow-at)
+  row-fills : (h : ℕ → Head) (i j : ℕ) (row : TermRow) → walked_row (filling h) staying i j row ≡ fields_in (sunk i h) row
+  row-fills h i j TermRow.End = refl
+  row-fills h i j (TermRow.More l e rest) = ap₂ (TermRow.More l) (walk-fills h i j e) (row-fills h i j rest)
+
+pub walk-closed : (h : ℕ → Head) (i j : ℕ) (e : Term) → type_bound e ≤ i → walked (filling h) staying i j e ≡ e
+walk-closed h i j e le = walk-fills h i j e ∙ term-closed i h e le
