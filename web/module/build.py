@@ -17,17 +17,17 @@ The kept module must be the one of the library crates/fing_c/out/libfing_c.a, wh
 of both are compared byte for byte. Where there is no such library, it is built a second time by the unchanged toolchain,
 and compared with that. Exit status 0 only where the module was written."""
 import argparse
-import os
 import pathlib
 import re
 import shutil
-import subprocess
 import sys
 import tempfile
 
 HERE = pathlib.Path(__file__).resolve().parent
-TOP = HERE.parent.parent
-CRATE = "fing_c"
+sys.path.insert(0, str(HERE.parent.parent / "tools"))
+sys.dont_write_bytecode = True
+from library import CRATE, TOP, build_archive, found_kit, run
+
 EXPORT = "fing_reply"
 TARGET = "wasm64-unknown-unknown"
 LAYOUT = "e-m:e-p:64:64-p10:8:8-p20:8:8-i64:64-i128:128-n32:64-S128"
@@ -36,55 +36,9 @@ CLANG_FLAGS = [f"--target={TARGET}", "-mcpu=lime1", "-mbulk-memory", "-O2", "-ff
 FEATURES = ["memory64", "bulk-memory", "sign-ext", "nontrapping-float-to-int", "mutable-globals", "multivalue"]
 
 
-def kit():
-    """The folder of the toolchain."""
-    command = shutil.which("rt")
-    if not command:
-        sys.exit("build.py: the toolchain's command rt is not on the path")
-    return pathlib.Path(os.path.realpath(command)).parent.parent
-
-
-def run(*words, **how):
-    return subprocess.run([str(word) for word in words], check=True, **how)
-
-
-def used_crates():
-    """The libraries that each crate uses, by crates.txt."""
-    lines = [line.partition("#")[0].strip() for line in (TOP / "crates.txt").read_text().splitlines()]
-    rows = [line.partition(":") for line in lines if line]
-    return {names.split()[0]: used.split() for names, _, used in rows}
-
-
-def crates_below(crate, used):
-    """The crates of the repository that a crate stands on, each once."""
-    found, waiting = [], [crate]
-    while waiting:
-        for name in used[waiting.pop()]:
-            if name in used and name not in found:
-                found.append(name)
-                waiting.append(name)
-    return found
-
-
-def build_library(checkout, tools, library):
-    """Checks fing_c over the proved libraries of a checkout, and builds it by the tools of a folder."""
-    used, home = used_crates(), kit()
-    words = ["--crate-name", CRATE, "src/lib.rt"]
-    for name in ["core", "std", *(name for name in used[CRATE] if name not in used)]:
-        words += ["--extern", f"{name}={home}/rlibs/{name}.rlib"]
-    words += ["-L", f"dependency={home}/rlibs"]
-    for name in (name for name in used[CRATE] if name in used):
-        words += ["--extern", f"{name}={checkout}/crates/{name}/out/rlib/{name}.rlib"]
-    for name in crates_below(CRATE, used):
-        words += ["-L", f"dependency={checkout}/crates/{name}/out/rlib"]
-    words += ["--antt-project", home / "rattle/logic/antt-project.json", "--logic-built", home / "logic_built"]
-    words += ["--crate-type", "staticlib", "--toolchain", tools, "--backend", "llvm", "-o", library]
-    run("rattle", "build", *words, cwd=TOP / "crates" / CRATE)
-
-
 def keeping_tools(folder):
     """The toolchain's tools with a clang that keeps its input as module.bc of the folder."""
-    home, tools = kit() / "toolchain", folder / "toolchain"
+    home, tools = found_kit() / "toolchain", folder / "toolchain"
     (tools / "bin").mkdir(parents=True)
     (tools / "lib").symlink_to(home / "lib")
     for tool in (home / "bin").iterdir():
@@ -98,7 +52,7 @@ def keeping_tools(folder):
 
 def objects_of(library):
     """The objects of a static library, by name."""
-    archiver = kit() / "toolchain/bin/llvm-ar"
+    archiver = found_kit() / "toolchain/bin/llvm-ar"
     names = run(archiver, "t", library, capture_output=True).stdout.decode().split()
     return {name: run(archiver, "p", library, name, capture_output=True).stdout for name in names}
 
@@ -106,10 +60,10 @@ def objects_of(library):
 def kept_module(checkout, folder):
     """The LLVM module that the library is made of."""
     made = TOP / "crates" / CRATE / "out" / f"lib{CRATE}.a"
-    build_library(checkout, keeping_tools(folder), folder / "kept.a")
+    build_archive(keeping_tools(folder), folder / "kept.a", checkout)
     if not made.is_file():
         made = folder / "plain.a"
-        build_library(checkout, kit() / "toolchain", made)
+        build_archive(found_kit() / "toolchain", made, checkout)
     if not objects_of(folder / "kept.a").items() <= objects_of(made).items():
         sys.exit(f"build.py: the kept module is not the one that {made} was made of")
     return folder / "module.bc"
@@ -160,14 +114,14 @@ def check_binaryen():
     wanted = (HERE / "BINARYEN").read_text()
     if not shutil.which("wasm-opt"):
         sys.exit("build.py: wasm-opt is missing; it is in the package binaryen")
-    found = subprocess.run(["wasm-opt", "--version"], capture_output=True, text=True, check=True).stdout
+    found = run("wasm-opt", "--version", capture_output=True, text=True).stdout
     if found != wanted:
         sys.exit(f"build.py: wasm-opt says {found.strip()}, and web/module/BINARYEN wants {wanted.strip()}")
 
 
 def compile_module(text, sources, module, folder):
     """Compiles an LLVM module for WebAssembly and C sources, links them, and makes the addresses 32 bits wide."""
-    home = kit()
+    home = found_kit()
     clang, linker, archiver = home / "toolchain/bin/clang", home / "bin/rattle-link", home / "toolchain/bin/llvm-ar"
     (folder / "wasm.ll").write_text(text)
     objects = [folder / "wasm.o"]
@@ -190,7 +144,7 @@ def main():
     words.add_argument("--rlibs", type=pathlib.Path, default=TOP)
     given = words.parse_args()
     check_binaryen()
-    clang = kit() / "toolchain/bin/clang"
+    clang = found_kit() / "toolchain/bin/clang"
     with tempfile.TemporaryDirectory() as name:
         folder = pathlib.Path(name)
         module = kept_module(given.rlibs.resolve(), folder)
