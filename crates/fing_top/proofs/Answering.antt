@@ -37,19 +37,20 @@ use Rattle.fing_refusals.specs.Plain.{Says, plain_refusal, want_of_memory}
 use Rattle.fing_refusals.specs.declared.refusal.Refusal.{Refusal}
 use Rattle.fing_elab.specs.Exactly.{Means, IsRefused as MeansNothing}
 use Rattle.fing_elab.specs.declared.whole.Elaborated.{Elaborated}
-use Rattle.fing_top.specs.Compiled.{IsCompiled, IsRefused}
+use Rattle.fing_top.specs.Compiled.{meaning_of, IsCompiled, IsRefused}
 use Rattle.omega_machine.specs.Outcomes.{fault_of, Tells as Ends}
 use Rattle.omega_terms.specs.ValueText.{value_text}
 use Rattle.omega_machine.specs.declared.outcome.End.{End}
 use Rattle.omega_machine.specs.declared.outcome.End.TheVariants as ending
 use Rattle.fing_top.specs.Counts.{bind_count, node_count, counts_line}
 use Rattle.fing_top.specs.Ending.{ending_status, ending_text, counted_text}
+use Rattle.fing_top.specs.Meaning.{Spells, BytesRefusal, BytesRefused}
 use Rattle.fing_top.specs.Refusing.{untokened, unparsed, numbered}
 use Rattle.fing_top.specs.declared.compiling.Compiled.{Compiled}
 use Rattle.fing_top.specs.declared.refusing.Refused.TheVariants.{Program as InProgram}
 use Rattle.fing_top.specs.declared.status.Status.{Status}
 use Rattle.fing_top.specs.declared.status.Status.TheVariants as status
-use Rattle.fing_top.specs.Reply.{answered, accepted, refused, Spells, Telling, TellsOutcome, TellsCounts, fault_line, Refuses, ProgramReplies, Replies, VerifyReplies}
+use Rattle.fing_top.specs.Reply.{answered, accepted, refused, Telling, TellsOutcome, TellsCounts, fault_line, Refuses, ProgramReplies, Replies, VerifyReplies}
 use Rattle.fing_top.specs.Verdict.{unread, verdict_line, HasLine as HasVerdict}
 use Rattle.fing_top.specs.Answer.{limit, Change, Stands, Output, Confirms, IsWritten, AnswersBytes, IsAnswered, Untouched, Takes, Spares, IsReplied, Answers, IsHanded, Completes}
 use Rattle.fing_top.specs.Words.{IsReadingLine}
@@ -67,22 +68,22 @@ few_tokens bytes ts h t = omega (arith, h, few_sliced bytes 0 ts (omega arith) (
 
 pub lexed_refused : (bytes : List ℕ) (r : LexRefusal) → (r ≡ lex.Mem) ⊎ RefusalOf bytes r → IsRefused bytes (untokened r)
 lexed_refused bytes lex.Mem h l = absurd l
-lexed_refused bytes (lex.BadByte at) (inr q) l = Refuses.no_tokens q
-lexed_refused bytes (lex.BadText at) (inr q) l = Refuses.no_tokens q
-lexed_refused bytes (lex.Wide at) (inr q) l = Refuses.no_tokens q
-lexed_refused bytes (lex.TooDeep at) (inr q) l = Refuses.no_tokens q
+lexed_refused bytes (lex.BadByte at) (inr q) l = (BytesRefusal.lexical (lex.BadByte at), BytesRefused.no_tokens q, refl)
+lexed_refused bytes (lex.BadText at) (inr q) l = (BytesRefusal.lexical (lex.BadText at), BytesRefused.no_tokens q, refl)
+lexed_refused bytes (lex.Wide at) (inr q) l = (BytesRefusal.lexical (lex.Wide at), BytesRefused.no_tokens q, refl)
+lexed_refused bytes (lex.TooDeep at) (inr q) l = (BytesRefusal.lexical (lex.TooDeep at), BytesRefused.no_tokens q, refl)
 lexed_refused bytes (lex.BadByte at) (inl e) l = absurd (cc)
 lexed_refused bytes (lex.BadText at) (inl e) l = absurd (cc)
 lexed_refused bytes (lex.Wide at) (inl e) l = absurd (cc)
 lexed_refused bytes (lex.TooDeep at) (inl e) l = absurd (cc)
 
 pub parsed_refused : (bytes : List ℕ) (ts : List Token) (r : ParseRefusal) → TokensOf bytes ts → TokensRefuse Binds ts r → IsRefused bytes (unparsed r)
-parsed_refused bytes ts (parse.Syntax at) t h l = Refuses.syntax_error t h.0 h.1
+parsed_refused bytes ts (parse.Syntax at) t h l = (BytesRefusal.syntactic at, BytesRefused.no_program t h.0 h.1, refl)
 parsed_refused bytes ts parse.Mem t h l = absurd l
 
 line_refuses : (N : Type 0) (bytes : List ℕ) (program : Program) (o : Option PlainRefusal) → Spells bytes program → MatchOption o N (MeansNothing program) → RefusalHasLine o → Refuses bytes (program_line o)
 line_refuses N bytes program None p h l = absurd l
-line_refuses N bytes program (Some r) p h l = Refuses.meaningless p h.refused
+line_refuses N bytes program (Some r) p h l = (BytesRefusal.of_program r, BytesRefused.no_meaning p h.refused, refl)
 
 pub program_refused : (bytes : List ℕ) (program : Program) (e : Refusal) → Spells bytes program → Says e (MeansNothing program) → IsRefused bytes (InProgram e)
 program_refused bytes program e p h l = line_refuses (e ≡ want_of_memory) bytes program (plain_refusal e) p h l
@@ -91,17 +92,16 @@ pub is_compiled : (bytes : List ℕ) (program : Program) (n : ℕ) (o : Elaborat
     → IsCompiled bytes (record { bindings = n; effect = o.effect; sig = o.sig; checked = j })
 is_compiled bytes program n o j p b m h = record {
   program = program;
-  spelled = p;
-  bindings = b;
   types = o.types;
   term = o.term;
-  means = rw h.0 m.derived;
+  means = record { spelled = p; derived = rw h.0 m.derived };
+  bindings = b;
   ty = h.1;
 }
 
 -- what is told of what is compiled is replied
-pub told : (Tells : Telling) (bytes : List ℕ) (c : Compiled) (s : Status) (text : List ℕ) (h : IsCompiled bytes c) → Tells h.program c.effect c.sig c.checked.term s text → ProgramReplies Tells bytes (answered s c.checked.ty c.checked.term text)
-told Tells bytes c s text h t = rw h.ty (ProgramReplies.meant h.spelled h.means t)
+pub told : (Tells : Telling) (bytes : List ℕ) (c : Compiled) (s : Status) (text : List ℕ) (h : IsCompiled bytes c) → Tells (meaning_of c h.program h.types h.term) s text → ProgramReplies Tells bytes (answered s c.checked.ty c.checked.term text)
+told Tells bytes c s text h t = rw h.ty (ProgramReplies.meant h.means t)
 
 pub outcome_told : (bytes : List ℕ) (budget : ℕ) (c : Compiled) (end : End) → IsCompiled bytes c → Ends c.checked.term budget end → ProgramReplies (TellsOutcome budget) bytes (answered (ending_status end) c.checked.ty c.checked.term (ending_text budget end))
 outcome_told bytes budget c (ending.Value shown steps) h t = rw t.2 (told (TellsOutcome budget) bytes c status.Ok (value_text t.0) h (TellsOutcome.value t.1))

@@ -2,7 +2,6 @@
 use Rattle.std.proofs.Common.{◌≡◌, ◌⊎◌, inl, inr, ℕ, List, [], Bool, true, false, Option, Some, None, refl}
 use Rattle.std.specs.Prelude.{codes}
 use Rattle.omega_kinds.specs.Kind.{Kind}
-use Rattle.omega_kinds.specs.declared.effect.Effect.{Effect}
 use Rattle.omega_types.specs.Ty.{Ty}
 use Rattle.omega_terms.specs.Term.{Term}
 use Rattle.omega_terms.specs.OmegaText.{omega_text}
@@ -17,88 +16,66 @@ use Rattle.omega_spelling.specs.Omega.{IsOmega}
 use Rattle.omega_spelling.specs.Refusals.{is_too_deep}
 use Rattle.omega_spelling.specs.Refused.{Refused as TextRefused, Refuses as TextRefuses}
 use Rattle.omega_spelling.proofs.Answering.{answered as text_answered}
-use Rattle.fing_lexer.specs.declared.token.Token.{Token}
-use Rattle.fing_lexer.specs.Tokens.{TokensOf, Outcome, Good, Bad, Lexes}
-use Rattle.fing_lexer.specs.Nest.{whole_file}
-use Rattle.fing_lexer.proofs.Laws.{has_one_outcome}
 use Rattle.sig_definitions.specs.Signatures.Encoding.{enc_abs}
-use Rattle.sig_definitions.specs.Signatures.Sig.{Abs, Module, made}
-use Rattle.sig_definitions.specs.Verdict.{holds, refuses}
-use Rattle.fing_syntax.specs.Phrase.{Binds as Program}
-use Rattle.parse_grammar.specs.Grammar.{Binds}
-use Rattle.parse_grammar.specs.Program.{programs, Refused as NoPhrase}
-use Rattle.parse_grammar.specs.Tree.{Phrase}
-use Rattle.parse_grammar.proofs.Answer.{one_answer}
-use Rattle.elab_judgments.specs.Judgments.Program.{ProgramMeans}
+use Rattle.sig_definitions.specs.Verdict.{Verdict, holds, refuses}
 use Rattle.elab_laws.proofs.TypedClaims.{whole_is_typed}
-use Rattle.elab_exact.specs.Claims.{ProgramExactly}
-use Rattle.elab_exact.proofs.Theorems.{each-program}
 use Rattle.sig_text.specs.SigText.{elab_text}
 use Rattle.fing_words.specs.declared.command_line.CommandLine.{CommandLine}
 use Rattle.fing_words.specs.declared.command_line.CommandLine.TheVariants as command
 use Rattle.fing_top.specs.Counts.{most_steps, bind_count, node_count, counts_line}
+use Rattle.fing_top.specs.Meaning.{Meaning, BytesMean, BytesRefused}
 use Rattle.fing_top.specs.Refusing.{numbered}
 use Rattle.fing_top.specs.declared.status.Status.{Status}
 use Rattle.fing_top.specs.declared.status.Status.TheVariants as status
-use Rattle.fing_top.specs.Reply.{Reply, answered, accepted, refused, Spells, Telling, TellsSignature, TellsTerm, TellsOutcome, TellsCounts, fault_line, Refuses, ProgramReplies, VerifyReplies, text_line, Replies, EachReplied}
+use Rattle.fing_top.specs.Reply.{Reply, answered, accepted, refused, Telling, TellsSignature, TellsTerm, TellsOutcome, TellsCounts, fault_line, ProgramReplies, VerifyReplies, text_line, Replies, EachReplied}
+use Rattle.fing_top.proofs.Meanings.{mean_or_refused}
 use Rattle.fing_top.proofs.Replies.{one_reply}
 
 -- ---- `check`, `emit`, `run` and `gen`
 
--- something is told of a program that has a meaning
-record Told (Tells : Telling) (bs : Program) (f : Effect) (x : Abs) (whole : Term) : Type 0 where
+-- something is told of a meaning
+record Told (Tells : Telling) (m : Meaning) : Type 0 where
   status : Status
   text : List ℕ
-  tells : Tells bs f x whole status text
+  tells : Tells m status text
 
 abbrev EachTold : Telling → Type 0
-EachTold Tells = (bs : Program) (f : Effect) (x : Abs) (whole : Term) → HasType [] [] whole (enc_abs x) → Told Tells bs f x whole
+EachTold Tells = (m : Meaning) → HasType [] [] m.whole (enc_abs m.sig) → Told Tells m
 
 -- a reply to the bytes of a source
 abbrev AReply : Telling → List ℕ → Type 0
 AReply Tells bytes = (r : Reply) × ProgramReplies Tells bytes r
 
-of_meaning : (Tells : Telling) → EachTold Tells → (bytes : List ℕ) (bs : Program) → Spells bytes bs → (m : Module) (whole : Term) → ProgramMeans bs m whole → AReply Tells bytes
-of_meaning Tells each bytes bs p (made f x ts e) whole h =
-    let t = each bs f x whole (whole_is_typed bs f x ts e whole h) in
-    (answered t.status (enc_abs x) whole t.text, ProgramReplies.meant p h t.tells)
-
-of_program : (Tells : Telling) → EachTold Tells → (bytes : List ℕ) (bs : Program) → Spells bytes bs → ProgramExactly bs → AReply Tells bytes
-of_program Tells each bytes bs p (holds o h only never) = of_meaning Tells each bytes bs p o.0 o.1 h
-of_program Tells each bytes bs p (refuses r h only never) = (_, ProgramReplies.refuses (Refuses.meaningless p h))
-
-of_tokens : (Tells : Telling) → EachTold Tells → (bytes : List ℕ) (ts : List Token) → TokensOf bytes ts → ((p : Program) × Phrase Binds ts p) ⊎ NoPhrase Binds ts → AReply Tells bytes
-of_tokens Tells each bytes ts h (inl (bs, tree)) = of_program Tells each bytes bs (record { tokens = ts; lexed = h; tree = tree }) (each-program bs)
-of_tokens Tells each bytes ts h (inr none) = (_, ProgramReplies.refuses (Refuses.syntax_error h none.farthest none.none))
-
-of_outcome : (Tells : Telling) → EachTold Tells → (bytes : List ℕ) (o : Outcome) → Lexes 0 whole_file bytes o → AReply Tells bytes
-of_outcome Tells each bytes (Good ts) h = of_tokens Tells each bytes ts h (one_answer Binds programs ts)
-of_outcome Tells each bytes (Bad why) h = (_, ProgramReplies.refuses (Refuses.no_tokens h))
+of_meaning : (Tells : Telling) → EachTold Tells → (bytes : List ℕ) → Verdict (BytesMean bytes) (BytesRefused bytes) → AReply Tells bytes
+of_meaning Tells each bytes (holds m h only never) =
+    let t = each m (whole_is_typed m.program m.effect m.sig m.types m.term m.whole h.derived) in
+    (answered t.status (enc_abs m.sig) m.whole t.text, ProgramReplies.meant h t.tells)
+of_meaning Tells each bytes (refuses r h only never) = (_, ProgramReplies.refuses (r, h, refl))
 
 program_replied : (Tells : Telling) → EachTold Tells → (bytes : List ℕ) → AReply Tells bytes
-program_replied Tells each bytes = let one = has_one_outcome bytes in of_outcome Tells each bytes one.outcome one.holds
+program_replied Tells each bytes = of_meaning Tells each bytes (mean_or_refused bytes)
 
 each_signature : EachTold TellsSignature
-each_signature bs f x whole h = record { status = status.Ok; text = elab_text f x; tells = (refl, refl) }
+each_signature m h = record { status = status.Ok; text = elab_text m.effect m.sig; tells = (refl, refl) }
 
 each_term : EachTold TellsTerm
-each_term bs f x whole h = record { status = status.Ok; text = omega_text (enc_abs x) whole; tells = (refl, refl) }
+each_term m h = record { status = status.Ok; text = omega_text (enc_abs m.sig) m.whole; tells = (refl, refl) }
 
-of_result : (budget : ℕ) (bs : Program) (f : Effect) (x : Abs) (whole : Term) (r : Result) → Ends whole budget r → Told (TellsOutcome budget) bs f x whole
-of_result budget bs f x whole (Result.ended (End.the_value v) steps) o = record { status = status.Ok; text = value_text v; tells = TellsOutcome.value o }
-of_result budget bs f x whole (Result.ended (End.the_fault why) steps) o = record { status = status.Faulted; text = fault_line why; tells = TellsOutcome.fault o }
-of_result budget bs f x whole Result.spent o = record { status = status.Spent; text = numbered (codes "spent ") budget; tells = TellsOutcome.spent o }
+of_result : (budget : ℕ) (m : Meaning) (r : Result) → Ends m.whole budget r → Told (TellsOutcome budget) m
+of_result budget m (Result.ended (End.the_value v) steps) o = record { status = status.Ok; text = value_text v; tells = TellsOutcome.value o }
+of_result budget m (Result.ended (End.the_fault why) steps) o = record { status = status.Faulted; text = fault_line why; tells = TellsOutcome.fault o }
+of_result budget m Result.spent o = record { status = status.Spent; text = numbered (codes "spent ") budget; tells = TellsOutcome.spent o }
 
 each_outcome : (budget : ℕ) → EachTold (TellsOutcome budget)
-each_outcome budget bs f x whole h = let o = outcome budget whole (enc_abs x) h in of_result budget bs f x whole o.0 o.1
+each_outcome budget m h = let o = outcome budget m.whole (enc_abs m.sig) h in of_result budget m o.0 o.1
 
-count_of_result : (budget : ℕ) (bs : Program) (f : Effect) (x : Abs) (whole : Term) (r : Result) → Ends whole budget r → Told (TellsCounts budget) bs f x whole
-count_of_result budget bs f x whole (Result.ended (End.the_value v) steps) o = record { status = status.Ok; text = counts_line (bind_count bs) (node_count whole) steps; tells = TellsCounts.counts o }
-count_of_result budget bs f x whole (Result.ended (End.the_fault why) steps) o = record { status = status.Faulted; text = fault_line why; tells = TellsCounts.no_value (TellsOutcome.fault o) (λ e. cc) }
-count_of_result budget bs f x whole Result.spent o = record { status = status.Spent; text = numbered (codes "spent ") budget; tells = TellsCounts.no_value (TellsOutcome.spent o) (λ e. cc) }
+count_of_result : (budget : ℕ) (m : Meaning) (r : Result) → Ends m.whole budget r → Told (TellsCounts budget) m
+count_of_result budget m (Result.ended (End.the_value v) steps) o = record { status = status.Ok; text = counts_line (bind_count m.program) (node_count m.whole) steps; tells = TellsCounts.counts o }
+count_of_result budget m (Result.ended (End.the_fault why) steps) o = record { status = status.Faulted; text = fault_line why; tells = TellsCounts.no_value (TellsOutcome.fault o) (λ e. cc) }
+count_of_result budget m Result.spent o = record { status = status.Spent; text = numbered (codes "spent ") budget; tells = TellsCounts.no_value (TellsOutcome.spent o) (λ e. cc) }
 
 each_counts : (budget : ℕ) → EachTold (TellsCounts budget)
-each_counts budget bs f x whole h = let o = outcome budget whole (enc_abs x) h in count_of_result budget bs f x whole o.0 o.1
+each_counts budget m h = let o = outcome budget m.whole (enc_abs m.sig) h in count_of_result budget m o.0 o.1
 
 -- ---- `verify`
 

@@ -1,4 +1,5 @@
 pub mod Bindings
+pub mod Meanings
 pub mod Replies
 pub mod EachReply
 pub mod Answering

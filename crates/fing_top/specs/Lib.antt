@@ -2,6 +2,7 @@ pub mod Exit
 pub mod Words
 pub mod Refusing
 pub mod Counts
+pub mod Meaning
 pub mod Reply
 pub mod Compiled
 pub mod Ending

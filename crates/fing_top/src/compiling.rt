@@ -5,7 +5,7 @@ ghost use Rattle.sig_definitions.specs.Signatures.Encoding.{enc_abs};
 ghost use Rattle.fing_top.specs.Answer.{limit};
 ghost use Rattle.fing_top.specs.Compiled.{IsCompiled, IsRefused};
 ghost use Rattle.fing_top.specs.Counts.{bind_count};
-ghost use Rattle.fing_top.specs.Reply.{Spells};
+ghost use Rattle.fing_top.specs.Meaning.{Spells};
 
 use crate::refusing::Refused;
 use fing_elab::elab;

@@ -2,6 +2,7 @@
 ghost use Rattle.std.specs.Prelude.{◌≡◌, ◌≤◌, ℕ, List, length, map, IfOk, MatchResult};
 ghost use Rattle.std.specs.String.{string_bytes};
 ghost use Rattle.fing_words.specs.CommandLines.{IsCommandLine};
+ghost use Rattle.fing_top.specs.Meaning.{MeanOrRefused};
 ghost use Rattle.fing_top.specs.Reply.{OneReply, EachReplied};
 ghost use Rattle.fing_top.specs.Answer.{limit, AnswersBytes, Answers, Completes, Takes, Lacks, change, output};
 ghost use Rattle.fing_top.specs.Words.{IsSized};
@@ -128,4 +129,9 @@ pub fn fing<S: Source, K: Sink>(
 pub fn one_reply()
     ensures one { OneReply }
     ensures each { EachReplied }
+{}
+
+/// All bytes have exactly one meaning as a program, by the rules, or exactly one refusal, and never both.
+pub fn one_meaning()
+    ensures { MeanOrRefused }
 {}

@@ -1,0 +1,57 @@
+-- What bytes mean as a program, and why they mean nothing.
+use Rattle.std.specs.Prelude.{ℕ, List}
+use Rattle.omega_kinds.specs.declared.effect.Effect.{Effect}
+use Rattle.omega_types.specs.Ty.{Ty}
+use Rattle.omega_terms.specs.Term.{Term}
+use Rattle.sig_definitions.specs.Signatures.Sig.{Abs, Module, made}
+use Rattle.sig_definitions.specs.Verdict.{Verdict}
+use Rattle.fing_lexer.specs.declared.lexer.LexRefusal.{LexRefusal}
+use Rattle.fing_lexer.specs.declared.token.Token.{Token}
+use Rattle.fing_lexer.specs.Tokens.{TokensOf, RefusalOf}
+use Rattle.fing_syntax.specs.Phrase.{Binds as Program}
+use Rattle.parse_grammar.specs.Grammar.{Binds}
+use Rattle.parse_grammar.specs.Program.{Farthest}
+use Rattle.parse_grammar.specs.Tree.{Phrase}
+use Rattle.refusal_reasons.specs.Refusal.{Refusal}
+use Rattle.elab_judgments.specs.Judgments.Program.{ProgramMeans, ProgramRefused}
+
+-- the bytes spell the program: their one list of tokens is the phrase of the grammar with this tree
+pub record Spells (bytes : List ℕ) (program : Program) : Type 0 where
+  pub tokens : List Token
+  pub lexed : TokensOf bytes tokens
+  pub tree : Phrase Binds tokens program
+
+-- a program, its effect, its signature, the types that it hides, its term, and the whole term, into which they are packed
+pub record Meaning : Type 0 where
+  pub program : Program
+  pub effect : Effect
+  pub sig : Abs
+  pub types : List Ty
+  pub term : Term
+  pub whole : Term
+
+abbrev pub module_of : Meaning → Module
+module_of m = made m.effect m.sig m.types m.term
+
+-- the bytes spell the program, and the rules derive the rest for it
+pub record BytesMean (bytes : List ℕ) (m : Meaning) : Type 0 where
+  pub spelled : Spells bytes m.program
+  pub derived : ProgramMeans m.program (module_of m) m.whole
+
+-- why bytes mean nothing: the first place that has no token; or the number of tokens with which some program begins; or
+-- the refusal of a program, with its place, the number of type variables in scope there, and its reason
+pub data BytesRefusal : Type 0 where
+  lexical : LexRefusal → BytesRefusal
+  syntactic : ℕ → BytesRefusal
+  of_program : Refusal → BytesRefusal
+
+-- the bytes have no list of tokens; or they have one that is no program, and this is the length of its longest front with
+-- which some program begins; or they spell a program that the rules refuse
+pub data BytesRefused (bytes : List ℕ) : BytesRefusal → Type 0 where
+  no_tokens : {why : LexRefusal} → RefusalOf bytes why → BytesRefused bytes (BytesRefusal.lexical why)
+  no_program : {tokens : List Token} {at : ℕ} → TokensOf bytes tokens → Farthest Binds tokens at → ((program : Program) → Phrase Binds tokens program → ⊥) → BytesRefused bytes (BytesRefusal.syntactic at)
+  no_meaning : {program : Program} {r : Refusal} → Spells bytes program → ProgramRefused program r → BytesRefused bytes (BytesRefusal.of_program r)
+
+-- all bytes have one meaning and no refusal, or one refusal and no meaning
+abbrev pub MeanOrRefused : Type 0
+MeanOrRefused = (bytes : List ℕ) → Verdict (BytesMean bytes) (BytesRefused bytes)
