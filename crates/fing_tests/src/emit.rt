@@ -7,8 +7,16 @@ use std::test::Fail;
 const ONE: &str =
     "omega 1\n(rec (x (rec (.val int))))\n(call (fn (rec (.val int)) (rec (x x0))) (rec (.val 1)))\n";
 
-const ACCEPTED: [(&str, &str); 8] = [
+/// The text of a module that hides a type.
+pub const SEALED: &str =
+    "omega 1\n(some * (rec (M (rec (t (rec (.typ (all (> * *) (-> (@ a1 a0) (@ a1 a0)))))) (x (rec (.val a0)))))))\n(pack int (call (fn (rec (t (rec (.typ (all (> * *) (-> (@ a0 int) (@ a0 int)))))) (x (rec (.val int)))) (rec (M x0))) (get (call (fn (rec (t (rec (.typ (all (> * *) (-> (@ a0 int) (@ a0 int)))))) (x (rec (.val int)))) (call (fn (rec (t (rec (.typ (all (> * *) (-> (@ a0 int) (@ a0 int)))))) (x (rec (.val int)))) (rec (%0 x1) (%1 x0))) (call (fn (rec (t (rec (.typ (all (> * *) (-> (@ a0 int) (@ a0 int)))))) (x (rec (.val int)))) (rec (t (call (fn (rec (.typ (all (> * *) (-> (@ a0 int) (@ a0 int))))) x2) (get x1 t))) (x (call (fn (rec (.val int)) x2) (get x1 x))))) x0))) (call (fn (rec (.typ (all (> * *) (-> (@ a0 int) (@ a0 int))))) (call (fn (rec (.val int)) (rec (t x0) (x x1))) (rec (.val 5)))) (rec (.typ (tfn (> * *) (fn (@ a0 int) x0)))))) %0)) (some * (rec (M (rec (t (rec (.typ (all (> * *) (-> (@ a1 a0) (@ a1 a0)))))) (x (rec (.val a0))))))))\n";
+
+const ACCEPTED: [(&str, &str); 9] = [
     ("", "omega 1\n(rec)\n(rec)\n"),
+    (
+        "module M = struct type t = Int val x = 5 end :> sig type t val x : t end",
+        SEALED,
+    ),
     (
         "val x = 1 + 2",
         "omega 1\n(rec (x (rec (.val int))))\n(call (fn (rec (.val int)) (rec (x x0))) (rec (.val (+ 1 2))))\n",

@@ -40,20 +40,22 @@ fn words_behind_the_end_of_options(rt: HostRuntime) -> Result<(), Fail> {
     Ok(())
 }
 
-// How many spaces a source has, the status, and the reply of `emit`.
-const LENGTHS: [(usize, Status, &[u8]); 2] = [
-    (1048577, Status::TooLong, b""),
-    (1048576, Status::Ok, b"omega 1\n(rec)\n(rec)\n"),
+// A command, how many spaces its source has, the status, and the reply.
+const LENGTHS: [(&str, usize, Status, &[u8]); 4] = [
+    ("emit", 1048577, Status::TooLong, b""),
+    ("emit", 1048576, Status::Ok, b"omega 1\n(rec)\n(rec)\n"),
+    ("check", 1048577, Status::TooLong, b""),
+    ("check", 1048576, Status::Ok, b"pure (ex () (str))\n"),
 ];
 
 #[test]
 fn lengths(rt: HostRuntime) -> Result<(), Fail> {
-    for (length, status, reply) in &LENGTHS {
+    for (command, length, status, reply) in &LENGTHS {
         let source = vec![in rt.alloc(); b' '; *length]?;
-        let found = ran(rt.alloc(), &["emit"], &source)?;
+        let found = ran(rt.alloc(), &[command], &source)?;
         assert!(rt;
             found.is(*status, reply, *status == Status::Ok),
-            "at {length}"
+            "{command} at {length}"
         );
     }
     Ok(())

@@ -1,4 +1,5 @@
 // Replies of `verify`, with the verdicts found by hand from the rules.
+use crate::emit::SEALED;
 use crate::runs::{all_reply, ran, replies, tried};
 use fing_text::MemSink;
 use fing_top::Status;
@@ -6,7 +7,8 @@ use std::alloc::Global;
 use std::process::Abort;
 use std::test::Fail;
 
-const WELL_TYPED: [&str; 5] = [
+const WELL_TYPED: [&str; 6] = [
+    SEALED,
     "omega 1\n(rec (x (rec (.val int))))\n(call (fn (rec (.val int)) (rec (x x0))) (rec (.val (+ 1 2))))\n",
     "omega 1\n(all * (-> a0 a0))\n(tfn * (fn a0 (open (pack a0 x0 (some * a1)) x0)))\n",
     "omega 1\n(-> int int)\n(fn (@ (lam * a0) int) x0)\n",
