@@ -110,7 +110,7 @@ def tokens_of(source):
 def read_grammar():
     """The productions of docs/language/grammar.md, with names of their own for what stands in braces and brackets."""
     page = (TOP / "docs/language/grammar.md").read_text()
-    block = re.search(r"```\n(program = .*?)```", page, re.S)[1]
+    block = re.search(r"```text\n(program = .*?)```", page, re.S)[1]
     items = re.findall(r"'[^']*'|\w+|[=|{}\[\]()]", block)
     starts = [i - 1 for i, item in enumerate(items) if item == "="] + [len(items)]
     rules = {}
