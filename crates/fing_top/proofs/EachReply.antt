@@ -1,4 +1,4 @@
--- Each command has a reply to all bytes.
+-- Each command has a reply to each string of bytes.
 use Rattle.std.proofs.Common.{◌≡◌, ◌⊎◌, inl, inr, ℕ, List, [], Bool, true, false, Option, Some, None, refl}
 use Rattle.std.specs.Prelude.{codes}
 use Rattle.omega_kinds.specs.Kind.{Kind}

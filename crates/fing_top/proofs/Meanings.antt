@@ -1,4 +1,4 @@
--- All bytes have exactly one meaning or exactly one refusal.
+-- Each string of bytes has exactly one meaning or exactly one refusal.
 use Rattle.std.proofs.Common.{◌≡◌, ◌⊎◌, inl, inr, ℕ, List, [], refl, sym, ap, ap₂, subst, ◌∙◌}
 use Rattle.omega_terms.specs.Term.{Term}
 use Rattle.fing_lexer.specs.declared.lexer.LexRefusal.{LexRefusal}

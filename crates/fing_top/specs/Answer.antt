@@ -55,7 +55,7 @@ pub record IsWritten (c : CommandLine) (bytes : List ℕ) (out : Output) (answer
   pub written : Grew out.sink.old out.sink.new reply.text
   pub confirmed : Confirms out.confirmed reply.confirmed
 
--- the sink failed, and a front of the reply to the bytes was written
+-- the sink failed, and a prefix of the reply to the bytes was written
 pub record IsBroken (c : CommandLine) (bytes : List ℕ) (out : Output) : Type 0 where
   pub reply : Reply
   pub replies : Replies c bytes reply

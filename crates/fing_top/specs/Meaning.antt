@@ -38,20 +38,23 @@ pub record BytesMean (bytes : List ℕ) (m : Meaning) : Type 0 where
   pub spelled : Spells bytes m.program
   pub derived : ProgramMeans m.program (module_of m) m.whole
 
--- why bytes mean nothing: the first place that has no token; or the number of tokens with which some program begins; or
--- the refusal of a program, with its place, the number of type variables in scope there, and its reason
+-- why bytes mean nothing: the first place that is refused, which has no token, or one that is too large or too deep; or the
+-- length of the longest prefix of the tokens with which some program begins; or the refusal of a program, with its place,
+-- the number of type variables in scope there, and its reason
 pub data BytesRefusal : Type 0 where
   lexical : LexRefusal → BytesRefusal
   syntactic : ℕ → BytesRefusal
   of_program : Refusal → BytesRefusal
 
--- the bytes have no list of tokens; or they have one that is no program, and this is the length of its longest front with
--- which some program begins; or they spell a program that the rules refuse
+-- the bytes have no list of tokens; or they have one that is no program, and this is the length of its longest prefix
+-- with which some program begins; or they spell a program that the rules refuse. For example, `val x = "` is refused with
+-- `lexical (BadText 8)`, `val x =` with `syntactic 3`, and `val x = y` with `of_program` and the reason `Unbound y`; the
+-- bytes `val x = 1` have a meaning
 pub data BytesRefused (bytes : List ℕ) : BytesRefusal → Type 0 where
   no_tokens : {why : LexRefusal} → RefusalOf bytes why → BytesRefused bytes (BytesRefusal.lexical why)
   no_program : {tokens : List Token} {at : ℕ} → TokensOf bytes tokens → Farthest Binds tokens at → ((program : Program) → Phrase Binds tokens program → ⊥) → BytesRefused bytes (BytesRefusal.syntactic at)
   no_meaning : {program : Program} {r : Refusal} → Spells bytes program → ProgramRefused program r → BytesRefused bytes (BytesRefusal.of_program r)
 
--- all bytes have one meaning and no refusal, or one refusal and no meaning
+-- each string of bytes has one meaning and no refusal, or one refusal and no meaning
 abbrev pub MeanOrRefused : Type 0
 MeanOrRefused = (bytes : List ℕ) → Verdict (BytesMean bytes) (BytesRefused bytes)

@@ -110,6 +110,6 @@ pub record IsOnlyReply (c : CommandLine) (bytes : List ℕ) (reply : Reply) : Ty
 abbrev pub OneReply : Type 0
 OneReply = (c : CommandLine) (bytes : List ℕ) (reply other : Reply) → Replies c bytes reply → Replies c bytes other → other ≡ reply
 
--- a command has one reply to all bytes
+-- a command has one reply to each string of bytes
 abbrev pub EachReplied : Type 0
 EachReplied = (c : CommandLine) (bytes : List ℕ) → (reply : Reply) × IsOnlyReply c bytes reply

@@ -14,8 +14,8 @@ use std::alloc::Global;
 
 /// Answers `check` for all the bytes of a source, of which there are at most 1,048,576: writes the effect and the
 /// signature of the program, with status `Ok`, or the line of the refusal, with `Refused`. `WriteFault` comes in place
-/// of either where a write failed, and then a front of that text was written; `NoMemory` is want of memory, and then
-/// nothing was written. Where the text, whole or a front of it, is that of a program that means something, `confirmed`
+/// of either where a write failed, and then a prefix of that text was written; `NoMemory` is want of memory, and then
+/// nothing was written. Where the text, whole or a prefix of it, is that of a program that means something, `confirmed`
 /// becomes what the checker made of the program's whole term; on a refusal and with `NoMemory` it stands as it was.
 pub fn check<K: Sink>(
     alloc: Global,

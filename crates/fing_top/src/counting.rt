@@ -72,8 +72,8 @@ fn write_counts<K: Sink>(
 /// the program has, how many nodes its whole term has without its types, and in how many steps the term comes to a
 /// value, with status `Ok`. Where it comes to none within 10,000,000 steps, or means nothing, it writes what `run`
 /// writes with that budget, with the status of `run`: `Faulted`, `Spent` or `Refused`. `WriteFault` comes in place of
-/// any of these where a write failed, and then a front of that text was written; `NoMemory` is want of memory, and then
-/// nothing was written. Where the text, whole or a front of it, is that of a program that means something, `confirmed`
+/// any of these where a write failed, and then a prefix of that text was written; `NoMemory` is want of memory, and then
+/// nothing was written. Where the text, whole or a prefix of it, is that of a program that means something, `confirmed`
 /// becomes what the checker made of the program's whole term; on a refusal and with `NoMemory` it stands as it was.
 pub fn count<K: Sink>(
     alloc: Global,

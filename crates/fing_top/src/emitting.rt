@@ -16,8 +16,8 @@ use std::alloc::Global;
 
 /// Answers `emit` for all the bytes of a source, of which there are at most 1,048,576: writes the Omega text of the
 /// encoded signature and the whole term, with status `Ok`, or the line of the refusal, with `Refused`. `WriteFault`
-/// comes in place of either where a write failed, and then a front of that text was written; `NoMemory` is want of
-/// memory, and then nothing was written. Where the text, whole or a front of it, is that of a program that means
+/// comes in place of either where a write failed, and then a prefix of that text was written; `NoMemory` is want of
+/// memory, and then nothing was written. Where the text, whole or a prefix of it, is that of a program that means
 /// something, `confirmed` becomes what the checker made of that type and term; on a refusal and with `NoMemory` it
 /// stands as it was.
 pub fn emit<K: Sink>(

@@ -4,8 +4,9 @@
 // omega_read, and itoa (numbers in decimal).
 // Proved: each answer comes with its cause, and what is written is the one reply that the definitions give for all the
 // bytes of the source, or for the generated program; what is emitted was confirmed by the checker; where the bytes are
-// known and nothing fails, that reply is written whole, or want of memory is answered and nothing is written. All bytes
-// have exactly one meaning or exactly one refusal; a command has exactly one reply to them, and each answer its exit status.
+// known and nothing fails, that reply is written whole, or want of memory is answered and nothing is written. Each
+// string of bytes has exactly one meaning or exactly one refusal. A command has exactly one reply to it, and each answer has
+// its exit status.
 #![tactic(auto)]
 
 mod checking;

@@ -22,7 +22,7 @@ pub enum Refused {
     Wide { at: u32 },
     /// The token at this byte stands too deep.
     TooDeep { at: u32 },
-    /// The tokens are no program: the longest front of them that begins some program has `at` tokens.
+    /// The tokens are no program: the longest prefix of them that begins some program has `at` tokens.
     Syntax { at: u32 },
     /// The program means nothing, for this reason; or memory ran out in elaboration.
     Program(Refusal),

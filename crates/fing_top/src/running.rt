@@ -59,8 +59,8 @@ pub(crate) fn write_end<K: Sink>(sink: &mut K, budget: u32, end: &End) -> Result
 /// Answers `run` with a budget in steps for all the bytes of a source, of which there are at most 1,048,576: writes the
 /// value that the program's whole term comes to in at most so many steps, with status `Ok`, or the fault that it meets,
 /// with `Faulted`, or that the budget is spent, with `Spent`; or the line of the refusal, with `Refused`. `WriteFault`
-/// comes in place of any of these where a write failed, and then a front of that text was written; `NoMemory` is want
-/// of memory, and then nothing was written. Where the text, whole or a front of it, is that of a program that means
+/// comes in place of any of these where a write failed, and then a prefix of that text was written; `NoMemory` is want
+/// of memory, and then nothing was written. Where the text, whole or a prefix of it, is that of a program that means
 /// something, `confirmed` becomes what the checker made of the program's whole term; on a refusal and with `NoMemory`
 /// it stands as it was.
 pub fn run<K: Sink>(

@@ -22,7 +22,7 @@ pub enum Status {
     Spent = 4,
     /// A read of the source failed.
     ReadFault = 5,
-    /// A write of the reply failed; a front of it was written.
+    /// A write of the reply failed; a prefix of it was written.
     WriteFault = 6,
     /// Want of memory; nothing was written.
     NoMemory = 7,

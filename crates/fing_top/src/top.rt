@@ -103,7 +103,7 @@ fn answered<S: Source, K: Sink>(
 /// than 1,048,576 bytes, of which one more than these was taken; `WriteFault`, in place of the reply's own status,
 /// where a write failed. `NoMemory` is want of memory, at any place: the source then lost at most 1,048,577 bytes, and
 /// none where the words are no command line of a command that reads it. With `Words`, `ReadFault`, `TooLong` and
-/// `NoMemory` nothing is written, and with `WriteFault` a front of the reply. `Words`, `ReadFault`, `TooLong` and
+/// `NoMemory` nothing is written, and with `WriteFault` a prefix of the reply. `Words`, `ReadFault`, `TooLong` and
 /// `WriteFault` come only so. That a read or a write failed is told by the count of faults of the source or the sink:
 /// it rose, or stands at its last value, 2^64 - 1.
 pub fn fing<S: Source, K: Sink>(
@@ -125,13 +125,13 @@ pub fn fing<S: Source, K: Sink>(
     }
 }
 
-/// A command has exactly one reply to all bytes: one at most, and there is one.
+/// A command has exactly one reply to each string of bytes: one at most, and there is one.
 pub fn one_reply()
     ensures one { OneReply }
     ensures each { EachReplied }
 {}
 
-/// All bytes have exactly one meaning as a program, by the rules, or exactly one refusal, and never both.
+/// Each string of bytes has exactly one meaning as a program, by the rules, or exactly one refusal, and never both.
 pub fn one_meaning()
     ensures { MeanOrRefused }
 {}

@@ -87,8 +87,8 @@ fn write_verdict<K: Sink>(sink: &mut K, why: Unverified) -> Result<(), WriteFaul
 }
 
 /// Answers `verify` for all the bytes of a source, however many: writes `well typed`, with status `Ok`, or the line of
-/// the first refusal, with `Refused`. `WriteFault` comes in place of either where a write failed, and then a front of
-/// that text was written; `NoMemory` is want of memory, and then nothing was written. Where the text, whole or a front
+/// the first refusal, with `Refused`. `WriteFault` comes in place of either where a write failed, and then a prefix of
+/// that text was written; `NoMemory` is want of memory, and then nothing was written. Where the text, whole or a prefix
 /// of it, is `well typed`, `confirmed` becomes what the checker made of the type and the term that were read; on a
 /// refusal and with `NoMemory` it stands as it was.
 pub fn verify<K: Sink>(
