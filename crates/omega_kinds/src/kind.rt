@@ -19,9 +19,11 @@ pub enum Kind {
 }
 
 impl Kind {
-    /// The same kind, with its parts shared. `Err` is want of memory.
+    /// The same kind, which keeps the same extent, with its parts shared. `Err` is out of memory.
     pub fn share(&self) -> Result<Kind, Mem>
-        ensures { IfOk result (λ k. kind_tree k ≡ kind_tree self.now) }
+        ensures tree { IfOk result (λ k. kind_tree k ≡ kind_tree self.now) }
+        ensures height { IfOk result (λ k. height_kept k ≡ height_kept self.now) }
+        ensures size { IfOk result (λ k. size_kept k ≡ size_kept self.now) }
     {
         match self {
             Kind::Star => Ok(Kind::Star),
@@ -45,13 +47,14 @@ impl Kind {
     }
 }
 
-/// The kind of operators from one kind to another, which keeps its height and its size. `Err` is want of memory, also for a
-/// kind that is too high or too large.
+/// The kind of operators from one kind to another, which keeps its height and its size. `Err` is out of memory, also for a
+/// kind that is higher than 4,096 or has more than 268,435,456 forms.
 pub fn arrow(alloc: Global, from: Kind, to: Kind) -> Result<Kind, Mem>
     ensures tree { IfOk result (λ k. kind_tree k ≡ Arrow (kind_tree from) (kind_tree to)) }
     ensures height { IfOk result (λ k. height_kept k ≡ max (height_kept from) (height_kept to) + 1) }
     ensures size { IfOk result (λ k. size_kept k ≡ min (size_kept from + size_kept to) 4294967295 + 1) }
     ensures high { IfOk result (λ k. height_kept k ≤ 4096) }
+    ensures large { IfOk result (λ k. size_kept k ≤ 268435456) }
 {
     let extent = from.extent().beside(to.extent()).over(1)?;
     let from = Rc::new(alloc, from)?;
