@@ -19,11 +19,9 @@ pub enum Kind {
 }
 
 impl Kind {
-    /// The same kind, which keeps the same extent, with its parts shared. `Err` is out of memory.
+    /// The same kind, with its parts shared. `Err` is out of memory.
     pub fn share(&self) -> Result<Kind, Mem>
-        ensures tree { IfOk result (λ k. kind_tree k ≡ kind_tree self.now) }
-        ensures height { IfOk result (λ k. height_kept k ≡ height_kept self.now) }
-        ensures size { IfOk result (λ k. size_kept k ≡ size_kept self.now) }
+        ensures { IfOk result (λ k. kind_tree k ≡ kind_tree self.now) }
     {
         match self {
             Kind::Star => Ok(Kind::Star),
