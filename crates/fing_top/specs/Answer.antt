@@ -1,7 +1,7 @@
 -- What the top call answers, by what it read, wrote and confirmed.
 use Rattle.std.specs.Prelude.{◌≡◌, ◌⊎◌, ℕ, ◌+◌, ◌≤◌, List, length, Option, Some, None}
 use Rattle.fing_text.specs.Told.{Told, Rose}
-use Rattle.fing_text.specs.Reads.{ReadAll, TookMore, TookSome}
+use Rattle.fing_text.specs.Reads.{BrokeOff, ReadAll, TookMore, TookSome}
 use Rattle.fing_text.specs.Writes.{Grew, Broke}
 use Rattle.omega_checker.specs.Judgment.{Judgment}
 use Rattle.fing_text.specs.declared.reading.ReadEnd.{ReadEnd}
@@ -83,7 +83,7 @@ Spares c source = (size : ℕ) → c ≡ command.Gen size → Stands source
 
 -- why a command has no bytes to answer for
 abbrev pub Lacks : CommandLine → (source : Change Told) → ReadEnd → Type 0
-Lacks c source end.ReadFault = ReadsSource c × TookSome source.old source.new limit × Rose source.old.faults source.new.faults
+Lacks c source end.ReadFault = ReadsSource c × BrokeOff source.old source.new limit
 Lacks c source end.TooLong = ReadsSource c × TookMore source.old source.new limit
 Lacks c source end.Mem = Spares c source × TookSome source.old source.new (limit + 1)
 
@@ -102,7 +102,7 @@ Answers words source out status.Refused = IsReplied words source out status.Refu
 Answers words source out status.Words = (IsLine words → ⊥) × Stands source × Untouched out
 Answers words source out status.Faulted = IsReplied words source out status.Faulted
 Answers words source out status.Spent = IsReplied words source out status.Spent
-Answers words source out status.ReadFault = IsReadingLine words × TookSome source.old source.new limit × Rose source.old.faults source.new.faults × Untouched out
+Answers words source out status.ReadFault = IsReadingLine words × BrokeOff source.old source.new limit × Untouched out
 Answers words source out status.WriteFault = IsReplied words source out status.WriteFault
 Answers words source out status.NoMemory = Untouched out × ((IsReadingLine words → ⊥) → Stands source) × TookSome source.old source.new (limit + 1)
 Answers words source out status.TooLong = IsReadingLine words × TookMore source.old source.new limit × Untouched out
