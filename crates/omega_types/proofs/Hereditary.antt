@@ -6,13 +6,13 @@ use Rattle.omega_kinds.specs.declared.label.Label.{Label}
 use Rattle.omega_types.specs.Ty.{Ty, Row}
 use Rattle.omega_types.specs.Substitution.{rename, substitute, substitute_row, under}
 use Rattle.omega_types.specs.Kinding.{Lookup, HasKind, HasKinds, Fresh, here, there}
-use Rattle.omega_types.specs.Kinding.HasKind.{k_var, k_int, k_bool, k_text, k_arrow, k_fields, k_all, k_ex, k_lam, k_apply}
+use Rattle.omega_types.specs.Kinding.HasKind.{k_var, k_int, k_bool, k_text, k_arrow, k_fields, k_sum, k_all, k_ex, k_mu, k_lam, k_apply}
 use Rattle.omega_types.specs.Kinding.HasKinds.{k_end, k_more}
 use Rattle.omega_types.specs.Conversion.{Conv, Convs}
-use Rattle.omega_types.specs.Conversion.Conv.{c_refl, c_sym, c_trans, c_beta, c_eta, c_arrow, c_fields, c_all, c_ex, c_lam, c_apply}
+use Rattle.omega_types.specs.Conversion.Conv.{c_refl, c_sym, c_trans, c_beta, c_eta, c_arrow, c_fields, c_sum, c_all, c_ex, c_mu, c_lam, c_apply}
 use Rattle.omega_types.specs.Conversion.Convs.{c_end, c_more}
 use Rattle.omega_types.specs.Normality.{Normal, Normals, Neutral}
-use Rattle.omega_types.specs.Normality.Normal.{n_lam, n_int, n_bool, n_text, n_arrow, n_fields, n_all, n_ex, n_neutral}
+use Rattle.omega_types.specs.Normality.Normal.{n_lam, n_int, n_bool, n_text, n_arrow, n_fields, n_sum, n_all, n_ex, n_mu, n_neutral}
 use Rattle.omega_types.specs.Normality.Normals.{n_end, n_more}
 use Rattle.omega_types.specs.Normality.Neutral.{n_var, n_apply}
 use Rattle.omega_types.specs.Normalises.{NormalForm, OneNormalForm, EachHasOne, InstanceHasOne, RenamingKeeps, SameExactlyWhereConvertible, NormaliserGives, HsubstGives}
@@ -68,8 +68,10 @@ mutual
   put-normal A g h n n_text = (n_text, c_refl k_text)
   put-normal A g h n (n_arrow s t) = let p = put-normal A g h n s in let q = put-normal A g h n t in (n_arrow p.0 q.0, c_arrow p.1 q.1)
   put-normal A g h n (n_fields row) = let r = put-normals A g h n row in (n_fields r.0, c_fields r.1)
+  put-normal A g h n (n_sum row) = let r = put-normals A g h n row in (n_sum r.0, c_sum r.1)
   put-normal {i = i} {ctx = ctx} {a = a} A g h n (n_all {k = j} {b = t} b) = let r = below i a t (put-normal A g (i_there h) (normal-rename suc (maps-suc j ctx) n) b) in (n_all r.0, c_all r.1)
   put-normal {i = i} {ctx = ctx} {a = a} A g h n (n_ex {k = j} {b = t} b) = let r = below i a t (put-normal A g (i_there h) (normal-rename suc (maps-suc j ctx) n) b) in (n_ex r.0, c_ex r.1)
+  put-normal {i = i} {ctx = ctx} {a = a} A g h n (n_mu {b = t} b) = let r = below i a t (put-normal A g (i_there h) (normal-rename suc (maps-suc Kind.Star ctx) n) b) in (n_mu r.0, c_mu r.1)
   put-normal A g h n (n_neutral t) = good-tree (put-neutral A g h n t)
 
   put-normals : {k : Kind} {i : ℕ} {ctx more : List Kind} {a : Ty} {row : Row} (A : Args k) → Good k A → Inserts k i ctx more → Normal ctx a k → Normals more row → Normals ctx (put_in_row k A i a row) × Convs ctx (substitute_row (put i a) row) (put_in_row k A i a row) × ((l : Label) → Fresh l row → Fresh l (put_in_row k A i a row))
@@ -117,8 +119,10 @@ mutual
   normal-gives k_text = (n_text, c_refl k_text)
   normal-gives (k_arrow a b) = let p = normal-gives a in let q = normal-gives b in (n_arrow p.0 q.0, c_arrow p.1 q.1)
   normal-gives (k_fields row) = let r = normal_row-gives row in (n_fields r.0, c_fields r.1)
+  normal-gives (k_sum row) = let r = normal_row-gives row in (n_sum r.0, c_sum r.1)
   normal-gives (k_all b) = let r = normal-gives b in (n_all r.0, c_all r.1)
   normal-gives (k_ex b) = let r = normal-gives b in (n_ex r.0, c_ex r.1)
+  normal-gives (k_mu b) = let r = normal-gives b in (n_mu r.0, c_mu r.1)
   normal-gives (k_lam b) = let r = normal-gives b in (n_lam r.0, c_lam r.1)
   normal-gives (k_apply f a) = let p = normal-gives f in normal-apply p.0 p.1 (normal-gives a)
 

@@ -5,13 +5,13 @@ use Rattle.omega_kinds.specs.Kind.{Kind}
 use Rattle.omega_kinds.specs.declared.label.Label.{Label}
 use Rattle.omega_types.specs.Ty.{Ty, Row}
 use Rattle.omega_types.specs.Kinding.{HasKind, HasKinds, Fresh}
-use Rattle.omega_types.specs.Kinding.HasKind.{k_arrow, k_fields, k_all, k_ex}
+use Rattle.omega_types.specs.Kinding.HasKind.{k_arrow, k_fields, k_sum, k_all, k_ex, k_mu}
 use Rattle.omega_types.specs.Kinding.HasKinds.{k_end, k_more}
 use Rattle.omega_types.specs.Conversion.{Conv, Convs}
 use Rattle.omega_types.specs.Conversion.Conv.{c_sym, c_trans}
 use Rattle.omega_types.specs.Conversion.Convs.{c_end, c_more}
 use Rattle.omega_types.specs.Normaliser.{normal, normal_row}
-use Rattle.omega_types.specs.Inversion.{OneKind, Decides, ArrowParts, AllParts, ExParts, FieldsParts}
+use Rattle.omega_types.specs.Inversion.{OneKind, Decides, ArrowParts, AllParts, ExParts, FieldsParts, SumParts, MuParts}
 use Rattle.omega_types.proofs.Sound.{kinded-code}
 use Rattle.omega_types.proofs.Preservation.{conv-kinds}
 use Rattle.omega_types.proofs.Hereditary.{normal-gives}
@@ -44,6 +44,7 @@ to_of t = t
 body_of : Ty → Ty
 body_of (Ty.All k b) = b
 body_of (Ty.Ex k b) = b
+body_of (Ty.Mu b) = b
 body_of t = t
 
 kind_of : Ty → Kind
@@ -53,6 +54,7 @@ kind_of t = Kind.Star
 
 fields_of : Ty → Row
 fields_of (Ty.Fields row) = row
+fields_of (Ty.Sum row) = row
 fields_of t = Row.End
 
 pub arrow-kinds : {ctx : List Kind} {a b : Ty} {k : Kind} → HasKind ctx (Ty.Arrow a b) k → HasKind ctx a Kind.Star × HasKind ctx b Kind.Star
@@ -66,6 +68,12 @@ ex-kinds (k_ex b) = b
 
 pub fields-kinds : {ctx : List Kind} {row : Row} {k : Kind} → HasKind ctx (Ty.Fields row) k → HasKinds ctx row
 fields-kinds (k_fields row) = row
+
+pub sum-kinds : {ctx : List Kind} {row : Row} {k : Kind} → HasKind ctx (Ty.Sum row) k → HasKinds ctx row
+sum-kinds (k_sum row) = row
+
+pub mu-kinds : {ctx : List Kind} {b : Ty} {k : Kind} → HasKind ctx (Ty.Mu b) k → HasKind (Kind.Star ∷ ctx) b Kind.Star
+mu-kinds (k_mu b) = b
 
 pub arrow_parts : ArrowParts
 unfolding from_of to_of
@@ -97,6 +105,12 @@ ex_parts ctx k l b c e =
     let i : k ≡ l = ap kind_of n in
     let m : normal (k ∷ ctx) b ≡ normal (l ∷ ctx) c = ap body_of n in
     (i, normal-same p (subst (λ j. HasKind (j ∷ ctx) c Kind.Star) (sym i) q) (subst (λ j. normal (k ∷ ctx) b ≡ normal (j ∷ ctx) c) (sym i) m))
+
+pub mu_parts : MuParts
+unfolding body_of
+mu_parts ctx b c e =
+    let h = conv-kinds e in
+    normal-same (mu-kinds h.0) (mu-kinds h.1) (ap body_of (same-normal e))
 
 -- rows of one normal form
 
@@ -132,3 +146,9 @@ unfolding fields_of
 fields_parts ctx row other e =
     let h = conv-kinds e in
     rows-same (fields-kinds h.0) (fields-kinds h.1) (ap fields_of (same-normal e))
+
+pub sum_parts : SumParts
+unfolding fields_of
+sum_parts ctx row other e =
+    let h = conv-kinds e in
+    rows-same (sum-kinds h.0) (sum-kinds h.1) (ap fields_of (same-normal e))

@@ -14,7 +14,7 @@ use Rattle.omega_kinds.specs.declared.label.Label.{Label}
 use Rattle.omega_kinds.proofs.LabelLaws.{label_total, label_exact, transitive}
 use Rattle.omega_types.specs.Ty.{Ty, Row}
 use Rattle.omega_types.specs.Kinding.{Lookup, HasKind, HasKinds, Fresh, here, there}
-use Rattle.omega_types.specs.Kinding.HasKind.{k_var, k_int, k_bool, k_text, k_arrow, k_fields, k_all, k_ex, k_lam, k_apply}
+use Rattle.omega_types.specs.Kinding.HasKind.{k_var, k_int, k_bool, k_text, k_arrow, k_fields, k_sum, k_all, k_ex, k_mu, k_lam, k_apply}
 use Rattle.omega_types.specs.Kinding.HasKinds.{k_end, k_more}
 use Rattle.omega_types.specs.Fields.{Pairs, row, Rises}
 use Rattle.omega_types.specs.KindIn.{is_star, star_if, applied, is_fresh, are_distinct, kind_in, all_star}
@@ -33,6 +33,10 @@ star_if-yes false k e = cc
 and-both : (a b : Truth) → (a && b) ≡ true → (a ≡ true) × (b ≡ true)
 and-both true b e = (refl, e)
 and-both false b e = cc
+
+-- of a type with two things to be so
+both-yes : (a b : Truth) (k : Kind) → star_if (a && b) ≡ Some k → (Kind.Star ≡ k) × (a ≡ true) × (b ≡ true)
+both-yes a b k e = let p = star_if-yes (a && b) k e in let q = and-both a b p.0 in (p.1, q.0, q.1)
 
 kind_eq-same : (a b : Kind) → kind_eq a b ≡ true → a ≡ b
 kind_eq-same Kind.Star Kind.Star e = refl
@@ -110,19 +114,23 @@ mutual
   kind_in-sound ctx Ty.Bool k e = let s : Kind.Star ≡ k = cc in subst (HasKind ctx Ty.Bool) s k_bool
   kind_in-sound ctx Ty.Text k e = let s : Kind.Star ≡ k = cc in subst (HasKind ctx Ty.Text) s k_text
   kind_in-sound ctx (Ty.Arrow a b) k e =
-      let p = star_if-yes (is_star (kind_in ctx a) && is_star (kind_in ctx b)) k e in
-      let q = and-both (is_star (kind_in ctx a)) (is_star (kind_in ctx b)) p.0 in
-      subst (HasKind ctx (Ty.Arrow a b)) p.1 (k_arrow (kind_in-sound ctx a Kind.Star (is_star-yes (kind_in ctx a) q.0)) (kind_in-sound ctx b Kind.Star (is_star-yes (kind_in ctx b) q.1)))
+      let p = both-yes (is_star (kind_in ctx a)) (is_star (kind_in ctx b)) k e in
+      subst (HasKind ctx (Ty.Arrow a b)) p.0 (k_arrow (kind_in-sound ctx a Kind.Star (is_star-yes (kind_in ctx a) p.1)) (kind_in-sound ctx b Kind.Star (is_star-yes (kind_in ctx b) p.2)))
   kind_in-sound ctx (Ty.Fields r) k e =
-      let p = star_if-yes (are_distinct r && all_star ctx r) k e in
-      let q = and-both (are_distinct r) (all_star ctx r) p.0 in
-      subst (HasKind ctx (Ty.Fields r)) p.1 (k_fields (all_star-sound ctx r q.0 q.1))
+      let p = both-yes (are_distinct r) (all_star ctx r) k e in
+      subst (HasKind ctx (Ty.Fields r)) p.0 (k_fields (all_star-sound ctx r p.1 p.2))
+  kind_in-sound ctx (Ty.Sum r) k e =
+      let p = both-yes (are_distinct r) (all_star ctx r) k e in
+      subst (HasKind ctx (Ty.Sum r)) p.0 (k_sum (all_star-sound ctx r p.1 p.2))
   kind_in-sound ctx (Ty.All j b) k e =
       let p = star_if-yes (is_star (kind_in (j ∷ ctx) b)) k e in
       subst (HasKind ctx (Ty.All j b)) p.1 (k_all (kind_in-sound (j ∷ ctx) b Kind.Star (is_star-yes (kind_in (j ∷ ctx) b) p.0)))
   kind_in-sound ctx (Ty.Ex j b) k e =
       let p = star_if-yes (is_star (kind_in (j ∷ ctx) b)) k e in
       subst (HasKind ctx (Ty.Ex j b)) p.1 (k_ex (kind_in-sound (j ∷ ctx) b Kind.Star (is_star-yes (kind_in (j ∷ ctx) b) p.0)))
+  kind_in-sound ctx (Ty.Mu b) k e =
+      let p = star_if-yes (is_star (kind_in (Kind.Star ∷ ctx) b)) k e in
+      subst (HasKind ctx (Ty.Mu b)) p.1 (k_mu (kind_in-sound (Kind.Star ∷ ctx) b Kind.Star (is_star-yes (kind_in (Kind.Star ∷ ctx) b) p.0)))
   kind_in-sound ctx (Ty.Lam j b) k e =
       let p = option_map-arrow j (kind_in (j ∷ ctx) b) k e in
       subst (HasKind ctx (Ty.Lam j b)) p.2 (k_lam (kind_in-sound (j ∷ ctx) b p.0 p.1))
@@ -145,8 +153,10 @@ mutual
   kind_in-complete k_text = refl
   kind_in-complete (k_arrow a b) = rw (kind_in-complete a, kind_in-complete b) refl
   kind_in-complete (k_fields p) = rw (distinct-complete p, all_star-complete p) refl
+  kind_in-complete (k_sum p) = rw (distinct-complete p, all_star-complete p) refl
   kind_in-complete (k_all b) = rw (kind_in-complete b) refl
   kind_in-complete (k_ex b) = rw (kind_in-complete b) refl
+  kind_in-complete (k_mu b) = rw (kind_in-complete b) refl
   kind_in-complete (k_lam b) = rw (kind_in-complete b) refl
   kind_in-complete (k_apply {k = k} f a) = rw (kind_in-complete f, kind_in-complete a, kind_eq-self k) refl
 

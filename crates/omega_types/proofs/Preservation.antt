@@ -6,13 +6,13 @@ use Rattle.omega_kinds.specs.declared.label.Label.{Label}
 use Rattle.omega_types.specs.Ty.{Ty, Row, lift}
 use Rattle.omega_types.specs.Substitution.{rename, rename_row, substitute, substitute_row, under, single}
 use Rattle.omega_types.specs.Kinding.{Lookup, HasKind, HasKinds, Fresh, here, there}
-use Rattle.omega_types.specs.Kinding.HasKind.{k_var, k_int, k_bool, k_text, k_arrow, k_fields, k_all, k_ex, k_lam, k_apply}
+use Rattle.omega_types.specs.Kinding.HasKind.{k_var, k_int, k_bool, k_text, k_arrow, k_fields, k_sum, k_all, k_ex, k_mu, k_lam, k_apply}
 use Rattle.omega_types.specs.Kinding.HasKinds.{k_end, k_more}
 use Rattle.omega_types.specs.Conversion.{Conv, Convs}
-use Rattle.omega_types.specs.Conversion.Conv.{c_refl, c_sym, c_trans, c_beta, c_eta, c_arrow, c_fields, c_all, c_ex, c_lam, c_apply}
+use Rattle.omega_types.specs.Conversion.Conv.{c_refl, c_sym, c_trans, c_beta, c_eta, c_arrow, c_fields, c_sum, c_all, c_ex, c_mu, c_lam, c_apply}
 use Rattle.omega_types.specs.Conversion.Convs.{c_end, c_more}
 use Rattle.omega_types.specs.Normality.{Normal, Normals, Neutral}
-use Rattle.omega_types.specs.Normality.Normal.{n_lam, n_int, n_bool, n_text, n_arrow, n_fields, n_all, n_ex, n_neutral}
+use Rattle.omega_types.specs.Normality.Normal.{n_lam, n_int, n_bool, n_text, n_arrow, n_fields, n_sum, n_all, n_ex, n_mu, n_neutral}
 use Rattle.omega_types.specs.Normality.Normals.{n_end, n_more}
 use Rattle.omega_types.specs.Normality.Neutral.{n_var, n_apply}
 use Rattle.omega_types.specs.Normalises.{Maps}
@@ -39,8 +39,10 @@ mutual
   kind-rename r h k_text = k_text
   kind-rename r h (k_arrow a b) = k_arrow (kind-rename r h a) (kind-rename r h b)
   kind-rename r h (k_fields row) = k_fields (kinds-rename r h row)
+  kind-rename r h (k_sum row) = k_sum (kinds-rename r h row)
   kind-rename r h (k_all {k = k} b) = k_all (kind-rename (lift r) (lift-maps k h) b)
   kind-rename r h (k_ex {k = k} b) = k_ex (kind-rename (lift r) (lift-maps k h) b)
+  kind-rename r h (k_mu b) = k_mu (kind-rename (lift r) (lift-maps Kind.Star h) b)
   kind-rename r h (k_lam {k = k} b) = k_lam (kind-rename (lift r) (lift-maps k h) b)
   kind-rename r h (k_apply f a) = k_apply (kind-rename r h f) (kind-rename r h a)
 
@@ -56,8 +58,10 @@ mutual
   normal-rename r h n_text = n_text
   normal-rename r h (n_arrow a b) = n_arrow (normal-rename r h a) (normal-rename r h b)
   normal-rename r h (n_fields row) = n_fields (normals-rename r h row)
+  normal-rename r h (n_sum row) = n_sum (normals-rename r h row)
   normal-rename r h (n_all {k = k} b) = n_all (normal-rename (lift r) (lift-maps k h) b)
   normal-rename r h (n_ex {k = k} b) = n_ex (normal-rename (lift r) (lift-maps k h) b)
+  normal-rename r h (n_mu b) = n_mu (normal-rename (lift r) (lift-maps Kind.Star h) b)
   normal-rename r h (n_neutral n) = n_neutral (neutral-rename r h n)
 
   pub normals-rename : {ctx other : List Kind} {row : Row} (r : ℕ → ℕ) → Maps ctx other r → Normals ctx row → Normals other (rename_row r row)
@@ -77,8 +81,10 @@ mutual
   conv-rename {other = other} r h (c_eta {k = k} {l = l} {t = t} ht) = subst (λ u. Conv other (Ty.Lam k (Ty.Apply u (Ty.Var zero))) (rename r t) (Kind.Arrow k l)) (sym (rename-weaken r t)) (c_eta (kind-rename r h ht))
   conv-rename r h (c_arrow c d) = c_arrow (conv-rename r h c) (conv-rename r h d)
   conv-rename r h (c_fields c) = c_fields (convs-rename r h c)
+  conv-rename r h (c_sum c) = c_sum (convs-rename r h c)
   conv-rename r h (c_all {k = k} c) = c_all (conv-rename (lift r) (lift-maps k h) c)
   conv-rename r h (c_ex {k = k} c) = c_ex (conv-rename (lift r) (lift-maps k h) c)
+  conv-rename r h (c_mu c) = c_mu (conv-rename (lift r) (lift-maps Kind.Star h) c)
   conv-rename r h (c_lam {k = k} c) = c_lam (conv-rename (lift r) (lift-maps k h) c)
   conv-rename r h (c_apply c d) = c_apply (conv-rename r h c) (conv-rename r h d)
 
@@ -112,8 +118,10 @@ mutual
   kind-substitute s h k_text = k_text
   kind-substitute s h (k_arrow a b) = k_arrow (kind-substitute s h a) (kind-substitute s h b)
   kind-substitute s h (k_fields row) = k_fields (kinds-substitute s h row)
+  kind-substitute s h (k_sum row) = k_sum (kinds-substitute s h row)
   kind-substitute s h (k_all {k = k} b) = k_all (kind-substitute (under s) (under-substitutes k h) b)
   kind-substitute s h (k_ex {k = k} b) = k_ex (kind-substitute (under s) (under-substitutes k h) b)
+  kind-substitute s h (k_mu b) = k_mu (kind-substitute (under s) (under-substitutes Kind.Star h) b)
   kind-substitute s h (k_lam {k = k} b) = k_lam (kind-substitute (under s) (under-substitutes k h) b)
   kind-substitute s h (k_apply f a) = k_apply (kind-substitute s h f) (kind-substitute s h a)
 
@@ -132,8 +140,10 @@ mutual
   conv-kinds (c_eta {ctx = ctx} {k = k} ht) = (k_lam (k_apply (kind-rename suc (maps-suc k ctx) ht) (k_var here)), ht)
   conv-kinds (c_arrow c d) = let g = conv-kinds c in let h = conv-kinds d in (k_arrow g.0 h.0, k_arrow g.1 h.1)
   conv-kinds (c_fields c) = let h = convs-kinds c in (k_fields h.0, k_fields h.1)
+  conv-kinds (c_sum c) = let h = convs-kinds c in (k_sum h.0, k_sum h.1)
   conv-kinds (c_all c) = let h = conv-kinds c in (k_all h.0, k_all h.1)
   conv-kinds (c_ex c) = let h = conv-kinds c in (k_ex h.0, k_ex h.1)
+  conv-kinds (c_mu c) = let h = conv-kinds c in (k_mu h.0, k_mu h.1)
   conv-kinds (c_lam c) = let h = conv-kinds c in (k_lam h.0, k_lam h.1)
   conv-kinds (c_apply c d) = let g = conv-kinds c in let h = conv-kinds d in (k_apply g.0 h.0, k_apply g.1 h.1)
 
@@ -149,8 +159,10 @@ mutual
   normal-kind n_text = k_text
   normal-kind (n_arrow a b) = k_arrow (normal-kind a) (normal-kind b)
   normal-kind (n_fields row) = k_fields (normals-kinds row)
+  normal-kind (n_sum row) = k_sum (normals-kinds row)
   normal-kind (n_all b) = k_all (normal-kind b)
   normal-kind (n_ex b) = k_ex (normal-kind b)
+  normal-kind (n_mu b) = k_mu (normal-kind b)
   normal-kind (n_neutral n) = neutral-kind n
 
   pub normals-kinds : {ctx : List Kind} {row : Row} → Normals ctx row → HasKinds ctx row
@@ -172,8 +184,10 @@ mutual
   conv-substitute {other = other} s h (c_eta {k = k} {l = l} {t = t} ht) = subst (λ u. Conv other (Ty.Lam k (Ty.Apply u (Ty.Var zero))) (substitute s t) (Kind.Arrow k l)) (sym (substitute-weaken s t)) (c_eta (kind-substitute s h ht))
   conv-substitute s h (c_arrow c d) = c_arrow (conv-substitute s h c) (conv-substitute s h d)
   conv-substitute s h (c_fields c) = c_fields (convs-substitute s h c)
+  conv-substitute s h (c_sum c) = c_sum (convs-substitute s h c)
   conv-substitute s h (c_all {k = k} c) = c_all (conv-substitute (under s) (under-substitutes k h) c)
   conv-substitute s h (c_ex {k = k} c) = c_ex (conv-substitute (under s) (under-substitutes k h) c)
+  conv-substitute s h (c_mu c) = c_mu (conv-substitute (under s) (under-substitutes Kind.Star h) c)
   conv-substitute s h (c_lam {k = k} c) = c_lam (conv-substitute (under s) (under-substitutes k h) c)
   conv-substitute s h (c_apply c d) = c_apply (conv-substitute s h c) (conv-substitute s h d)
 
@@ -198,8 +212,10 @@ mutual
   substitute-convertible s q h k_text = c_refl k_text
   substitute-convertible s q h (k_arrow a b) = c_arrow (substitute-convertible s q h a) (substitute-convertible s q h b)
   substitute-convertible s q h (k_fields row) = c_fields (substitute_row-convertible s q h row)
+  substitute-convertible s q h (k_sum row) = c_sum (substitute_row-convertible s q h row)
   substitute-convertible s q h (k_all {k = k} b) = c_all (substitute-convertible (under s) (under q) (under-convertible k h) b)
   substitute-convertible s q h (k_ex {k = k} b) = c_ex (substitute-convertible (under s) (under q) (under-convertible k h) b)
+  substitute-convertible s q h (k_mu b) = c_mu (substitute-convertible (under s) (under q) (under-convertible Kind.Star h) b)
   substitute-convertible s q h (k_lam {k = k} b) = c_lam (substitute-convertible (under s) (under q) (under-convertible k h) b)
   substitute-convertible s q h (k_apply f a) = c_apply (substitute-convertible s q h f) (substitute-convertible s q h a)
 

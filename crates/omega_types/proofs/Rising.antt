@@ -1,4 +1,4 @@
--- Fields in rising order, and the parts of a record one after another.
+-- Fields in rising order, and the parts of a record or a sum one after another.
 use Rattle.std.proofs.Common.{List, [], ◌∷◌, ◌++◌}
 use Rattle.omega_kinds.specs.declared.label.Label.{Label}
 use Rattle.omega_types.specs.Fields.{Rises, MayFollow}

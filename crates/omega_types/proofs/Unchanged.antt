@@ -18,8 +18,10 @@ mutual
   rename-unchanged n r Ty.Text h p = refl
   rename-unchanged n r (Ty.Arrow a b) h p = ap₂ Ty.Arrow (rename-unchanged n r a h (omega arith)) (rename-unchanged n r b h (omega arith))
   rename-unchanged n r (Ty.Fields row) h p = ap Ty.Fields (rename_row-unchanged n r row h p)
+  rename-unchanged n r (Ty.Sum row) h p = ap Ty.Sum (rename_row-unchanged n r row h p)
   rename-unchanged n r (Ty.All k b) h p = ap (Ty.All k) (rename-unchanged (suc n) (lift r) b (lift-same n r h) (omega arith))
   rename-unchanged n r (Ty.Ex k b) h p = ap (Ty.Ex k) (rename-unchanged (suc n) (lift r) b (lift-same n r h) (omega arith))
+  rename-unchanged n r (Ty.Mu b) h p = ap Ty.Mu (rename-unchanged (suc n) (lift r) b (lift-same n r h) (omega arith))
   rename-unchanged n r (Ty.Lam k b) h p = ap (Ty.Lam k) (rename-unchanged (suc n) (lift r) b (lift-same n r h) (omega arith))
   rename-unchanged n r (Ty.Apply f a) h p = ap₂ Ty.Apply (rename-unchanged n r f h (omega arith)) (rename-unchanged n r a h (omega arith))
 
@@ -39,8 +41,10 @@ mutual
   substitute-unchanged n s Ty.Text h p = refl
   substitute-unchanged n s (Ty.Arrow a b) h p = ap₂ Ty.Arrow (substitute-unchanged n s a h (omega arith)) (substitute-unchanged n s b h (omega arith))
   substitute-unchanged n s (Ty.Fields row) h p = ap Ty.Fields (substitute_row-unchanged n s row h p)
+  substitute-unchanged n s (Ty.Sum row) h p = ap Ty.Sum (substitute_row-unchanged n s row h p)
   substitute-unchanged n s (Ty.All k b) h p = ap (Ty.All k) (substitute-unchanged (suc n) (under s) b (under-same n s h) (omega arith))
   substitute-unchanged n s (Ty.Ex k b) h p = ap (Ty.Ex k) (substitute-unchanged (suc n) (under s) b (under-same n s h) (omega arith))
+  substitute-unchanged n s (Ty.Mu b) h p = ap Ty.Mu (substitute-unchanged (suc n) (under s) b (under-same n s h) (omega arith))
   substitute-unchanged n s (Ty.Lam k b) h p = ap (Ty.Lam k) (substitute-unchanged (suc n) (under s) b (under-same n s h) (omega arith))
   substitute-unchanged n s (Ty.Apply f a) h p = ap₂ Ty.Apply (substitute-unchanged n s f h (omega arith)) (substitute-unchanged n s a h (omega arith))
 

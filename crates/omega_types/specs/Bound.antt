@@ -11,8 +11,10 @@ abbrev mutual
   bound_of Ty.Text = 0
   bound_of (Ty.Arrow a b) = max (bound_of a) (bound_of b)
   bound_of (Ty.Fields row) = bound_row row
+  bound_of (Ty.Sum row) = bound_row row
   bound_of (Ty.All k b) = bound_of b - 1
   bound_of (Ty.Ex k b) = bound_of b - 1
+  bound_of (Ty.Mu b) = bound_of b - 1
   bound_of (Ty.Lam k b) = bound_of b - 1
   bound_of (Ty.Apply f a) = max (bound_of f) (bound_of a)
 

@@ -15,8 +15,10 @@ abbrev mutual
   stored Ty.Text = gnum 2
   stored (Ty.Arrow a b) = gcons (gnum 0) (gcons (stored a) (stored b))
   stored (Ty.Fields r) = gcons (gnum 1) (stored_row r)
+  stored (Ty.Sum r) = gcons (gnum 6) (stored_row r)
   stored (Ty.All k b) = gcons (gnum 2) (gcons (stored_kind k) (stored b))
   stored (Ty.Ex k b) = gcons (gnum 3) (gcons (stored_kind k) (stored b))
+  stored (Ty.Mu b) = gcons (gnum 7) (gcons gnil (stored b))
   stored (Ty.Lam k b) = gcons (gnum 4) (gcons (stored_kind k) (stored b))
   stored (Ty.Apply f a) = gcons (gnum 5) (gcons (stored f) (stored a))
 
@@ -30,13 +32,19 @@ leaf (suc zero) = Ty.Bool
 leaf (suc (suc zero)) = Ty.Text
 leaf (suc (suc (suc n))) = Ty.Var n
 
-abbrev pub pick : ℕ → Ty → Ty → Ty → Ty → Ty → Ty → Ty
-pick zero a b c d e f = a
-pick (suc zero) a b c d e f = b
-pick (suc (suc zero)) a b c d e f = c
-pick (suc (suc (suc zero))) a b c d e f = d
-pick (suc (suc (suc (suc zero)))) a b c d e f = e
-pick (suc (suc (suc (suc (suc n))))) a b c d e f = f
+abbrev pub pick : ℕ → Ty → Ty → Ty → Ty → Ty → Ty → Ty → Ty → Ty
+pick zero a b c d e f g h = a
+pick (suc zero) a b c d e f g h = b
+pick (suc (suc zero)) a b c d e f g h = c
+pick (suc (suc (suc zero))) a b c d e f g h = d
+pick (suc (suc (suc (suc zero)))) a b c d e f g h = e
+pick (suc (suc (suc (suc (suc zero))))) a b c d e f g h = f
+pick (suc (suc (suc (suc (suc (suc zero)))))) a b c d e f g h = g
+pick (suc (suc (suc (suc (suc (suc (suc n))))))) a b c d e f g h = h
+
+-- a former over no fields
+abbrev pub pick_empty : ℕ → Ty
+pick_empty n = pick n Ty.Int (Ty.Fields Row.End) Ty.Int Ty.Int Ty.Int Ty.Int (Ty.Sum Row.End) Ty.Int
 
 -- restored tells the form by the number in front
 abbrev mutual
@@ -45,10 +53,10 @@ abbrev mutual
   restored (gnum n) = leaf n
   restored (gcons gnil b) = Ty.Int
   restored (gcons (gcons a c) b) = Ty.Int
-  restored (gcons (gnum n) gnil) = Ty.Fields Row.End
+  restored (gcons (gnum n) gnil) = pick_empty n
   restored (gcons (gnum n) (gnum m)) = Ty.Int
   restored (gcons (gnum n) (gcons a b)) =
-      pick n (Ty.Arrow (restored a) (restored b)) (Ty.Fields (restored_row (gcons a b))) (Ty.All (restored_kind a) (restored b)) (Ty.Ex (restored_kind a) (restored b)) (Ty.Lam (restored_kind a) (restored b)) (Ty.Apply (restored a) (restored b))
+      pick n (Ty.Arrow (restored a) (restored b)) (Ty.Fields (restored_row (gcons a b))) (Ty.All (restored_kind a) (restored b)) (Ty.Ex (restored_kind a) (restored b)) (Ty.Lam (restored_kind a) (restored b)) (Ty.Apply (restored a) (restored b)) (Ty.Sum (restored_row (gcons a b))) (Ty.Mu (restored b))
 
   pub restored_row : Gv → Row
   restored_row gnil = Row.End
@@ -66,8 +74,11 @@ mutual
   restored-stored (Ty.Arrow a b) = λ i. Ty.Arrow (restored-stored a i) (restored-stored b i)
   restored-stored (Ty.Fields Row.End) = refl
   restored-stored (Ty.Fields (Row.More l t r)) = λ i. Ty.Fields (restored-stored_row (Row.More l t r) i)
+  restored-stored (Ty.Sum Row.End) = refl
+  restored-stored (Ty.Sum (Row.More l t r)) = λ i. Ty.Sum (restored-stored_row (Row.More l t r) i)
   restored-stored (Ty.All k b) = λ i. Ty.All (restored-stored_kind k i) (restored-stored b i)
   restored-stored (Ty.Ex k b) = λ i. Ty.Ex (restored-stored_kind k i) (restored-stored b i)
+  restored-stored (Ty.Mu b) = λ i. Ty.Mu (restored-stored b i)
   restored-stored (Ty.Lam k b) = λ i. Ty.Lam (restored-stored_kind k i) (restored-stored b i)
   restored-stored (Ty.Apply f a) = λ i. Ty.Apply (restored-stored f i) (restored-stored a i)
 

@@ -16,8 +16,10 @@ mutual
     c_eta : {ctx : List Kind} {k l : Kind} {t : Ty} → HasKind ctx t (Kind.Arrow k l) → Conv ctx (Ty.Lam k (Ty.Apply (rename suc t) (Ty.Var zero))) t (Kind.Arrow k l)
     c_arrow : {ctx : List Kind} {a b c d : Ty} → Conv ctx a c Kind.Star → Conv ctx b d Kind.Star → Conv ctx (Ty.Arrow a b) (Ty.Arrow c d) Kind.Star
     c_fields : {ctx : List Kind} {row other : Row} → Convs ctx row other → Conv ctx (Ty.Fields row) (Ty.Fields other) Kind.Star
+    c_sum : {ctx : List Kind} {row other : Row} → Convs ctx row other → Conv ctx (Ty.Sum row) (Ty.Sum other) Kind.Star
     c_all : {ctx : List Kind} {k : Kind} {b c : Ty} → Conv (k ∷ ctx) b c Kind.Star → Conv ctx (Ty.All k b) (Ty.All k c) Kind.Star
     c_ex : {ctx : List Kind} {k : Kind} {b c : Ty} → Conv (k ∷ ctx) b c Kind.Star → Conv ctx (Ty.Ex k b) (Ty.Ex k c) Kind.Star
+    c_mu : {ctx : List Kind} {b c : Ty} → Conv (Kind.Star ∷ ctx) b c Kind.Star → Conv ctx (Ty.Mu b) (Ty.Mu c) Kind.Star
     c_lam : {ctx : List Kind} {k l : Kind} {b c : Ty} → Conv (k ∷ ctx) b c l → Conv ctx (Ty.Lam k b) (Ty.Lam k c) (Kind.Arrow k l)
     c_apply : {ctx : List Kind} {k l : Kind} {f g a b : Ty} → Conv ctx f g (Kind.Arrow k l) → Conv ctx a b k → Conv ctx (Ty.Apply f a) (Ty.Apply g b) l
 

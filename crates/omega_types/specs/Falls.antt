@@ -22,8 +22,10 @@ depth_le-nodes node.Bool = omega arith
 depth_le-nodes node.Text = omega arith
 depth_le-nodes (node.Arrow a b) = omega arith
 depth_le-nodes (node.Fields fs) = omega arith
+depth_le-nodes (node.Sum fs) = omega arith
 depth_le-nodes (node.All k b) = omega arith
 depth_le-nodes (node.Ex k b) = omega arith
+depth_le-nodes (node.Mu b) = omega arith
 depth_le-nodes (node.Lam k b) = omega arith
 depth_le-nodes (node.Apply f a) = omega arith
 

@@ -1,4 +1,4 @@
--- The fields of a record, as a list of labels with their types, and as the row of the plain tree.
+-- The fields of a record or a sum, as a list of labels with their types, and as the row of the plain tree.
 use Rattle.std.specs.Prelude.{List, [], ◌∷◌, Option, Some, None, if◌then◌else◌}
 use Rattle.std.specs.Ordering.{is_eq}
 use Rattle.omega_kinds.specs.declared.label.Label.{Label}

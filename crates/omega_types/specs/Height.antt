@@ -11,8 +11,10 @@ abbrev mutual
   height Ty.Text = 1
   height (Ty.Arrow a b) = max (height a) (height b) + 1
   height (Ty.Fields row) = height_row row + 1
+  height (Ty.Sum row) = height_row row + 1
   height (Ty.All k b) = height b + 1
   height (Ty.Ex k b) = height b + 1
+  height (Ty.Mu b) = height b + 1
   height (Ty.Lam k b) = height b + 1
   height (Ty.Apply f a) = max (height f) (height a) + 1
 

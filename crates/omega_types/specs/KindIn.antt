@@ -40,8 +40,10 @@ abbrev mutual
   kind_in ctx Ty.Text = Some Kind.Star
   kind_in ctx (Ty.Arrow a b) = star_if (is_star (kind_in ctx a) && is_star (kind_in ctx b))
   kind_in ctx (Ty.Fields row) = star_if (are_distinct row && all_star ctx row)
+  kind_in ctx (Ty.Sum row) = star_if (are_distinct row && all_star ctx row)
   kind_in ctx (Ty.All k b) = star_if (is_star (kind_in (k ∷ ctx) b))
   kind_in ctx (Ty.Ex k b) = star_if (is_star (kind_in (k ∷ ctx) b))
+  kind_in ctx (Ty.Mu b) = star_if (is_star (kind_in (Kind.Star ∷ ctx) b))
   kind_in ctx (Ty.Lam k b) = option_map (Kind.Arrow k) (kind_in (k ∷ ctx) b)
   kind_in ctx (Ty.Apply f a) = applied (kind_in ctx f) (kind_in ctx a)
 

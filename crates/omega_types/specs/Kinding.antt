@@ -22,8 +22,10 @@ mutual
     k_text : {ctx : List Kind} → HasKind ctx Ty.Text Kind.Star
     k_arrow : {ctx : List Kind} {a b : Ty} → HasKind ctx a Kind.Star → HasKind ctx b Kind.Star → HasKind ctx (Ty.Arrow a b) Kind.Star
     k_fields : {ctx : List Kind} {row : Row} → HasKinds ctx row → HasKind ctx (Ty.Fields row) Kind.Star
+    k_sum : {ctx : List Kind} {row : Row} → HasKinds ctx row → HasKind ctx (Ty.Sum row) Kind.Star
     k_all : {ctx : List Kind} {k : Kind} {b : Ty} → HasKind (k ∷ ctx) b Kind.Star → HasKind ctx (Ty.All k b) Kind.Star
     k_ex : {ctx : List Kind} {k : Kind} {b : Ty} → HasKind (k ∷ ctx) b Kind.Star → HasKind ctx (Ty.Ex k b) Kind.Star
+    k_mu : {ctx : List Kind} {b : Ty} → HasKind (Kind.Star ∷ ctx) b Kind.Star → HasKind ctx (Ty.Mu b) Kind.Star
     k_lam : {ctx : List Kind} {k l : Kind} {b : Ty} → HasKind (k ∷ ctx) b l → HasKind ctx (Ty.Lam k b) (Kind.Arrow k l)
     k_apply : {ctx : List Kind} {k l : Kind} {f a : Ty} → HasKind ctx f (Kind.Arrow k l) → HasKind ctx a k → HasKind ctx (Ty.Apply f a) l
 

@@ -14,8 +14,10 @@ mutual
     n_text : {ctx : List Kind} → Normal ctx Ty.Text Kind.Star
     n_arrow : {ctx : List Kind} {a b : Ty} → Normal ctx a Kind.Star → Normal ctx b Kind.Star → Normal ctx (Ty.Arrow a b) Kind.Star
     n_fields : {ctx : List Kind} {row : Row} → Normals ctx row → Normal ctx (Ty.Fields row) Kind.Star
+    n_sum : {ctx : List Kind} {row : Row} → Normals ctx row → Normal ctx (Ty.Sum row) Kind.Star
     n_all : {ctx : List Kind} {k : Kind} {b : Ty} → Normal (k ∷ ctx) b Kind.Star → Normal ctx (Ty.All k b) Kind.Star
     n_ex : {ctx : List Kind} {k : Kind} {b : Ty} → Normal (k ∷ ctx) b Kind.Star → Normal ctx (Ty.Ex k b) Kind.Star
+    n_mu : {ctx : List Kind} {b : Ty} → Normal (Kind.Star ∷ ctx) b Kind.Star → Normal ctx (Ty.Mu b) Kind.Star
     n_neutral : {ctx : List Kind} {t : Ty} → Neutral ctx t Kind.Star → Normal ctx t Kind.Star
 
   pub data Normals : List Kind → Row → Type 0 where

@@ -11,8 +11,10 @@ abbrev mutual
   nodes Ty.Text = 1
   nodes (Ty.Arrow a b) = nodes a + nodes b + 1
   nodes (Ty.Fields row) = nodes_row row + 1
+  nodes (Ty.Sum row) = nodes_row row + 1
   nodes (Ty.All k b) = nodes b + 1
   nodes (Ty.Ex k b) = nodes b + 1
+  nodes (Ty.Mu b) = nodes b + 1
   nodes (Ty.Lam k b) = nodes b + 1
   nodes (Ty.Apply f a) = nodes f + nodes a + 1
 

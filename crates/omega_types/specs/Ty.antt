@@ -8,8 +8,9 @@ mutual
     Var : (index : ℕ) → Ty
     Int Bool Text : Ty
     Arrow : (from to : Ty) → Ty
-    Fields : (fields : Row) → Ty
+    Fields Sum : (fields : Row) → Ty
     All Ex : (kind : Kind) (body : Ty) → Ty
+    Mu : (body : Ty) → Ty
     Lam : (kind : Kind) (body : Ty) → Ty
     Apply : (operator arg : Ty) → Ty
     deriving Discrete as Ty-discrete

@@ -99,7 +99,7 @@ fn find_kind(alloc: Global, scope: &mut Vec<Kind>, ty: &Ty) -> Result<Option<Kin
             let b = find_kind(alloc, scope, b)?;
             Ok(star_if(is_star(&a) && is_star(&b)))
         }
-        TyNode::Fields(fields) => {
+        TyNode::Fields(fields) | TyNode::Sum(fields) => {
             let stars = all_star(alloc, scope, fields)?;
             Ok(star_if(stars))
         }
@@ -109,6 +109,10 @@ fn find_kind(alloc: Global, scope: &mut Vec<Kind>, ty: &Ty) -> Result<Option<Kin
         }
         TyNode::Ex(k, b) => {
             let b = find_under(alloc, scope, b, k)?;
+            Ok(star_if(is_star(&b)))
+        }
+        TyNode::Mu(b) => {
+            let b = find_under(alloc, scope, b, &Kind::Star)?;
             Ok(star_if(is_star(&b)))
         }
         TyNode::Lam(k, b) => match find_under(alloc, scope, b, k)? {

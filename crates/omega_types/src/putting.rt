@@ -48,6 +48,10 @@ fn put_in(alloc: Global, ty: &Ty, at: u64, depth: u64, arg: &Ty) -> Result<Ty, M
             let fields = put_in_fields(alloc, fields, at, depth, arg)?;
             Ty::make(alloc, TyNode::Fields(fields))
         }
+        TyNode::Sum(fields) => {
+            let fields = put_in_fields(alloc, fields, at, depth, arg)?;
+            Ty::make(alloc, TyNode::Sum(fields))
+        }
         TyNode::All(k, b) => {
             let b = put_under(alloc, b, at, depth, arg)?;
             Ty::make(alloc, TyNode::All(k.share()?, b))
@@ -55,6 +59,10 @@ fn put_in(alloc: Global, ty: &Ty, at: u64, depth: u64, arg: &Ty) -> Result<Ty, M
         TyNode::Ex(k, b) => {
             let b = put_under(alloc, b, at, depth, arg)?;
             Ty::make(alloc, TyNode::Ex(k.share()?, b))
+        }
+        TyNode::Mu(b) => {
+            let b = put_under(alloc, b, at, depth, arg)?;
+            Ty::make(alloc, TyNode::Mu(b))
         }
         TyNode::Lam(k, b) => {
             let b = put_under(alloc, b, at, depth, arg)?;

@@ -34,6 +34,10 @@ pub fn shift(alloc: Global, ty: &Ty, by: u64, from: u64) -> Result<Ty, Mem>
             let fields = shift_fields(alloc, fields, by, from)?;
             Ty::make(alloc, TyNode::Fields(fields))
         }
+        TyNode::Sum(fields) => {
+            let fields = shift_fields(alloc, fields, by, from)?;
+            Ty::make(alloc, TyNode::Sum(fields))
+        }
         TyNode::All(k, b) => {
             let b = shift_under(alloc, b, by, from)?;
             Ty::make(alloc, TyNode::All(k.share()?, b))
@@ -41,6 +45,10 @@ pub fn shift(alloc: Global, ty: &Ty, by: u64, from: u64) -> Result<Ty, Mem>
         TyNode::Ex(k, b) => {
             let b = shift_under(alloc, b, by, from)?;
             Ty::make(alloc, TyNode::Ex(k.share()?, b))
+        }
+        TyNode::Mu(b) => {
+            let b = shift_under(alloc, b, by, from)?;
+            Ty::make(alloc, TyNode::Mu(b))
         }
         TyNode::Lam(k, b) => {
             let b = shift_under(alloc, b, by, from)?;

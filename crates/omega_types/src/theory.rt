@@ -3,7 +3,7 @@
 ghost use Rattle.omega_types.specs.Unique.{UniqueNormalForms};
 ghost use Rattle.omega_types.specs.Normalises.{EachHasOne, InstanceHasOne, HsubstGives, NormaliserGives, RenamingKeeps, SameExactlyWhereConvertible};
 ghost use Rattle.omega_types.specs.Mentions.{MentionsByNormalForm, LowerGives};
-ghost use Rattle.omega_types.specs.Inversion.{OneKind, Decides, ArrowParts, AllParts, ExParts, FieldsParts};
+ghost use Rattle.omega_types.specs.Inversion.{OneKind, Decides, ArrowParts, AllParts, ExParts, FieldsParts, SumParts, MuParts, MuUnfolds};
 ghost use Rattle.omega_types.specs.Laws.{NormalOfNormal, NormalOfRename, NormalOfSubstitute, HsubstsCommute, OneForm};
 
 /// Normal forms exist and are unique: two convertible normal types are the same tree, each type of a kind has exactly
@@ -35,8 +35,9 @@ pub fn normalisers()
 {}
 
 /// A type has at most one kind; types of one kind are convertible exactly where their normal forms are the same tree;
-/// and where two function types, two universal types, two existential types or two record types are convertible, so are
-/// their parts.
+/// and where two function types, two universal types, two existential types, two record types, two sums or two
+/// recursive types are convertible, so are their parts. A recursive type is convertible to its unfolding only where its
+/// body is convertible to the variable that it binds.
 ///
 /// Pierce, "Types and Programming Languages", section 30.3, Properties.
 pub fn inversion()
@@ -46,6 +47,9 @@ pub fn inversion()
     ensures all { AllParts }
     ensures ex { ExParts }
     ensures fields { FieldsParts }
+    ensures sum { SumParts }
+    ensures mu { MuParts }
+    ensures unfolding { MuUnfolds }
 {}
 
 /// The laws of the normaliser: it leaves normal types alone, it goes with renaming and takes substitution to hereditary

@@ -33,7 +33,8 @@ struct Made {
 }
 
 /// The outermost form of a type, with its parts.
-/// `All`, `Ex` and `Lam` bind one variable of the kind that stands there, which is index 0 in the part.
+/// `All`, `Ex` and `Lam` bind one variable of the kind that stands there, and `Mu` one of kind `*`, which is index 0 in the
+/// part. `Sum` is a labelled sum, and `Mu` an iso-recursive type.
 #[cycle(ty)]
 #[derive(Drop)]
 pub enum TyNode {
@@ -43,13 +44,15 @@ pub enum TyNode {
     Text,
     Arrow(Ty, Ty),
     Fields(TyFields),
+    Sum(TyFields),
     All(Kind, Ty),
     Ex(Kind, Ty),
+    Mu(Ty),
     Lam(Kind, Ty),
     Apply(Ty, Ty),
 }
 
-/// The fields of a record, in strictly rising label order. Contracts see them as the list of labels with types.
+/// The fields of a record or a sum, in strictly rising label order. Contracts see them as the list of labels with types.
 #[cycle(ty)]
 #[derive(Drop)]
 pub struct TyFields {
@@ -166,8 +169,8 @@ impl TyNode {
             TyNode::Var(index) => next_level(*index),
             TyNode::Int | TyNode::Bool | TyNode::Text => Ok(0),
             TyNode::Arrow(a, b) | TyNode::Apply(a, b) => Ok(a.bound().max(b.bound())),
-            TyNode::Fields(fields) => Ok(fields.bound()),
-            TyNode::All(_, b) | TyNode::Ex(_, b) | TyNode::Lam(_, b) => {
+            TyNode::Fields(fields) | TyNode::Sum(fields) => Ok(fields.bound()),
+            TyNode::All(_, b) | TyNode::Ex(_, b) | TyNode::Lam(_, b) | TyNode::Mu(b) => {
                 Ok(b.bound().saturating_sub(1))
             }
         }
@@ -180,7 +183,8 @@ impl TyNode {
         match self {
             TyNode::Var(_) | TyNode::Int | TyNode::Bool | TyNode::Text => NOTHING,
             TyNode::Arrow(a, b) | TyNode::Apply(a, b) => a.extent().beside(b.extent()),
-            TyNode::Fields(fields) => fields.extent,
+            TyNode::Fields(fields) | TyNode::Sum(fields) => fields.extent,
+            TyNode::Mu(b) => b.extent(),
             TyNode::All(k, b) | TyNode::Ex(k, b) | TyNode::Lam(k, b) => k
                 .extent()
                 .beside(b.extent()),

@@ -26,8 +26,10 @@ abbrev mutual
   calls_with count k i a Ty.Text = 1
   calls_with count k i a (Ty.Arrow s t) = suc (calls_with count k i a s + calls_with count k i a t)
   calls_with count k i a (Ty.Fields row) = suc (row_calls_with count k i a row)
+  calls_with count k i a (Ty.Sum row) = suc (row_calls_with count k i a row)
   calls_with count k i a (Ty.All l b) = suc (calls_with count k (suc i) (rename suc a) b)
   calls_with count k i a (Ty.Ex l b) = suc (calls_with count k (suc i) (rename suc a) b)
+  calls_with count k i a (Ty.Mu b) = suc (calls_with count k (suc i) (rename suc a) b)
   calls_with count k i a (Ty.Lam l b) = suc (calls_with count k (suc i) (rename suc a) b)
   calls_with count k i a (Ty.Apply f t) = suc (calls_with count k i a f + calls_with count k i a t + count (put_in k (args k) i a f) (tree (put_in k (args k) i a t)))
 
@@ -69,8 +71,10 @@ mutual
   calls_with-mono c d h k i a Ty.Text = omega arith
   calls_with-mono c d h k i a (Ty.Arrow s t) = let p = calls_with-mono c d h k i a s in let q = calls_with-mono c d h k i a t in omega arith
   calls_with-mono c d h k i a (Ty.Fields row) = let p = row_calls_with-mono c d h k i a row in omega arith
+  calls_with-mono c d h k i a (Ty.Sum row) = let p = row_calls_with-mono c d h k i a row in omega arith
   calls_with-mono c d h k i a (Ty.All l b) = let p = calls_with-mono c d h k (suc i) (rename suc a) b in omega arith
   calls_with-mono c d h k i a (Ty.Ex l b) = let p = calls_with-mono c d h k (suc i) (rename suc a) b in omega arith
+  calls_with-mono c d h k i a (Ty.Mu b) = let p = calls_with-mono c d h k (suc i) (rename suc a) b in omega arith
   calls_with-mono c d h k i a (Ty.Lam l b) = let p = calls_with-mono c d h k (suc i) (rename suc a) b in omega arith
   calls_with-mono c d h k i a (Ty.Apply f t) =
       let p = calls_with-mono c d h k i a f in

@@ -48,8 +48,10 @@ mutual
   put_in-unchanged k A i a Ty.Text h = refl
   put_in-unchanged k A i a (Ty.Arrow s t) h = ap₂ (λ p q. stuck (Ty.Arrow (tree p) (tree q))) (put_in-unchanged k A i a s (omega arith)) (put_in-unchanged k A i a t (omega arith))
   put_in-unchanged k A i a (Ty.Fields row) h = ap (λ r. stuck (Ty.Fields r)) (put_in_row-unchanged k A i a row h)
+  put_in-unchanged k A i a (Ty.Sum row) h = ap (λ r. stuck (Ty.Sum r)) (put_in_row-unchanged k A i a row h)
   put_in-unchanged k A i a (Ty.All l b) h = ap (λ p. stuck (Ty.All l (tree p))) (put_in-unchanged k A (suc i) (rename suc a) b (omega arith))
   put_in-unchanged k A i a (Ty.Ex l b) h = ap (λ p. stuck (Ty.Ex l (tree p))) (put_in-unchanged k A (suc i) (rename suc a) b (omega arith))
+  put_in-unchanged k A i a (Ty.Mu b) h = ap (λ p. stuck (Ty.Mu (tree p))) (put_in-unchanged k A (suc i) (rename suc a) b (omega arith))
   put_in-unchanged k A i a (Ty.Lam l b) h = ap (λ p. stuck (Ty.Lam l (tree p))) (put_in-unchanged k A (suc i) (rename suc a) b (omega arith))
   put_in-unchanged k A i a (Ty.Apply f t) h = ap₂ (λ p q. apply_part p (tree q)) (put_in-unchanged k A i a f (omega arith)) (put_in-unchanged k A i a t (omega arith))
 

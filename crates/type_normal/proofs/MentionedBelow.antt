@@ -3,7 +3,7 @@ use Rattle.std.proofs.Common.{◌≡◌, ◌⊎◌, inl, inr, ℕ, suc, ◌+◌,
 use Rattle.std.proofs.lemmas.Bool.Decides.{nat_tests}
 use Rattle.omega_types.specs.Ty.{Ty, Row}
 use Rattle.omega_types.specs.Bound.{bound_of, bound_row}
-use Rattle.omega_types.specs.Mentions.{Mentions, Mentions_row, m_var, m_from, m_to, m_fields, m_all, m_ex, m_lam, m_operator, m_arg, m_part, m_rest}
+use Rattle.omega_types.specs.Mentions.{Mentions, Mentions_row, m_var, m_from, m_to, m_fields, m_sum, m_all, m_ex, m_mu, m_lam, m_operator, m_arg, m_part, m_rest}
 use Rattle.type_normal.specs.Mentioned.{is_mentioned, is_mentioned_row}
 
 mutual
@@ -14,8 +14,10 @@ mutual
   not_mentioned i Ty.Text h = refl
   not_mentioned i (Ty.Arrow a b) h = let p = not_mentioned i a (omega arith) in rw (p, not_mentioned i b (omega arith)) refl
   not_mentioned i (Ty.Fields row) h = not_mentioned_row i row h
+  not_mentioned i (Ty.Sum row) h = not_mentioned_row i row h
   not_mentioned i (Ty.All k b) h = not_mentioned (suc i) b (omega arith)
   not_mentioned i (Ty.Ex k b) h = not_mentioned (suc i) b (omega arith)
+  not_mentioned i (Ty.Mu b) h = not_mentioned (suc i) b (omega arith)
   not_mentioned i (Ty.Lam k b) h = not_mentioned (suc i) b (omega arith)
   not_mentioned i (Ty.Apply f a) h = let p = not_mentioned i f (omega arith) in rw (p, not_mentioned i a (omega arith)) refl
 
@@ -62,8 +64,10 @@ mutual
   mentioned-sound i Ty.Text e = absurd (cc)
   mentioned-sound i (Ty.Arrow a b) e = elim (or-cases (is_mentioned i a) (is_mentioned i b) e) [ inl p ↦ m_from (mentioned-sound i a p) | inr p ↦ m_to (mentioned-sound i b p) ]
   mentioned-sound i (Ty.Fields row) e = m_fields (mentioned_row-sound i row e)
+  mentioned-sound i (Ty.Sum row) e = m_sum (mentioned_row-sound i row e)
   mentioned-sound i (Ty.All k b) e = m_all (mentioned-sound (suc i) b e)
   mentioned-sound i (Ty.Ex k b) e = m_ex (mentioned-sound (suc i) b e)
+  mentioned-sound i (Ty.Mu b) e = m_mu (mentioned-sound (suc i) b e)
   mentioned-sound i (Ty.Lam k b) e = m_lam (mentioned-sound (suc i) b e)
   mentioned-sound i (Ty.Apply f a) e = elim (or-cases (is_mentioned i f) (is_mentioned i a) e) [ inl p ↦ m_operator (mentioned-sound i f p) | inr p ↦ m_arg (mentioned-sound i a p) ]
 
@@ -77,8 +81,10 @@ mutual
   mentioned-complete (m_from {i = i} {a = a} {b = b} m) = or-left (is_mentioned i a) (is_mentioned i b) (mentioned-complete m)
   mentioned-complete (m_to {i = i} {a = a} {b = b} m) = or-right (is_mentioned i a) (is_mentioned i b) (mentioned-complete m)
   mentioned-complete (m_fields m) = mentioned_row-complete m
+  mentioned-complete (m_sum m) = mentioned_row-complete m
   mentioned-complete (m_all m) = mentioned-complete m
   mentioned-complete (m_ex m) = mentioned-complete m
+  mentioned-complete (m_mu m) = mentioned-complete m
   mentioned-complete (m_lam m) = mentioned-complete m
   mentioned-complete (m_operator {i = i} {f = f} {a = a} m) = or-left (is_mentioned i f) (is_mentioned i a) (mentioned-complete m)
   mentioned-complete (m_arg {i = i} {f = f} {a = a} m) = or-right (is_mentioned i f) (is_mentioned i a) (mentioned-complete m)

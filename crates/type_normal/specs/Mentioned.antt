@@ -10,8 +10,10 @@ abbrev mutual
   is_mentioned i Ty.Text = false
   is_mentioned i (Ty.Arrow a b) = is_mentioned i a || is_mentioned i b
   is_mentioned i (Ty.Fields row) = is_mentioned_row i row
+  is_mentioned i (Ty.Sum row) = is_mentioned_row i row
   is_mentioned i (Ty.All k b) = is_mentioned (suc i) b
   is_mentioned i (Ty.Ex k b) = is_mentioned (suc i) b
+  is_mentioned i (Ty.Mu b) = is_mentioned (suc i) b
   is_mentioned i (Ty.Lam k b) = is_mentioned (suc i) b
   is_mentioned i (Ty.Apply f a) = is_mentioned i f || is_mentioned i a
 

@@ -30,15 +30,17 @@ fn same_ty(left: &Ty, right: &Ty) -> bool
         (TyNode::Text, TyNode::Text) => true,
         (TyNode::Arrow(a, b), TyNode::Arrow(c, d)) => same_ty(a, c) && same_ty(b, d),
         (TyNode::Fields(a), TyNode::Fields(b)) => same_fields(a, b),
+        (TyNode::Sum(a), TyNode::Sum(b)) => same_fields(a, b),
         (TyNode::All(j, a), TyNode::All(k, b)) => same_kind(j, k) && same_ty(a, b),
         (TyNode::Ex(j, a), TyNode::Ex(k, b)) => same_kind(j, k) && same_ty(a, b),
+        (TyNode::Mu(a), TyNode::Mu(b)) => same_ty(a, b),
         (TyNode::Lam(j, a), TyNode::Lam(k, b)) => same_kind(j, k) && same_ty(a, b),
         (TyNode::Apply(a, b), TyNode::Apply(c, d)) => same_ty(a, c) && same_ty(b, d),
         _ => false,
     }
 }
 
-// Whether two records have the same labels and parts.
+// Whether two lists of fields have the same labels and parts.
 #[cycle(same)]
 fn same_fields(left: &TyFields, right: &TyFields) -> bool
     ensures { IsTrue result ↔ row left.now ≡ row right.now }

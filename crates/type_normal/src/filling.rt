@@ -83,6 +83,10 @@ fn fill_head(
             let fields = fill_fields(alloc, fields, at, depth, arg, kind)?;
             Ok(Filled::Stands(Ty::make(alloc, TyNode::Fields(fields))?))
         }
+        TyNode::Sum(fields) => {
+            let fields = fill_fields(alloc, fields, at, depth, arg, kind)?;
+            Ok(Filled::Stands(Ty::make(alloc, TyNode::Sum(fields))?))
+        }
         TyNode::All(k, b) => {
             let b = fill_under(alloc, b, at, depth, arg, kind)?;
             Ok(Filled::Stands(Ty::make(alloc, TyNode::All(k.share()?, b))?))
@@ -90,6 +94,10 @@ fn fill_head(
         TyNode::Ex(k, b) => {
             let b = fill_under(alloc, b, at, depth, arg, kind)?;
             Ok(Filled::Stands(Ty::make(alloc, TyNode::Ex(k.share()?, b))?))
+        }
+        TyNode::Mu(b) => {
+            let b = fill_under(alloc, b, at, depth, arg, kind)?;
+            Ok(Filled::Stands(Ty::make(alloc, TyNode::Mu(b))?))
         }
         TyNode::Lam(k, b) => {
             let b = fill_under(alloc, b, at, depth, arg, kind)?;

@@ -51,6 +51,10 @@ fn lower_ty(alloc: Global, ty: &Ty, by: u64, from: u64) -> Result<Ty, Mem>
             let fields = lower_fields(alloc, fields, by, from)?;
             Ty::make(alloc, TyNode::Fields(fields))
         }
+        TyNode::Sum(fields) => {
+            let fields = lower_fields(alloc, fields, by, from)?;
+            Ty::make(alloc, TyNode::Sum(fields))
+        }
         TyNode::All(k, b) => {
             let b = lower_under(alloc, b, by, from)?;
             Ty::make(alloc, TyNode::All(k.share()?, b))
@@ -58,6 +62,10 @@ fn lower_ty(alloc: Global, ty: &Ty, by: u64, from: u64) -> Result<Ty, Mem>
         TyNode::Ex(k, b) => {
             let b = lower_under(alloc, b, by, from)?;
             Ty::make(alloc, TyNode::Ex(k.share()?, b))
+        }
+        TyNode::Mu(b) => {
+            let b = lower_under(alloc, b, by, from)?;
+            Ty::make(alloc, TyNode::Mu(b))
         }
         TyNode::Lam(k, b) => {
             let b = lower_under(alloc, b, by, from)?;

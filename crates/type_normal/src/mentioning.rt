@@ -33,9 +33,10 @@ fn mentions_ty(ty: &Ty, index: u64) -> bool
         TyNode::Var(i) => *i == index,
         TyNode::Int | TyNode::Bool | TyNode::Text => false,
         TyNode::Arrow(a, b) => either(mentions_ty(a, index), mentions_ty(b, index)),
-        TyNode::Fields(fields) => mentions_fields(fields, index),
+        TyNode::Fields(fields) | TyNode::Sum(fields) => mentions_fields(fields, index),
         TyNode::All(_, b) => mentions_under(b, index),
         TyNode::Ex(_, b) => mentions_under(b, index),
+        TyNode::Mu(b) => mentions_under(b, index),
         TyNode::Lam(_, b) => mentions_under(b, index),
         TyNode::Apply(f, a) => either(mentions_ty(f, index), mentions_ty(a, index)),
     }
@@ -60,7 +61,7 @@ fn mentions_under(body: &Ty, index: u64) -> bool
     mentions_ty(body, index + 1)
 }
 
-// Whether the index is free in a part of the record.
+// Whether the index is free in a part.
 #[cycle(mentions)]
 fn mentions_fields(fields: &TyFields, index: u64) -> bool
     ensures { result ≡ is_mentioned_row index (row fields.now) }

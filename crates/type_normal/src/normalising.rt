@@ -85,6 +85,10 @@ fn normalise(alloc: Global, scope: &mut Vec<Kind>, ty: &Ty) -> Result<Ty, Mem>
             let fields = normalise_fields(alloc, scope, fields)?;
             Ty::make(alloc, TyNode::Fields(fields))
         }
+        TyNode::Sum(fields) => {
+            let fields = normalise_fields(alloc, scope, fields)?;
+            Ty::make(alloc, TyNode::Sum(fields))
+        }
         TyNode::All(k, b) => {
             let b = normalise_under(alloc, scope, b, k)?;
             Ty::make(alloc, TyNode::All(k.share()?, b))
@@ -92,6 +96,10 @@ fn normalise(alloc: Global, scope: &mut Vec<Kind>, ty: &Ty) -> Result<Ty, Mem>
         TyNode::Ex(k, b) => {
             let b = normalise_under(alloc, scope, b, k)?;
             Ty::make(alloc, TyNode::Ex(k.share()?, b))
+        }
+        TyNode::Mu(b) => {
+            let b = normalise_under(alloc, scope, b, &Kind::Star)?;
+            Ty::make(alloc, TyNode::Mu(b))
         }
         TyNode::Lam(k, b) => {
             let b = normalise_under(alloc, scope, b, k)?;
