@@ -10,7 +10,7 @@ use Rattle.omega_types.specs.Kinding.HasKind.{k_var}
 use Rattle.omega_types.specs.Conversion.{Conv}
 use Rattle.omega_types.specs.Conversion.Conv.{c_sym, c_trans, c_beta, c_lam, c_apply}
 use Rattle.omega_types.specs.Normality.{Normal, Normals, Neutral}
-use Rattle.omega_types.specs.Normality.Normal.{n_lam, n_int, n_bool, n_text, n_arrow, n_fields, n_all, n_ex, n_neutral}
+use Rattle.omega_types.specs.Normality.Normal.{n_lam, n_int, n_bool, n_text, n_arrow, n_fields, n_sum, n_all, n_ex, n_mu, n_neutral}
 use Rattle.omega_types.specs.Normality.Normals.{n_end, n_more}
 use Rattle.omega_types.specs.Normality.Neutral.{n_var, n_apply}
 use Rattle.omega_types.specs.Normalises.{NormalForm}
@@ -58,10 +58,14 @@ mutual
   coinc h (n_arrow a b) (n_neutral c) = elim c [ ]
   coinc h (n_fields r) (n_fields q) = (refl, ap Ty.Fields (coinc-row h r q))
   coinc h (n_fields r) (n_neutral c) = elim c [ ]
+  coinc h (n_sum r) (n_sum q) = (refl, ap Ty.Sum (coinc-row h r q))
+  coinc h (n_sum r) (n_neutral c) = elim c [ ]
   coinc h (n_all {k = k} b) (n_all c) = (refl, ap (Ty.All k) (coinc (tied-under k k h) b c).1)
   coinc h (n_all b) (n_neutral c) = elim c [ ]
   coinc h (n_ex {k = k} b) (n_ex c) = (refl, ap (Ty.Ex k) (coinc (tied-under k k h) b c).1)
   coinc h (n_ex b) (n_neutral c) = elim c [ ]
+  coinc h (n_mu b) (n_mu c) = (refl, ap Ty.Mu (coinc (tied-under Kind.Star Kind.Star h) b c).1)
+  coinc h (n_mu b) (n_neutral c) = elim c [ ]
   coinc h (n_neutral n) (n_neutral m) = (refl, coinc-neutral h n m)
   coinc h (n_neutral n) (n_lam c) = elim n [ ]
   coinc h (n_neutral n) n_int = elim n [ ]
@@ -69,8 +73,10 @@ mutual
   coinc h (n_neutral n) n_text = elim n [ ]
   coinc h (n_neutral n) (n_arrow c d) = elim n [ ]
   coinc h (n_neutral n) (n_fields q) = elim n [ ]
+  coinc h (n_neutral n) (n_sum q) = elim n [ ]
   coinc h (n_neutral n) (n_all c) = elim n [ ]
   coinc h (n_neutral n) (n_ex c) = elim n [ ]
+  coinc h (n_neutral n) (n_mu c) = elim n [ ]
 
   coinc-row : {from from' to to' : List Kind} {s : ℕ → Ty} {r : Row} → Tied from from' to to' s → Normals from r → Normals from' r → normal_row to (substitute_row s r) ≡ normal_row to' (substitute_row s r)
   coinc-row h n_end n_end = refl

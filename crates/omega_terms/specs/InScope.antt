@@ -16,8 +16,10 @@ abbrev mutual
   TyInScope n Ty.Text = Unit {0}
   TyInScope n (Ty.Arrow a b) = TyInScope n a × TyInScope n b
   TyInScope n (Ty.Fields row) = RowInScope n row
+  TyInScope n (Ty.Sum row) = RowInScope n row
   TyInScope n (Ty.All k b) = TyInScope (n + 1) b
   TyInScope n (Ty.Ex k b) = TyInScope (n + 1) b
+  TyInScope n (Ty.Mu b) = TyInScope (n + 1) b
   TyInScope n (Ty.Lam k b) = TyInScope (n + 1) b
   TyInScope n (Ty.Apply f a) = TyInScope n f × TyInScope n a
 

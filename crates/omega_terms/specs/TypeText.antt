@@ -17,8 +17,10 @@ abbrev mutual
   ty_text n Ty.Text = codes "text"
   ty_text n (Ty.Arrow a b) = codes "(-> " then ty_text n a then codes " " then ty_text n b then codes ")"
   ty_text n (Ty.Fields row) = codes "(rec" then row_text n row then codes ")"
+  ty_text n (Ty.Sum row) = codes "(sum" then row_text n row then codes ")"
   ty_text n (Ty.All k b) = codes "(all " then kind_text k then codes " " then ty_text (n + 1) b then codes ")"
   ty_text n (Ty.Ex k b) = codes "(some " then kind_text k then codes " " then ty_text (n + 1) b then codes ")"
+  ty_text n (Ty.Mu b) = codes "(mu " then ty_text (n + 1) b then codes ")"
   ty_text n (Ty.Lam k b) = codes "(lam " then kind_text k then codes " " then ty_text (n + 1) b then codes ")"
   ty_text n (Ty.Apply f a) = codes "(@ " then ty_text n f then codes " " then ty_text n a then codes ")"
 

@@ -10,10 +10,10 @@ use Rattle.omega_types.specs.Index.{bump, i_here}
 use Rattle.omega_types.specs.Kinding.{Lookup, Fresh, here, there}
 use Rattle.omega_types.specs.Kinding.HasKind.{k_var, k_int, k_bool, k_text}
 use Rattle.omega_types.specs.Conversion.{Conv, Convs}
-use Rattle.omega_types.specs.Conversion.Conv.{c_refl, c_trans, c_beta, c_arrow, c_fields, c_all, c_ex, c_lam, c_apply}
+use Rattle.omega_types.specs.Conversion.Conv.{c_refl, c_trans, c_beta, c_arrow, c_fields, c_sum, c_all, c_ex, c_mu, c_lam, c_apply}
 use Rattle.omega_types.specs.Conversion.Convs.{c_end, c_more}
 use Rattle.omega_types.specs.Normality.{Normal, Normals, Neutral}
-use Rattle.omega_types.specs.Normality.Normal.{n_lam, n_int, n_bool, n_text, n_arrow, n_fields, n_all, n_ex, n_neutral}
+use Rattle.omega_types.specs.Normality.Normal.{n_lam, n_int, n_bool, n_text, n_arrow, n_fields, n_sum, n_all, n_ex, n_mu, n_neutral}
 use Rattle.omega_types.specs.Normality.Normals.{n_end, n_more}
 use Rattle.omega_types.specs.Normality.Neutral.{n_var, n_apply}
 use Rattle.omega_types.specs.Normaliser.{hsubst}
@@ -55,8 +55,10 @@ mutual
   head-renamed r Ty.Text = refl
   head-renamed r (Ty.Arrow a b) = ap₂ (λ p q. stands (Ty.Arrow (tree p) (tree q))) (head-renamed r a) (head-renamed r b)
   head-renamed r (Ty.Fields row) = ap (λ f. stands (Ty.Fields f)) (row-renamed r row)
+  head-renamed r (Ty.Sum row) = ap (λ f. stands (Ty.Sum f)) (row-renamed r row)
   head-renamed r (Ty.All k b) = ap (λ p. stands (Ty.All k (tree p))) (ap (λ h. head_in h b) (under-renaming r) ∙ head-renamed (lift r) b)
   head-renamed r (Ty.Ex k b) = ap (λ p. stands (Ty.Ex k (tree p))) (ap (λ h. head_in h b) (under-renaming r) ∙ head-renamed (lift r) b)
+  head-renamed r (Ty.Mu b) = ap (λ p. stands (Ty.Mu (tree p))) (ap (λ h. head_in h b) (under-renaming r) ∙ head-renamed (lift r) b)
   head-renamed r (Ty.Lam k b) = ap (λ p. stands (Ty.Lam k (tree p))) (ap (λ h. head_in h b) (under-renaming r) ∙ head-renamed (lift r) b)
   head-renamed r (Ty.Apply f a) = ap₂ (λ p q. apply_head p (tree q)) (head-renamed r f) (head-renamed r a)
 
@@ -147,8 +149,10 @@ mutual
   in-normal g n_text = (n_text, c_refl k_text)
   in-normal g (n_arrow a b) = let p = in-normal g a in let q = in-normal g b in (n_arrow p.0 q.0, c_arrow p.1 q.1)
   in-normal g (n_fields row) = let r = in-normals g row in (n_fields r.0, c_fields r.1)
+  in-normal g (n_sum row) = let r = in-normals g row in (n_sum r.0, c_sum r.1)
   in-normal g (n_all {k = j} b) = let r = in-normal (good-under j g) b in (n_all r.0, c_all r.1)
   in-normal g (n_ex {k = j} b) = let r = in-normal (good-under j g) b in (n_ex r.0, c_ex r.1)
+  in-normal g (n_mu b) = let r = in-normal (good-under Kind.Star g) b in (n_mu r.0, c_mu r.1)
   in-normal g (n_neutral n) = good-tree (in-neutral g n)
 
   in-normals : {ctx other : List Kind} {s : ℕ → Ty} {h : ℕ → Head} {row : Row} → Good ctx other s h → Normals ctx row → Normals other (row_in h row) × Convs other (substitute_row s row) (row_in h row) × ((l : Label) → Fresh l row → Fresh l (row_in h row))

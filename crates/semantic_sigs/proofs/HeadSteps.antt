@@ -41,8 +41,10 @@ mutual
   head-unchanged n h Ty.Text k le = refl
   head-unchanged n h (Ty.Arrow a b) k le = ap₂ (λ p q. stands (Ty.Arrow (tree p) (tree q))) (head-unchanged n h a k (omega arith)) (head-unchanged n h b k (omega arith))
   head-unchanged n h (Ty.Fields row) k le = ap (λ r. stands (Ty.Fields r)) (row-unchanged n h row k le)
+  head-unchanged n h (Ty.Sum row) k le = ap (λ r. stands (Ty.Sum r)) (row-unchanged n h row k le)
   head-unchanged n h (Ty.All l b) k le = ap (λ p. stands (Ty.All l (tree p))) (head-unchanged (suc n) (under_head h) b (under-keeps n h k) (omega arith))
   head-unchanged n h (Ty.Ex l b) k le = ap (λ p. stands (Ty.Ex l (tree p))) (head-unchanged (suc n) (under_head h) b (under-keeps n h k) (omega arith))
+  head-unchanged n h (Ty.Mu b) k le = ap (λ p. stands (Ty.Mu (tree p))) (head-unchanged (suc n) (under_head h) b (under-keeps n h k) (omega arith))
   head-unchanged n h (Ty.Lam l b) k le = ap (λ p. stands (Ty.Lam l (tree p))) (head-unchanged (suc n) (under_head h) b (under-keeps n h k) (omega arith))
   head-unchanged n h (Ty.Apply f a) k le = ap₂ (λ p q. apply_head p (tree q)) (head-unchanged n h f k (omega arith)) (head-unchanged n h a k (omega arith))
 

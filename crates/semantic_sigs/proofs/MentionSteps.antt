@@ -10,7 +10,7 @@ use Rattle.omega_kinds.specs.declared.effect.Effect.{Effect}
 use Rattle.omega_types.specs.Ty.{Ty, Row}
 use Rattle.omega_types.specs.Bound.{bound_of, bound_row}
 use Rattle.omega_types.specs.Binders.{past}
-use Rattle.omega_types.specs.Mentions.{Mentions, Mentions_row, m_var, m_from, m_to, m_fields, m_all, m_ex, m_lam, m_operator, m_arg, m_part, m_rest}
+use Rattle.omega_types.specs.Mentions.{Mentions, Mentions_row, m_var, m_from, m_to, m_fields, m_sum, m_all, m_ex, m_mu, m_lam, m_operator, m_arg, m_part, m_rest}
 use Rattle.sig_definitions.specs.Signatures.Sig.{Sig, Abs, SigRow}
 use Rattle.sig_definitions.specs.Signatures.SigMentions.{MentionsSig, MentionsAbs, MentionsRow}
 use Rattle.sig_laws.proofs.Algebra.BinderLaws.{past-length}
@@ -23,8 +23,10 @@ mutual
   mention-below i _ (m_from {a = a} m) = omega (arith, mention-below i a m)
   mention-below i _ (m_to {b = b} m) = omega (arith, mention-below i b m)
   mention-below i _ (m_fields {row = row} m) = row_mention-below i row m
+  mention-below i _ (m_sum {row = row} m) = row_mention-below i row m
   mention-below i _ (m_all {b = b} m) = omega (arith, mention-below (suc i) b m)
   mention-below i _ (m_ex {b = b} m) = omega (arith, mention-below (suc i) b m)
+  mention-below i _ (m_mu {b = b} m) = omega (arith, mention-below (suc i) b m)
   mention-below i _ (m_lam {b = b} m) = omega (arith, mention-below (suc i) b m)
   mention-below i _ (m_operator {f = f} m) = omega (arith, mention-below i f m)
   mention-below i _ (m_arg {a = a} m) = omega (arith, mention-below i a m)

@@ -48,8 +48,10 @@ abbrev mutual
   head_in h Ty.Text = stands Ty.Text
   head_in h (Ty.Arrow a b) = stands (Ty.Arrow (tree (head_in h a)) (tree (head_in h b)))
   head_in h (Ty.Fields row) = stands (Ty.Fields (row_in h row))
+  head_in h (Ty.Sum row) = stands (Ty.Sum (row_in h row))
   head_in h (Ty.All k b) = stands (Ty.All k (tree (head_in (under_head h) b)))
   head_in h (Ty.Ex k b) = stands (Ty.Ex k (tree (head_in (under_head h) b)))
+  head_in h (Ty.Mu b) = stands (Ty.Mu (tree (head_in (under_head h) b)))
   head_in h (Ty.Lam k b) = stands (Ty.Lam k (tree (head_in (under_head h) b)))
   head_in h (Ty.Apply f a) = apply_head (head_in h f) (tree (head_in h a))
 

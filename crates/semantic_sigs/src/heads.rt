@@ -77,6 +77,10 @@ fn change_head(alloc: Global, ty: &Ty, change: Change<'_>, depth: u64) -> Result
             let fields = change_fields(alloc, fields, change, depth)?;
             Ok(Filled::Stands(Ty::make(alloc, TyNode::Fields(fields))?))
         }
+        TyNode::Sum(fields) => {
+            let fields = change_fields(alloc, fields, change, depth)?;
+            Ok(Filled::Stands(Ty::make(alloc, TyNode::Sum(fields))?))
+        }
         TyNode::All(k, b) => {
             let b = change_under(alloc, b, change, depth)?;
             Ok(Filled::Stands(Ty::make(alloc, TyNode::All(k.share()?, b))?))
@@ -84,6 +88,10 @@ fn change_head(alloc: Global, ty: &Ty, change: Change<'_>, depth: u64) -> Result
         TyNode::Ex(k, b) => {
             let b = change_under(alloc, b, change, depth)?;
             Ok(Filled::Stands(Ty::make(alloc, TyNode::Ex(k.share()?, b))?))
+        }
+        TyNode::Mu(b) => {
+            let b = change_under(alloc, b, change, depth)?;
+            Ok(Filled::Stands(Ty::make(alloc, TyNode::Mu(b))?))
         }
         TyNode::Lam(k, b) => {
             let b = change_under(alloc, b, change, depth)?;

@@ -7,7 +7,7 @@ use Rattle.std.proofs.Math.Path.{refl, subst}
 use Rattle.omega_kinds.specs.Kind.{Kind, Kind-discrete}
 use Rattle.omega_kinds.proofs.NameLaws.{dec_label}
 use Rattle.omega_types.specs.Ty.{Ty, Row, Ty-discrete}
-use Rattle.omega_types.specs.Mentions.{Mentions, Mentions_row, m_var, m_from, m_to, m_fields, m_all, m_ex, m_lam, m_operator, m_arg, m_part, m_rest}
+use Rattle.omega_types.specs.Mentions.{Mentions, Mentions_row, m_var, m_from, m_to, m_fields, m_sum, m_all, m_ex, m_mu, m_lam, m_operator, m_arg, m_part, m_rest}
 use Rattle.omega_types.specs.Binders.{past}
 use Rattle.sig_definitions.specs.Signatures.Sig.{Sig, Abs, SigRow}
 use Rattle.sig_definitions.specs.Signatures.SigMentions.{MentionsSig, MentionsAbs, MentionsRow}
@@ -42,11 +42,17 @@ in_arrow (m_to m) = inr m
 pub in_fields : {i : ℕ} {row : Row} → Mentions i (Ty.Fields row) → Mentions_row i row
 in_fields (m_fields m) = m
 
+pub in_sum : {i : ℕ} {row : Row} → Mentions i (Ty.Sum row) → Mentions_row i row
+in_sum (m_sum m) = m
+
 pub in_all : {i : ℕ} {k : Kind} {b : Ty} → Mentions i (Ty.All k b) → Mentions (suc i) b
 in_all (m_all m) = m
 
 pub in_ex : {i : ℕ} {k : Kind} {b : Ty} → Mentions i (Ty.Ex k b) → Mentions (suc i) b
 in_ex (m_ex m) = m
+
+pub in_mu : {i : ℕ} {b : Ty} → Mentions i (Ty.Mu b) → Mentions (suc i) b
+in_mu (m_mu m) = m
 
 pub in_lam : {i : ℕ} {k : Kind} {b : Ty} → Mentions i (Ty.Lam k b) → Mentions (suc i) b
 in_lam (m_lam m) = m
@@ -67,8 +73,10 @@ mutual
   dec_mentions i Ty.Text = no (λ m. elim m [ ])
   dec_mentions i (Ty.Arrow a b) = dec_either m_from m_to in_arrow (dec_mentions i a) (dec_mentions i b)
   dec_mentions i (Ty.Fields row) = dec_by m_fields in_fields (dec_mentions_row i row)
+  dec_mentions i (Ty.Sum row) = dec_by m_sum in_sum (dec_mentions_row i row)
   dec_mentions i (Ty.All k b) = dec_by m_all in_all (dec_mentions (suc i) b)
   dec_mentions i (Ty.Ex k b) = dec_by m_ex in_ex (dec_mentions (suc i) b)
+  dec_mentions i (Ty.Mu b) = dec_by m_mu in_mu (dec_mentions (suc i) b)
   dec_mentions i (Ty.Lam k b) = dec_by m_lam in_lam (dec_mentions (suc i) b)
   dec_mentions i (Ty.Apply f a) = dec_either m_operator m_arg in_apply (dec_mentions i f) (dec_mentions i a)
 

@@ -6,7 +6,7 @@ use Rattle.std.proofs.Math.Path.{refl, ap, ap₂, subst}
 use Rattle.omega_kinds.specs.Kind.{Kind}
 use Rattle.omega_types.specs.Ty.{Ty, Row, lift}
 use Rattle.omega_types.specs.Substitution.{rename, rename_row, substitute, substitute_row, under}
-use Rattle.omega_types.specs.Mentions.{Mentions, Mentions_row, m_var, m_from, m_to, m_fields, m_all, m_ex, m_lam, m_operator, m_arg, m_part, m_rest}
+use Rattle.omega_types.specs.Mentions.{Mentions, Mentions_row, m_var, m_from, m_to, m_fields, m_sum, m_all, m_ex, m_mu, m_lam, m_operator, m_arg, m_part, m_rest}
 use Rattle.omega_types.specs.Binders.{past, unders}
 use Rattle.omega_types.proofs.Mention.{unmentioned}
 use Rattle.sig_definitions.specs.Signatures.Sig.{Sig, Abs, SigRow}
@@ -28,8 +28,10 @@ mutual
   substitute-agree f g Ty.Text h = refl
   substitute-agree f g (Ty.Arrow a b) h = ap₂ Ty.Arrow (substitute-agree f g a (λ i m. h i (m_from m))) (substitute-agree f g b (λ i m. h i (m_to m)))
   substitute-agree f g (Ty.Fields row) h = ap Ty.Fields (substitute_row-agree f g row (λ i m. h i (m_fields m)))
+  substitute-agree f g (Ty.Sum row) h = ap Ty.Sum (substitute_row-agree f g row (λ i m. h i (m_sum m)))
   substitute-agree f g (Ty.All k b) h = ap (Ty.All k) (substitute-agree (under f) (under g) b (under-agree (λ i. Mentions i b) f g (λ i m. h i (m_all m))))
   substitute-agree f g (Ty.Ex k b) h = ap (Ty.Ex k) (substitute-agree (under f) (under g) b (under-agree (λ i. Mentions i b) f g (λ i m. h i (m_ex m))))
+  substitute-agree f g (Ty.Mu b) h = ap Ty.Mu (substitute-agree (under f) (under g) b (under-agree (λ i. Mentions i b) f g (λ i m. h i (m_mu m))))
   substitute-agree f g (Ty.Lam k b) h = ap (Ty.Lam k) (substitute-agree (under f) (under g) b (under-agree (λ i. Mentions i b) f g (λ i m. h i (m_lam m))))
   substitute-agree f g (Ty.Apply o a) h = ap₂ Ty.Apply (substitute-agree f g o (λ i m. h i (m_operator m))) (substitute-agree f g a (λ i m. h i (m_arg m)))
 
@@ -81,8 +83,10 @@ mutual
   mentions-rename r (Ty.Arrow a b) v (m_from m) = let q = mentions-rename r a v m in (q.0, m_from q.1, q.2)
   mentions-rename r (Ty.Arrow a b) v (m_to m) = let q = mentions-rename r b v m in (q.0, m_to q.1, q.2)
   mentions-rename r (Ty.Fields row) v (m_fields m) = let q = mentions_row-rename r row v m in (q.0, m_fields q.1, q.2)
+  mentions-rename r (Ty.Sum row) v (m_sum m) = let q = mentions_row-rename r row v m in (q.0, m_sum q.1, q.2)
   mentions-rename r (Ty.All k b) v (m_all m) = let q = lift-from r (λ i. Mentions i b) v (mentions-rename (lift r) b (suc v) m) in (q.0, m_all q.1, q.2)
   mentions-rename r (Ty.Ex k b) v (m_ex m) = let q = lift-from r (λ i. Mentions i b) v (mentions-rename (lift r) b (suc v) m) in (q.0, m_ex q.1, q.2)
+  mentions-rename r (Ty.Mu b) v (m_mu m) = let q = lift-from r (λ i. Mentions i b) v (mentions-rename (lift r) b (suc v) m) in (q.0, m_mu q.1, q.2)
   mentions-rename r (Ty.Lam k b) v (m_lam m) = let q = lift-from r (λ i. Mentions i b) v (mentions-rename (lift r) b (suc v) m) in (q.0, m_lam q.1, q.2)
   mentions-rename r (Ty.Apply a b) v (m_operator m) = let q = mentions-rename r a v m in (q.0, m_operator q.1, q.2)
   mentions-rename r (Ty.Apply a b) v (m_arg m) = let q = mentions-rename r b v m in (q.0, m_arg q.1, q.2)
@@ -116,8 +120,10 @@ mutual
   mentions-substitute f (Ty.Arrow a b) v (m_from m) = let q = mentions-substitute f a v m in (q.0, m_from q.1, q.2)
   mentions-substitute f (Ty.Arrow a b) v (m_to m) = let q = mentions-substitute f b v m in (q.0, m_to q.1, q.2)
   mentions-substitute f (Ty.Fields row) v (m_fields m) = let q = mentions_row-substitute f row v m in (q.0, m_fields q.1, q.2)
+  mentions-substitute f (Ty.Sum row) v (m_sum m) = let q = mentions_row-substitute f row v m in (q.0, m_sum q.1, q.2)
   mentions-substitute f (Ty.All k b) v (m_all m) = let q = mentions-under f (λ i. Mentions i b) v (mentions-substitute (under f) b (suc v) m) in (q.0, m_all q.1, q.2)
   mentions-substitute f (Ty.Ex k b) v (m_ex m) = let q = mentions-under f (λ i. Mentions i b) v (mentions-substitute (under f) b (suc v) m) in (q.0, m_ex q.1, q.2)
+  mentions-substitute f (Ty.Mu b) v (m_mu m) = let q = mentions-under f (λ i. Mentions i b) v (mentions-substitute (under f) b (suc v) m) in (q.0, m_mu q.1, q.2)
   mentions-substitute f (Ty.Lam k b) v (m_lam m) = let q = mentions-under f (λ i. Mentions i b) v (mentions-substitute (under f) b (suc v) m) in (q.0, m_lam q.1, q.2)
   mentions-substitute f (Ty.Apply a b) v (m_operator m) = let q = mentions-substitute f a v m in (q.0, m_operator q.1, q.2)
   mentions-substitute f (Ty.Apply a b) v (m_arg m) = let q = mentions-substitute f b v m in (q.0, m_arg q.1, q.2)
