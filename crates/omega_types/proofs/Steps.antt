@@ -1,12 +1,15 @@
--- What shifting and substitution do at each form of type, with indexes counted as the code counts them.
+-- What a walk over a type does, with indexes counted as the code counts them: a walk by substitutions is a substitution, one
+-- by renamings is a renaming, and one that leaves what is bound inside leaves a closed type.
 use Rattle.std.proofs.Common.{◌≡◌, ℕ, zero, suc, ◌+◌, ◌-◌, ◌<◌, ◌≤◌, [], ◌∷◌, length, get_or, take, map, refl, sym, ap, ap₂, ◌∙◌, arith}
 use Rattle.omega_kinds.specs.declared.label.Label.{Label}
 use Rattle.omega_types.specs.Ty.{Ty, Row, lift}
-use Rattle.omega_types.specs.Substitution.{rename, rename_row, substitute, substitute_row, under}
+use Rattle.omega_types.specs.Substitution.{rename, substitute, substitute_row, under}
 use Rattle.omega_types.specs.Index.{bump, shift, put, substitute_at}
+use Rattle.omega_types.specs.Bound.{bound_of, bound_row}
 use Rattle.omega_types.specs.Fields.{Pairs, row, Rises, MayFollow}
+use Rattle.omega_types.specs.Walk.{walked_ty, walked_row}
+use Rattle.omega_types.proofs.Algebra.{substitute-vars, under-vars}
 use Rattle.omega_types.proofs.Single.{bump-below, bump-above, put-below, put-same, put-above, put-under, shift-shift, shift-suc, shift-zero}
-use Rattle.omega_types.proofs.Unchanged.{shift-unchanged, substitute_at-unchanged}
 
 -- the pairs with each part changed
 abbrev pub map_parts : (Ty → Ty) → Pairs → Pairs
@@ -20,42 +23,102 @@ may_follow-at f (x ∷ []) (suc i) d p r = absurd (omega arith)
 may_follow-at f (x ∷ y ∷ xs) (suc zero) d p r = r.0
 may_follow-at f (x ∷ y ∷ xs) (suc (suc i)) d p r = may_follow-at f (y ∷ xs) (suc i) d (omega arith) r.1
 
-pub row-shift : (by from : ℕ) (xs : Pairs) → row (map_parts (shift by from) xs) ≡ rename_row (bump by from) (row xs)
-row-shift by from [] = refl
-row-shift by from (x ∷ xs) = ap (Row.More x.0 (shift by from x.1)) (row-shift by from xs)
+pub row-walked : (f : ℕ → ℕ → Ty) (d : ℕ) (xs : Pairs) → row (map_parts (walked_ty f d) xs) ≡ walked_row f d (row xs)
+row-walked f d [] = refl
+row-walked f d (x ∷ xs) = ap (Row.More x.0 (walked_ty f d x.1)) (row-walked f d xs)
 
-pub row-put : (at depth : ℕ) (arg : Ty) (xs : Pairs) → row (map_parts (substitute_at at (shift depth 0 arg)) xs) ≡ substitute_row (put at (shift depth 0 arg)) (row xs)
-row-put at depth arg [] = refl
-row-put at depth arg (x ∷ xs) = ap (Row.More x.0 (substitute_at at (shift depth 0 arg) x.1)) (row-put at depth arg xs)
+pub ruleset walk_rows = (row-walked, may_follow-at)
 
--- below a binder
-pub shift-under : (by from : ℕ) (b : Ty) → rename (lift (bump by from)) b ≡ shift by (from + 1) b
-shift-under by from b = ap (λ n. shift by n b) (next from)
+-- substitutions, from a depth on each one below a binder more than the one before it
+mutual
+  pub walked-substitute : (s : ℕ → ℕ → Ty) (from d : ℕ) (t : Ty) → ((e : ℕ) → from ≤ e → s (e + 1) ≡ under (s e)) → from ≤ d → walked_ty s d t ≡ substitute (s d) t
+  walked-substitute s from d (Ty.Var i) h p = refl
+  walked-substitute s from d Ty.Int h p = refl
+  walked-substitute s from d Ty.Bool h p = refl
+  walked-substitute s from d Ty.Text h p = refl
+  walked-substitute s from d (Ty.Arrow a b) h p = ap₂ Ty.Arrow (walked-substitute s from d a h p) (walked-substitute s from d b h p)
+  walked-substitute s from d (Ty.Fields row) h p = ap Ty.Fields (walked-substitute_row s from d row h p)
+  walked-substitute s from d (Ty.Sum row) h p = ap Ty.Sum (walked-substitute_row s from d row h p)
+  walked-substitute s from d (Ty.All k b) h p = ap (Ty.All k) (walked-substitute s from (d + 1) b h (omega arith) ∙ ap (λ g. substitute g b) (h d p))
+  walked-substitute s from d (Ty.Ex k b) h p = ap (Ty.Ex k) (walked-substitute s from (d + 1) b h (omega arith) ∙ ap (λ g. substitute g b) (h d p))
+  walked-substitute s from d (Ty.Mu b) h p = ap Ty.Mu (walked-substitute s from (d + 1) b h (omega arith) ∙ ap (λ g. substitute g b) (h d p))
+  walked-substitute s from d (Ty.Lam k b) h p = ap (Ty.Lam k) (walked-substitute s from (d + 1) b h (omega arith) ∙ ap (λ g. substitute g b) (h d p))
+  walked-substitute s from d (Ty.Apply f a) h p = ap₂ Ty.Apply (walked-substitute s from d f h p) (walked-substitute s from d a h p)
+
+  pub walked-substitute_row : (s : ℕ → ℕ → Ty) (from d : ℕ) (row : Row) → ((e : ℕ) → from ≤ e → s (e + 1) ≡ under (s e)) → from ≤ d → walked_row s d row ≡ substitute_row (s d) row
+  walked-substitute_row s from d Row.End h p = refl
+  walked-substitute_row s from d (Row.More l t rest) h p = ap₂ (Row.More l) (walked-substitute s from d t h p) (walked-substitute_row s from d rest h p)
+
+-- renamings, each one below a binder more than the one before it
+
+abbrev vars : (ℕ → ℕ) → ℕ → Ty
+vars r i = Ty.Var (r i)
+
+pub walked-rename : (r : ℕ → ℕ → ℕ) (d : ℕ) (t : Ty) → ((e : ℕ) → r (suc e) ≡ lift (r e)) → walked_ty (λ e i. Ty.Var (r e i)) d t ≡ rename (r d) t
+walked-rename r d t h = walked-substitute (λ e. vars (r e)) 0 d t (λ e _. under-next e) (omega arith) ∙ substitute-vars (r d) t
   where
-    next : (n : ℕ) → suc n ≡ n + 1
+    next : (n : ℕ) → n + 1 ≡ suc n
     next n = omega arith
 
--- by nothing
+    under-next : (e : ℕ) → vars (r (e + 1)) ≡ under (vars (r e))
+    under-next e = ap (λ n. vars (r n)) (next e) ∙ (ap vars (h e) ∙ sym (under-vars (r e)))
+
+-- a walk that leaves what is bound inside leaves what mentions nothing else
+mutual
+  pub walked-closed : (f : ℕ → ℕ → Ty) (d : ℕ) (t : Ty) → ((e i : ℕ) → i < e → f e i ≡ Ty.Var i) → bound_of t ≤ d → walked_ty f d t ≡ t
+  walked-closed f d (Ty.Var i) h p = h d i (omega (arith, p))
+  walked-closed f d Ty.Int h p = refl
+  walked-closed f d Ty.Bool h p = refl
+  walked-closed f d Ty.Text h p = refl
+  walked-closed f d (Ty.Arrow a b) h p = ap₂ Ty.Arrow (walked-closed f d a h (omega (arith, p))) (walked-closed f d b h (omega (arith, p)))
+  walked-closed f d (Ty.Fields row) h p = ap Ty.Fields (walked-closed_row f d row h p)
+  walked-closed f d (Ty.Sum row) h p = ap Ty.Sum (walked-closed_row f d row h p)
+  walked-closed f d (Ty.All k b) h p = ap (Ty.All k) (walked-closed f (d + 1) b h (omega (arith, p)))
+  walked-closed f d (Ty.Ex k b) h p = ap (Ty.Ex k) (walked-closed f (d + 1) b h (omega (arith, p)))
+  walked-closed f d (Ty.Mu b) h p = ap Ty.Mu (walked-closed f (d + 1) b h (omega (arith, p)))
+  walked-closed f d (Ty.Lam k b) h p = ap (Ty.Lam k) (walked-closed f (d + 1) b h (omega (arith, p)))
+  walked-closed f d (Ty.Apply g a) h p = ap₂ Ty.Apply (walked-closed f d g h (omega (arith, p))) (walked-closed f d a h (omega (arith, p)))
+
+  pub walked-closed_row : (f : ℕ → ℕ → Ty) (d : ℕ) (row : Row) → ((e i : ℕ) → i < e → f e i ≡ Ty.Var i) → bound_row row ≤ d → walked_row f d row ≡ row
+  walked-closed_row f d Row.End h p = refl
+  walked-closed_row f d (Row.More l t rest) h p = ap₂ (Row.More l) (walked-closed f d t h (omega (arith, p))) (walked-closed_row f d rest h (omega (arith, p)))
+
+-- shifts
+
+pub walk-shifts : (by from : ℕ) (t : Ty) → walked_ty (λ d i. Ty.Var (bump by d i)) from t ≡ shift by from t
+walk-shifts by from t = walked-rename (bump by) from t (λ e. refl)
+
+pub shifts-nothing : (by from : ℕ) (t : Ty) → bound_of t ≤ from → walked_ty (λ d i. Ty.Var (bump by d i)) from t ≡ t
+shifts-nothing by from t p = walked-closed (λ d i. Ty.Var (bump by d i)) from t (λ d i h. ap Ty.Var (bump-below by d i h)) p
+
 pub shift-still : (by from : ℕ) (t : Ty) → by ≡ 0 → shift by from t ≡ t
 shift-still by from t e = ap (λ n. shift n from t) e ∙ shift-zero from t
 
-pub shift-var_below : (by from i : ℕ) → i < from → Ty.Var (bump by from i) ≡ Ty.Var i
-shift-var_below by from i h = ap Ty.Var (bump-below by from i h)
+pub bump-past : (by from i : ℕ) → from ≤ i → bump by from i ≡ i + by
+bump-past by from i h = let e = bump-above by from i h in omega arith
 
-pub shift-var_above : (by from i : ℕ) → from ≤ i → Ty.Var (bump by from i) ≡ Ty.Var (i + by)
-shift-var_above by from i h = ap Ty.Var (let e = bump-above by from i h in omega arith)
+pub ruleset shift_steps = (shift-still, bump-below, bump-past)
+
+-- substitution for the variable index, which has the index at below some binders
 
 -- an argument that comes below one more binder
 pub deeper : (depth : ℕ) (arg : Ty) → rename suc (shift depth 0 arg) ≡ shift (depth + 1) 0 arg
 deeper depth arg = sym (shift-suc (shift depth 0 arg)) ∙ (shift-shift 1 depth 0 arg ∙ ap (λ n. shift n 0 arg) (omega arith))
 
-pub put-under_at : (at depth : ℕ) (arg b : Ty) → substitute (under (put at (shift depth 0 arg))) b ≡ substitute_at (at + 1) (shift (depth + 1) 0 arg) b
-put-under_at at depth arg b =
-    ap (λ s. substitute s b) (put-under at (shift depth 0 arg)) ∙
-    ap₂ (λ n a. substitute_at n a b) (next at) (deeper depth arg)
+pub put-next : (index at : ℕ) (arg : Ty) → index ≤ at → put (at + 1) (shift (at + 1 - index) 0 arg) ≡ under (put at (shift (at - index) 0 arg))
+put-next index at arg h =
+    sym (put-under at (shift (at - index) 0 arg) ∙ ap₂ put (next at) (deeper (at - index) arg ∙ ap (λ n. shift n 0 arg) (omega (arith, h))))
   where
     next : (n : ℕ) → suc n ≡ n + 1
     next n = omega arith
+
+pub walk-puts : (index : ℕ) (arg t : Ty) → walked_ty (λ at i. put at (shift (at - index) 0 arg) i) index t ≡ substitute_at index arg t
+walk-puts index arg t =
+    walked-substitute (λ at i. put at (shift (at - index) 0 arg) i) index index t (λ at h. put-next index at arg h) (omega arith) ∙
+    ap (λ a. substitute_at index a t) (ap (λ n. shift n 0 arg) (omega arith) ∙ shift-zero 0 arg)
+
+pub puts-nothing : (index at : ℕ) (arg t : Ty) → bound_of t ≤ at → walked_ty (λ d i. put d (shift (d - index) 0 arg) i) at t ≡ t
+puts-nothing index at arg t p = walked-closed (λ d i. put d (shift (d - index) 0 arg) i) at t (λ d i h. put-below d (shift (d - index) 0 arg) i h) p
 
 pub put-var_below : (at i : ℕ) (arg : Ty) → i < at → put at arg i ≡ Ty.Var i
 put-var_below at i arg h = put-below at arg i h
@@ -70,9 +133,4 @@ put-var_above at (suc i) arg h = put-above at arg i (omega arith) ∙ ap Ty.Var 
     less : (n : ℕ) → n ≡ suc n - 1
     less n = omega arith
 
-pub substitute_at-shift_zero : (index : ℕ) (arg body : Ty) → substitute_at index (shift 0 0 arg) body ≡ substitute_at index arg body
-substitute_at-shift_zero index arg body = ap (λ a. substitute_at index a body) (shift-zero 0 arg)
-
-pub ruleset shift_steps = (shift-unchanged, shift-still, shift-under, shift-var_below, shift-var_above, row-shift, may_follow-at)
-
-pub ruleset put_steps = (substitute_at-unchanged, put-under_at, put-var_below, put-var_same, put-var_above, row-put, may_follow-at)
+pub ruleset put_steps = (put-var_below, put-var_same, put-var_above)

@@ -10,6 +10,7 @@ mod putting;
 mod shifting;
 mod theory;
 mod tree;
+mod walking;
 
 pub use kinding::{is_star, kind_of, share_context, variable_kind};
 pub use levels::next_level;
@@ -17,3 +18,4 @@ pub use putting::substitute;
 pub use shifting::shift;
 pub use theory::{inversion, laws, normal_forms, normalisers};
 pub use tree::{Ty, TyFields, TyNode};
+pub use walking::{TyChange, is_closed, walk_type};

@@ -14,9 +14,10 @@ use Rattle.omega_types.proofs.Hereditary.{hsubst-gives, normal-gives, same_exact
 use Rattle.omega_types.proofs.Lowering.{lower_gives}
 use Rattle.omega_types.proofs.Mention.{mentions_by_normal_form}
 use Rattle.omega_types.proofs.Preservation.{normal-kind, normal-rename}
-use Rattle.type_normal.specs.Mentioned.{is_mentioned}
+use Rattle.type_normal.specs.Least.{is_first, least_ty}
+use Rattle.type_normal.proofs.LeastSteps.{first-mentioned}
 use Rattle.type_normal.proofs.MentionedBelow.{mentioned-sound, mentioned-complete}
-use Rattle.type_normal.proofs.SinkSteps.{raised-back}
+use Rattle.type_normal.proofs.LiftedSteps.{raised-back}
 
 pub raised-normal : (by from : ℕ) (n t : Ty) → n ≡ shift by from t → (ctx other : List Kind) (k : Kind) → Maps ctx other (bump by from) → Normal ctx t k → Normal other n k
 raised-normal by from n t e ctx other k m p = subst (λ u. Normal other u k) (sym e) (normal-rename (bump by from) m p)
@@ -26,10 +27,12 @@ same-converts b s t e ctx k n m =
     let p = same_exactly ctx s t k n m in
     (λ h. p.0 (e.0 h), λ c. e.1 (p.1 c))
 
-pub mentions-free : (b : Truth) (i : ℕ) (t : Ty) → b ≡ is_mentioned i t → (IsTrue b ↔ Mentions i t)
-mentions-free b i t e = (λ h. mentioned-sound i t (sym e ∙ h), λ m. e ∙ mentioned-complete m)
+pub mentions-free : (b : Truth) (i : ℕ) (t : Ty) → b ≡ is_first (least_ty i t) → (IsTrue b ↔ Mentions i t)
+mentions-free b i t e =
+    let f = e ∙ first-mentioned i t in
+    (λ h. mentioned-sound i t (sym f ∙ h), λ m. f ∙ mentioned-complete m)
 
-pub mentions-avoidable : (b : Truth) (i : ℕ) (t : Ty) → b ≡ is_mentioned i t → (ctx : List Kind) (k : Kind) → Normal ctx t k → ((IsTrue b → ⊥) ↔ ((s : Ty) × Conv ctx t s k × (Mentions i s → ⊥)))
+pub mentions-avoidable : (b : Truth) (i : ℕ) (t : Ty) → b ≡ is_first (least_ty i t) → (ctx : List Kind) (k : Kind) → Normal ctx t k → ((IsTrue b → ⊥) ↔ ((s : Ty) × Conv ctx t s k × (Mentions i s → ⊥)))
 mentions-avoidable b i t e ctx k n =
     let f = mentions-free b i t e in
     let p = mentions_by_normal_form ctx t k t i (n, c_refl (normal-kind n)) in

@@ -1,7 +1,10 @@
 pub mod Rows
 pub mod MentionedBelow
-pub mod SinkSteps
+pub mod LiftedSteps
+pub mod LeastSteps
 pub mod Claims
 pub mod Calls
 pub mod FillSteps
 pub mod NormalSteps
+pub mod HeadSteps
+pub mod HeadLaws

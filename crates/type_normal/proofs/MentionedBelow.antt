@@ -1,42 +1,9 @@
--- The test for an index agrees with the relation, and is false from the bound on.
-use Rattle.std.proofs.Common.{◌≡◌, ◌⊎◌, inl, inr, ℕ, suc, ◌+◌, ◌≤◌, ◌==◌, Bool as Truth, true, false, ◌||◌, refl, ap, subst, arith}
+-- The test for an index agrees with the relation.
+use Rattle.std.proofs.Common.{◌≡◌, ◌⊎◌, inl, inr, ℕ, suc, ◌==◌, Bool as Truth, true, false, ◌||◌, refl, subst, arith}
 use Rattle.std.proofs.lemmas.Bool.Decides.{nat_tests}
 use Rattle.omega_types.specs.Ty.{Ty, Row}
-use Rattle.omega_types.specs.Bound.{bound_of, bound_row}
 use Rattle.omega_types.specs.Mentions.{Mentions, Mentions_row, m_var, m_from, m_to, m_fields, m_sum, m_all, m_ex, m_mu, m_lam, m_operator, m_arg, m_part, m_rest}
 use Rattle.type_normal.specs.Mentioned.{is_mentioned, is_mentioned_row}
-
-mutual
-  pub not_mentioned : (i : ℕ) (t : Ty) → bound_of t ≤ i → is_mentioned i t ≡ false
-  not_mentioned i (Ty.Var n) h = grind (arith, nat_tests)
-  not_mentioned i Ty.Int h = refl
-  not_mentioned i Ty.Bool h = refl
-  not_mentioned i Ty.Text h = refl
-  not_mentioned i (Ty.Arrow a b) h = let p = not_mentioned i a (omega arith) in rw (p, not_mentioned i b (omega arith)) refl
-  not_mentioned i (Ty.Fields row) h = not_mentioned_row i row h
-  not_mentioned i (Ty.Sum row) h = not_mentioned_row i row h
-  not_mentioned i (Ty.All k b) h = not_mentioned (suc i) b (omega arith)
-  not_mentioned i (Ty.Ex k b) h = not_mentioned (suc i) b (omega arith)
-  not_mentioned i (Ty.Mu b) h = not_mentioned (suc i) b (omega arith)
-  not_mentioned i (Ty.Lam k b) h = not_mentioned (suc i) b (omega arith)
-  not_mentioned i (Ty.Apply f a) h = let p = not_mentioned i f (omega arith) in rw (p, not_mentioned i a (omega arith)) refl
-
-  pub not_mentioned_row : (i : ℕ) (row : Row) → bound_row row ≤ i → is_mentioned_row i row ≡ false
-  not_mentioned_row i Row.End h = refl
-  not_mentioned_row i (Row.More l t rest) h = let p = not_mentioned i t (omega arith) in rw (p, not_mentioned_row i rest (omega arith)) refl
-
-pub not_mentioned_under : (i : ℕ) (t : Ty) → bound_of t ≤ i → is_mentioned (suc i) t ≡ false
-not_mentioned_under i t h = not_mentioned (suc i) t (omega arith)
-
-pub mentioned-next : (i : ℕ) (t : Ty) → is_mentioned (i + 1) t ≡ is_mentioned (suc i) t
-mentioned-next i t = ap (λ n. is_mentioned n t) (next i)
-  where
-    next : (n : ℕ) → n + 1 ≡ suc n
-    next n = omega arith
-
-pub ruleset mentioned_steps = (not_mentioned, not_mentioned_under, mentioned-next)
-
--- the test and the relation
 
 or-cases : (a b : Truth) → (a || b) ≡ true → (a ≡ true) ⊎ (b ≡ true)
 or-cases true b e = inl refl

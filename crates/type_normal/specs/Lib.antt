@@ -1,3 +1,7 @@
 pub mod Mentioned
-pub mod Sink
+pub mod Least
+pub mod Moved
+pub mod Lifted
 pub mod Filled
+pub mod Heads
+pub mod Placed

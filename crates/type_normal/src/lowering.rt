@@ -1,18 +1,38 @@
 // Lowering of normal types.
-ghost use Rattle.std.specs.Prelude.{◌≡◌, ℕ, ◌<◌, ◌++◌, IfOk, List, length};
+ghost use Rattle.std.specs.Prelude.{◌≡◌, ℕ, ◌<◌, ◌-◌, ◌++◌, IfOk, IsTrue, List, length};
 ghost use Rattle.omega_kinds.specs.Kind.{Kind as KindTree};
-ghost use Rattle.omega_types.specs.Fields.{row};
 ghost use Rattle.omega_types.specs.Index.{shift};
 ghost use Rattle.omega_types.specs.Mentions.{Mentions, lower};
 ghost use Rattle.omega_types.specs.Normality.{Normal};
-ghost use Rattle.omega_types.specs.Substitution.{rename, rename_row};
-ghost use Rattle.omega_types.specs.Ty.{lift};
-ghost use Rattle.type_normal.specs.Sink.{lower_from, sink};
+ghost use Rattle.omega_types.specs.Ty.{Var};
+ghost use Rattle.type_normal.specs.Lifted.{lifted, lower_from};
 
 use crate::normal_ty::{NormalTy, as_normal, plain};
 use omega_kinds::Mem;
-use omega_types::{Ty, TyFields, TyNode, next_level};
+use omega_types::{Ty, TyChange, TyNode, is_closed, walk_type};
 use std::alloc::Global;
+
+// A number by which each free index falls, but not below 0.
+#[derive(Clone, Copy)]
+struct Lowering {
+    by: u64,
+}
+
+impl TyChange for Lowering {
+    ghost variable_at = { λ s depth index. Var (lifted depth (λ i. i - s.by) index) };
+
+    fn is_unchanged(&self, ty: &Ty, depth: u64) -> bool {
+        is_closed(ty, depth)
+    }
+
+    fn change_variable(&self, alloc: Global, index: u64, depth: u64) -> Result<Ty, Mem> {
+        if index < depth {
+            return Ty::make(alloc, TyNode::Var(index));
+        }
+        let outer = (index - depth).saturating_sub(self.by);
+        Ty::make(alloc, TyNode::Var(depth + outer))
+    }
+}
 
 /// The type with each free index less by `by`, an index below `by` becoming 0. Where it mentions no index below `by`, it
 /// is a type which, raised by `by` from 0, is the given one, and it is normal in the context without the `by` innermost
@@ -22,82 +42,13 @@ pub fn lower(alloc: Global, ty: &NormalTy, by: u64) -> Result<NormalTy, Mem>
     ensures raised { IfOk result (λ t. ((i : ℕ) → i < by → Mentions i ty.now → ⊥) → shift by 0 t ≡ ty.now) }
     ensures normal { IfOk result (λ t. (inner ctx : List KindTree) (k : KindTree) → length inner ≡ by → Normal (inner ++ ctx) ty.now k → ((i : ℕ) → i < by → Mentions i ty.now → ⊥) → Normal ctx t k) }
 {
-    Ok(as_normal(lower_ty(alloc, plain(ty), by, 0)?))
+    lower_from(alloc, ty, by, 0)
 }
 
-// The type with each free index that is at least `from` less by `by`, but no less than `from`.
-#[cycle(lower)]
-#[tactic(auto, using(crate::proofs::SinkSteps::sink_steps))]
-fn lower_ty(alloc: Global, ty: &Ty, by: u64, from: u64) -> Result<Ty, Mem>
+/// The type with each free index that is at least `from` less by `by`, but no less than `from`.
+/// `Err` is want of memory.
+pub fn lower_from(alloc: Global, ty: &NormalTy, by: u64, from: u64) -> Result<NormalTy, Mem>
     ensures { IfOk result (λ t. t ≡ lower_from by from ty.now) }
 {
-    if ty.bound() <= from {
-        return ty.share();
-    }
-    match ty.node() {
-        TyNode::Var(index) => {
-            Ty::make(
-                alloc,
-                TyNode::Var(from + (*index - from).saturating_sub(by)),
-            )
-        }
-        TyNode::Int | TyNode::Bool | TyNode::Text => ty.share(),
-        TyNode::Arrow(a, b) => {
-            let a = lower_ty(alloc, a, by, from)?;
-            let b = lower_ty(alloc, b, by, from)?;
-            Ty::make(alloc, TyNode::Arrow(a, b))
-        }
-        TyNode::Fields(fields) => {
-            let fields = lower_fields(alloc, fields, by, from)?;
-            Ty::make(alloc, TyNode::Fields(fields))
-        }
-        TyNode::Sum(fields) => {
-            let fields = lower_fields(alloc, fields, by, from)?;
-            Ty::make(alloc, TyNode::Sum(fields))
-        }
-        TyNode::All(k, b) => {
-            let b = lower_under(alloc, b, by, from)?;
-            Ty::make(alloc, TyNode::All(k.share()?, b))
-        }
-        TyNode::Ex(k, b) => {
-            let b = lower_under(alloc, b, by, from)?;
-            Ty::make(alloc, TyNode::Ex(k.share()?, b))
-        }
-        TyNode::Mu(b) => {
-            let b = lower_under(alloc, b, by, from)?;
-            Ty::make(alloc, TyNode::Mu(b))
-        }
-        TyNode::Lam(k, b) => {
-            let b = lower_under(alloc, b, by, from)?;
-            Ty::make(alloc, TyNode::Lam(k.share()?, b))
-        }
-        TyNode::Apply(f, a) => {
-            let f = lower_ty(alloc, f, by, from)?;
-            let a = lower_ty(alloc, a, by, from)?;
-            Ty::make(alloc, TyNode::Apply(f, a))
-        }
-    }
-}
-
-// The body of a binder, lowered where the binder stands.
-#[cycle(lower)]
-#[tactic(auto, using(crate::proofs::SinkSteps::sink_steps))]
-fn lower_under(alloc: Global, body: &Ty, by: u64, from: u64) -> Result<Ty, Mem>
-    ensures { IfOk result (λ t. t ≡ rename (lift (sink by from)) body.now) }
-{
-    lower_ty(alloc, body, by, next_level(from)?)
-}
-
-// The fields with each part lowered.
-#[cycle(lower)]
-#[tactic(auto, using(crate::proofs::SinkSteps::sink_steps))]
-fn lower_fields(alloc: Global, fields: &TyFields, by: u64, from: u64) -> Result<TyFields, Mem>
-    ensures { IfOk result (λ f. row f ≡ rename_row (sink by from) (row fields.now)) }
-{
-    let mut lowered = TyFields::with_capacity(alloc, fields.items().len())?;
-    for field in fields.items() {
-        let part = lower_ty(alloc, &field.1, by, from)?;
-        lowered.push((field.0.share()?, part))?;
-    }
-    Ok(lowered)
+    Ok(as_normal(walk_type(alloc, plain(ty), &Lowering { by }, from)?))
 }

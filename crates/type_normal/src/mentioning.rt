@@ -1,12 +1,12 @@
 // Which free indexes a normal type mentions.
-ghost use Rattle.std.specs.Prelude.{◌≡◌, ◌↔◌, ◌||◌, suc, IsTrue, List};
+ghost use Rattle.std.specs.Prelude.{◌≡◌, ◌↔◌, suc, IsTrue, List};
 ghost use Rattle.omega_kinds.specs.Kind.{Kind as KindTree};
 ghost use Rattle.omega_types.specs.Conversion.{Conv};
 ghost use Rattle.omega_types.specs.Fields.{row};
 ghost use Rattle.omega_types.specs.Mentions.{Mentions};
 ghost use Rattle.omega_types.specs.Normality.{Normal};
 ghost use Rattle.omega_types.specs.Ty.{Ty as TyTree};
-ghost use Rattle.type_normal.specs.Mentioned.{is_mentioned, is_mentioned_row};
+ghost use Rattle.type_normal.specs.Least.{is_first, least_row, least_ty, lesser, outside};
 
 use crate::normal_ty::{NormalTy, plain};
 use omega_types::{Ty, TyFields, TyNode};
@@ -17,59 +17,93 @@ pub fn mentions(ty: &NormalTy, index: u64) -> bool
     ensures free { IsTrue result ↔ Mentions index ty.now }
     ensures avoidable { (ctx : List KindTree) (k : KindTree) → Normal ctx ty.now k → ((IsTrue result → ⊥) ↔ ((s : TyTree) × Conv ctx ty.now s k × (Mentions index s → ⊥))) }
 {
-    mentions_ty(plain(ty), index)
+    is_first(least_free(ty, index))
 }
 
-// Whether the index is free in the type.
-#[cycle(mentions)]
-#[tactic(auto, using(crate::proofs::MentionedBelow::mentioned_steps))]
-fn mentions_ty(ty: &Ty, index: u64) -> bool
-    ensures { result ≡ is_mentioned index ty.now }
+/// How far above `from` the least free index of the type is that is at least `from`; `None` where there is none.
+/// What comes after an occurrence of `from` itself is not looked at. Takes no memory.
+pub fn least_free(ty: &NormalTy, from: u64) -> Option<u64>
+    ensures { result ≡ least_ty from ty.now }
 {
-    if ty.bound() <= index {
-        return false;
+    least_in_ty(plain(ty), from)
+}
+
+// The same for any type.
+#[cycle(least)]
+#[tactic(auto, using(crate::proofs::LeastSteps::least_steps))]
+fn least_in_ty(ty: &Ty, from: u64) -> Option<u64>
+    ensures { result ≡ least_ty from ty.now }
+{
+    if ty.bound() <= from {
+        return None;
     }
     match ty.node() {
-        TyNode::Var(i) => *i == index,
-        TyNode::Int | TyNode::Bool | TyNode::Text => false,
-        TyNode::Arrow(a, b) => either(mentions_ty(a, index), mentions_ty(b, index)),
-        TyNode::Fields(fields) | TyNode::Sum(fields) => mentions_fields(fields, index),
-        TyNode::All(_, b) => mentions_under(b, index),
-        TyNode::Ex(_, b) => mentions_under(b, index),
-        TyNode::Mu(b) => mentions_under(b, index),
-        TyNode::Lam(_, b) => mentions_under(b, index),
-        TyNode::Apply(f, a) => either(mentions_ty(f, index), mentions_ty(a, index)),
+        TyNode::Var(index) => index.checked_sub(from),
+        TyNode::Int | TyNode::Bool | TyNode::Text => None,
+        TyNode::Arrow(a, b) => least_in_two(a, b, from),
+        TyNode::Fields(fields) | TyNode::Sum(fields) => least_in_fields(fields, from),
+        TyNode::All(_, b) => least_in_body(b, from),
+        TyNode::Ex(_, b) => least_in_body(b, from),
+        TyNode::Mu(b) => least_in_body(b, from),
+        TyNode::Lam(_, b) => least_in_body(b, from),
+        TyNode::Apply(f, a) => least_in_two(f, a, from),
     }
 }
 
-// One of the two.
-fn either(a: bool, b: bool) -> bool
-    ensures { result ≡ (a || b) }
+// The same for two parts.
+#[cycle(least)]
+#[tactic(auto, using(crate::proofs::LeastSteps::least_steps))]
+fn least_in_two(a: &Ty, b: &Ty, from: u64) -> Option<u64>
+    ensures { result ≡ lesser (least_ty from a.now) (least_ty from b.now) }
 {
-    a || b
-}
-
-// Whether an index from outside a binder is free in its body.
-#[cycle(mentions)]
-#[tactic(auto, using(crate::proofs::MentionedBelow::mentioned_steps))]
-fn mentions_under(body: &Ty, index: u64) -> bool
-    ensures { result ≡ is_mentioned (suc index) body.now }
-{
-    if body.bound() <= index {
-        return false;
+    let least = least_in_ty(a, from);
+    if is_first(least) {
+        return least;
     }
-    mentions_ty(body, index + 1)
+    lesser(least, least_in_ty(b, from))
 }
 
-// Whether the index is free in a part.
-#[cycle(mentions)]
-fn mentions_fields(fields: &TyFields, index: u64) -> bool
-    ensures { result ≡ is_mentioned_row index (row fields.now) }
+// The same below a binder, for indexes from outside it.
+#[cycle(least)]
+#[tactic(auto, using(crate::proofs::LeastSteps::least_steps))]
+fn least_in_body(body: &Ty, from: u64) -> Option<u64>
+    ensures { result ≡ least_ty (suc from) body.now }
 {
+    if body.bound() <= from {
+        return None;
+    }
+    least_in_ty(body, from + 1)
+}
+
+// The same for the parts of a record or a sum.
+#[cycle(least)]
+#[tactic(auto, using(crate::proofs::LeastSteps::least_steps))]
+fn least_in_fields(fields: &TyFields, from: u64) -> Option<u64>
+    ensures { result ≡ least_row from (row fields.now) }
+{
+    let mut least = None;
     for field in fields.items() {
-        if mentions_ty(&field.1, index) {
-            return true;
+        if is_first(least) {
+            return least;
         }
+        least = lesser(least, least_in_ty(&field.1, from));
     }
-    false
+    least
+}
+
+/// The lesser of two numbers that may be there.
+pub fn lesser(a: Option<u64>, b: Option<u64>) -> Option<u64>
+    ensures { result ≡ lesser a b }
+{
+    match (a, b) {
+        (Some(i), Some(j)) => Some(i.min(j)),
+        _ => a.or(b),
+    }
+}
+
+// Whether no lesser number can be found: the index looked for is itself free.
+fn is_first(least: Option<u64>) -> bool
+    ensures { result ≡ is_first least }
+{
+    matches!(least, Some(0))
 }

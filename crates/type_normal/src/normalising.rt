@@ -54,7 +54,7 @@ fn eta(alloc: Global, kind: &Kind, ty: Ty) -> Result<Ty, Mem>
 }
 
 // The normal form of a normal operator at a normal argument.
-fn beta(alloc: Global, operator: Ty, arg: Ty) -> Result<Ty, Mem>
+pub(crate) fn beta(alloc: Global, operator: Ty, arg: Ty) -> Result<Ty, Mem>
     ensures { IfOk result (λ t. t ≡ beta_of operator arg) }
 {
     if let TyNode::Lam(kind, body) = operator.node() {
