@@ -1,7 +1,7 @@
 use Rattle.omega_terms.proofs.OneIndex.{row-more, left-smaller, row-done}
-use Rattle.omega_walks.specs.Walk.{walked_row}
-use Rattle.omega_walks.proofs.WalkSteps.{row-walked}
-use Rattle.omega_walks.proofs.walking.+walk.Goals as goal
+use Rattle.omega_terms.specs.Walk.{walked_row}
+use Rattle.omega_terms.proofs.WalkSteps.{row-walked}
+use Rattle.omega_terms.proofs.walking.+walk.Goals as goal
 
 pub walk_fields-loop-field-preserved : goal.walk_fields-loop-field-preserved
 walk_fields-loop-field-preserved g t c =

@@ -1,13 +1,13 @@
 -- Renaming after renaming in terms.
-use Rattle.std.specs.Prelude.{ℕ, ◌≡◌}
-use Rattle.std.proofs.Math.Path.{refl, ◌∙◌, ap, ap₂}
+use Rattle.std.specs.Prelude.{ℕ, ◌+◌, ◌≡◌}
+use Rattle.std.proofs.Common.{arith}
+use Rattle.std.proofs.Math.Path.{refl, ◌∙◌, ap, ap₂, fun_ext}
 use Rattle.omega_types.specs.Ty.{lift}
+use Rattle.omega_types.specs.Index.{bump}
 use Rattle.omega_types.proofs.Algebra.{lift-lift, rename-rename}
 use Rattle.omega_terms.specs.Term.{Term, TermRow}
-use Rattle.omega_terms.specs.TermSubst.{ren_term, ren_fields}
-
-ap₃ : {A B C D : Type 0} (f : A → B → C → D) {a a' : A} {b b' : B} {c c' : C} → a ≡ a' → b ≡ b' → c ≡ c' → f a b c ≡ f a' b' c'
-ap₃ f p q r = λ i. f (p i) (q i) (r i)
+use Rattle.omega_terms.specs.TermSubst.{ren_term, ren_fields, shift_term}
+use Rattle.omega_terms.proofs.Unchanged.{ap₃}
 
 two-lifts : (r s : ℕ → ℕ) → (λ i. lift (lift r) (lift (lift s) i)) ≡ lift (lift (λ i. r (s i)))
 two-lifts r s = lift-lift (lift r) (lift s) ∙ ap lift (lift-lift r s)
@@ -33,3 +33,12 @@ mutual
   pub ren-ren_fields : (q p r s : ℕ → ℕ) (f : TermRow) → ren_fields q r (ren_fields p s f) ≡ ren_fields (λ i. q (p i)) (λ i. r (s i)) f
   ren-ren_fields q p r s TermRow.End = refl
   ren-ren_fields q p r s (TermRow.More l e f) = ap₂ (TermRow.More l) (ren-ren_term q p r s e) (ren-ren_fields q p r s f)
+
+-- shifts add up
+
+bump-more : (by more : ℕ) → (λ n. bump more 0 (bump by 0 n)) ≡ bump (by + more) 0
+bump-more by more = fun_ext (λ n. omega arith)
+
+pub shift-shift_term : (e : Term) (i j p q : ℕ) → shift_term (shift_term e i j) p q ≡ shift_term e (i + p) (j + q)
+shift-shift_term e i j p q =
+    ren-ren_term (bump p 0) (bump i 0) (bump q 0) (bump j 0) e ∙ ap₂ (λ r s. ren_term r s e) (bump-more i p) (bump-more j q)

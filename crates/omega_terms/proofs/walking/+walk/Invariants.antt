@@ -1,8 +1,8 @@
 use Rattle.std.proofs.Common.{◌≡◌, ◌≤◌, ◌+◌, ◌*◌, take, drop}
 use Rattle.omega_terms.specs.Size.{term_size, pairs_size}
 use Rattle.omega_terms.proofs.OneIndex.{map_terms}
-use Rattle.omega_walks.specs.Walk.{walked}
-use Rattle.omega_walks.proofs.walking.+walk.Given as goal
+use Rattle.omega_terms.specs.Walk.{walked}
+use Rattle.omega_terms.proofs.walking.+walk.Given as goal
 
 abbrev pub decreases-walk : goal.decreases-walk
 decreases-walk g l = 4 * term_size l.term.now

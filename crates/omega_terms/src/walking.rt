@@ -4,11 +4,12 @@ ghost use Rattle.omega_kinds.specs.View.{kind_tree};
 ghost use Rattle.omega_types.specs.Ty.{Ty as TyTree};
 ghost use Rattle.omega_terms.specs.Fields.{term_row};
 ghost use Rattle.omega_terms.specs.Term.{Term as TermTree};
-ghost use Rattle.omega_walks.specs.Walk.{walked, walked_row};
+ghost use Rattle.omega_terms.specs.Walk.{walked, walked_row};
 
 use crate::inner::Inner;
+use crate::op::Op;
+use crate::tree::{Term, TermFields, TermNode};
 use omega_kinds::{Kind, Label, Mem};
-use omega_terms::{Op, Term, TermFields, TermNode};
 use omega_types::Ty;
 use std::alloc::Global;
 
