@@ -8,13 +8,12 @@ use Rattle.omega_types.specs.Ty.{Ty, lift}
 use Rattle.omega_types.specs.Substitution.{under}
 use Rattle.omega_types.specs.Index.{Slot, taken, kept, raised, slot, bump, shift, put}
 use Rattle.omega_types.specs.Fields.{Rises, MayFollow}
-use Rattle.omega_types.proofs.Algebra.{substitute-id}
 use Rattle.omega_types.proofs.Single.{bump-below, bump-above, put-below, put-under, shift-suc}
 use Rattle.omega_terms.specs.Term.{Term, TermRow}
 use Rattle.omega_terms.specs.Fields.{TermPairs, term_row}
 use Rattle.omega_terms.specs.Size.{pairs_size}
 use Rattle.omega_terms.specs.Bound.{type_bound, term_bound}
-use Rattle.omega_terms.specs.TermSubst.{ren_term, ren_fields, sub_term, sub_fields, under_type, up_term, same_index, fill_term, put_at, put_term, put_type, shift_term}
+use Rattle.omega_terms.specs.TermSubst.{ren_term, sub_term, under_type, up_term, same_index, fill_term, put_at, put_term, put_type, shift_term}
 use Rattle.omega_terms.proofs.Unchanged.{ren_term-unchanged, sub_term-unchanged}
 
 next : (n : ℕ) → suc n ≡ n + 1
@@ -82,6 +81,9 @@ slot-above (suc i) (suc (suc j)) h = ap raised (slot-above i (suc j) (omega arit
 
 pub put-var_same : (i j : ℕ) (a : Term) → j ≡ i → fill_term a (slot i j) ≡ a
 put-var_same i j a e = ap (λ n. fill_term a (slot i n)) e ∙ ap (fill_term a) (slot-same i)
+
+pub put-var_below : (i j : ℕ) (a : Term) → j < i → fill_term a (slot i j) ≡ Term.Var j
+put-var_below i j a h = ap (fill_term a) (slot-below i j h)
 
 pub put-var_above : (i j : ℕ) (a : Term) → i < j → fill_term a (slot i j) ≡ Term.Var (j - 1)
 put-var_above i j a h = ap (fill_term a) (slot-above i j h)
@@ -188,34 +190,4 @@ left-smaller (suc n) (x ∷ xs) = omega (arith, left-smaller n xs)
 pub row-done : (f : Term → Term) (g : TermRow → TermRow) (n : ℕ) (xs ys ws : TermPairs) → ((zs : TermPairs) → term_row (map_terms f zs) ≡ g (term_row zs)) → ws ≡ map_terms f (take n xs) → length xs ≤ n → xs ≡ ys → term_row ws ≡ g (term_row ys)
 row-done f g n xs ys ws each p q e = ap term_row p ∙ (ap (λ zs. term_row (map_terms f zs)) (take_all n xs q) ∙ (each xs ∙ ap (λ zs. g (term_row zs)) e))
 
-pub row-raised : (a b i j : ℕ) (xs : TermPairs) → term_row (map_terms (ren_term (bump a i) (bump b j)) xs) ≡ ren_fields (bump a i) (bump b j) (term_row xs)
-row-raised a b i j [] = refl
-row-raised a b i j (x ∷ xs) = ap (TermRow.More x.0 (ren_term (bump a i) (bump b j) x.1)) (row-raised a b i j xs)
-
-pub row-put_term : (i : ℕ) (a : Term) (xs : TermPairs) → term_row (map_terms (λ e. put_term e i a) xs) ≡ sub_fields Ty.Var (put_at i a) (term_row xs)
-row-put_term i a [] = refl
-row-put_term i a (x ∷ xs) = ap (TermRow.More x.0 (put_term x.1 i a)) (row-put_term i a xs)
-
-pub row-put_type : (i : ℕ) (a : Ty) (xs : TermPairs) → term_row (map_terms (λ e. put_type e i a) xs) ≡ sub_fields (put i a) Term.Var (term_row xs)
-row-put_type i a [] = refl
-row-put_type i a (x ∷ xs) = ap (TermRow.More x.0 (put_type x.1 i a)) (row-put_type i a xs)
-
-pub ruleset shift_same = (ren_term-same)
-
 pub ruleset shift_vars = (bump-var_below, bump-var_above)
-
-pub ruleset shift_under = (ren-under_term, ren-under_type, ren-under_both, ren-under_two)
-
-pub ruleset shift_rows = (row-raised, may_follow-at)
-
-pub ruleset put_term_same = (put_term-same, put-var_same, put-var_above, substitute-id)
-
-pub ruleset put_term_under = (put_term-under_term, put_term-under_type, put_term-under_both, put_term-under_two)
-
-pub ruleset put_term_rows = (row-put_term, may_follow-at)
-
-pub ruleset put_type_same = (put_type-same)
-
-pub ruleset put_type_under = (put_type-under_term, put_type-under_type, put_type-under_both, put_type-under_two)
-
-pub ruleset put_type_rows = (row-put_type, may_follow-at)

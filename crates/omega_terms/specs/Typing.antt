@@ -1,6 +1,6 @@
 -- Typing: one rule for each form, and the rule of conversion (Pierce, "Types and Programming Languages", chapters 23, 24 and 30).
 -- The innermost type variable's kind is the first of ctx, the innermost term variable's type the first of vars.
-use Rattle.std.specs.Prelude.{ℕ, zero, suc, List, [], ◌∷◌, ◌≢◌, Bool, ℤ, ◌+◌}
+use Rattle.std.specs.Prelude.{ℕ, zero, suc, List, [], ◌∷◌, ◌≢◌, Bool, ℤ}
 use Rattle.omega_kinds.specs.Kind.{Kind}
 use Rattle.omega_kinds.specs.declared.label.Label.{Label}
 use Rattle.omega_types.specs.Ty.{Ty, Row}

@@ -1,15 +1,15 @@
 // Substitution of a type for a type variable in terms.
-ghost use Rattle.std.specs.Prelude.{◌≡◌, IfOk};
-ghost use Rattle.omega_types.specs.Substitution.{under};
-ghost use Rattle.omega_types.specs.Index.{put};
-ghost use Rattle.omega_terms.specs.Fields.{term_row};
-ghost use Rattle.omega_terms.specs.Term.{Term as TermTree};
-ghost use Rattle.omega_terms.specs.TermSubst.{put_type, sub_term, sub_fields, up_term, under_type};
+ghost use Rattle.std.specs.Prelude.{◌≡◌, ◌+◌, ◌≤◌, IfOk, IsTrue};
+ghost use Rattle.omega_types.specs.Index.{shift, substitute_at};
+ghost use Rattle.omega_terms.specs.Bound.{type_bound};
+ghost use Rattle.omega_terms.specs.Term.{Var as TermVar};
+ghost use Rattle.omega_terms.specs.TermSubst.{put_type};
 
-use crate::op::Op;
-use crate::tree::{Term, TermFields, TermNode};
+use crate::inner::{Inner, OUTSIDE};
+use crate::tree::{Term, TermNode};
+use crate::walking::{Change, walk};
 use omega_kinds::Mem;
-use omega_types::{Ty, next_level, shift, substitute};
+use omega_types::{Ty, shift, substitute};
 use std::alloc::Global;
 
 /// The term with `arg` for the type variable `index`, and each greater index of a type variable lowered by one.
@@ -17,212 +17,53 @@ use std::alloc::Global;
 /// `Err` is want of memory, also where an index would pass the last number.
 ///
 /// Pierce, "Types and Programming Languages", section 6.2, Shifting and substitution.
-#[cycle(put_type)]
-#[tactic(auto, using(crate::proofs::OneIndex::put_type_same))]
 pub fn put_type(alloc: Global, body: &Term, index: u64, arg: &Ty) -> Result<Term, Mem>
     ensures { IfOk result (λ e. e ≡ put_type body.now index arg.now) }
 {
-    if body.type_bound() <= index {
-        return body.share();
+    walk(alloc, body, &PutType { index, arg }, OUTSIDE)
+}
+
+// The type variable outside of all binders, and the type that is put in for it.
+#[derive(Clone, Copy)]
+struct PutType<'a> {
+    index: u64,
+    arg: &'a Ty,
+}
+
+impl Change for PutType<'_> {
+    ghost type_at = { λ s types t. substitute_at (s.index + types) (shift types 0 s.arg.now) t };
+
+    ghost variable_at = { λ s types terms index. TermVar index };
+
+    fn is_unchanged(&self, term: &Term, inner: Inner) -> bool {
+        is_below(term, self.index, inner.types)
     }
-    match body.node() {
-        TermNode::Var(_) | TermNode::Int(_) | TermNode::Bool(_) | TermNode::Text(_) => body.share(),
-        TermNode::Lam(t, e) => put_in_function(alloc, t, e, index, arg),
-        TermNode::Call(f, a) => put_in_call(alloc, f, a, index, arg),
-        TermNode::TyLam(k, e) => {
-            let e = put_under_type(alloc, e, index, arg)?;
-            Term::make(alloc, TermNode::TyLam(k.share()?, e))
-        }
-        TermNode::Inst(e, t) => put_in_inst(alloc, e, t, index, arg),
-        TermNode::Fields(fields) => {
-            let fields = put_in_fields(alloc, fields, index, arg)?;
-            Term::make(alloc, TermNode::Fields(fields))
-        }
-        TermNode::Get(e, l) => {
-            let e = put_type(alloc, e, index, arg)?;
-            Term::make(alloc, TermNode::Get(e, l.share()?))
-        }
-        TermNode::Pack(t, e, u) => put_in_package(alloc, t, e, u, index, arg),
-        TermNode::Unpack(p, e) => put_in_opened(alloc, p, e, index, arg),
-        TermNode::If(a, b, c) => put_in_choice(alloc, a, b, c, index, arg),
-        TermNode::Arith(op, a, b) => put_in_arith(alloc, *op, a, b, index, arg),
-        TermNode::Fix(t, u, e) => put_in_fix(alloc, t, u, e, index, arg),
+
+    fn change_type(&self, alloc: Global, ty: &Ty, inner: Inner) -> Result<Ty, Mem> {
+        put_in_type(alloc, ty, self.index, self.arg, inner.types)
+    }
+
+    fn change_variable(&self, alloc: Global, index: u64, _inner: Inner) -> Result<Term, Mem> {
+        Term::make(alloc, TermNode::Var(index))
     }
 }
 
-// A function.
-#[cycle(put_type)]
-#[tactic(auto, using(crate::proofs::OneIndex::put_type_same))]
-#[inline(never)]
-fn put_in_function(alloc: Global, t: &Ty, e: &Term, index: u64, arg: &Ty) -> Result<Term, Mem>
-    ensures { IfOk result (λ made. made ≡ put_type (TermTree.Lam t.now e.now) index arg.now) }
+// Whether each free type variable of the term below so many binders is surely less than the one that is put in for.
+fn is_below(term: &Term, index: u64, depth: u64) -> bool
+    ensures { IsTrue result → type_bound term.now ≤ index + depth }
 {
-    let t = substitute(alloc, t, index, arg)?;
-    let e = put_under_term(alloc, e, index, arg)?;
-    Term::make(alloc, TermNode::Lam(t, e))
+    term.type_bound() <= index.saturating_add(depth)
 }
 
-// A call.
-#[cycle(put_type)]
-#[tactic(auto, using(crate::proofs::OneIndex::put_type_same))]
-#[inline(never)]
-fn put_in_call(alloc: Global, f: &Term, a: &Term, index: u64, arg: &Ty) -> Result<Term, Mem>
-    ensures { IfOk result (λ made. made ≡ put_type (TermTree.Call f.now a.now) index arg.now) }
+// The type below so many binders with the argument put in.
+#[tactic(auto, using(crate::proofs::Puts::put_types))]
+fn put_in_type(alloc: Global, ty: &Ty, index: u64, arg: &Ty, depth: u64) -> Result<Ty, Mem>
+    ensures { IfOk result (λ t. t ≡ substitute_at (index + depth) (shift depth 0 arg.now) ty.now) }
 {
-    let f = put_type(alloc, f, index, arg)?;
-    let a = put_type(alloc, a, index, arg)?;
-    Term::make(alloc, TermNode::Call(f, a))
-}
-
-// A term at a type.
-#[cycle(put_type)]
-#[tactic(auto, using(crate::proofs::OneIndex::put_type_same))]
-#[inline(never)]
-fn put_in_inst(alloc: Global, e: &Term, t: &Ty, index: u64, arg: &Ty) -> Result<Term, Mem>
-    ensures { IfOk result (λ made. made ≡ put_type (TermTree.Inst e.now t.now) index arg.now) }
-{
-    let e = put_type(alloc, e, index, arg)?;
-    let t = substitute(alloc, t, index, arg)?;
-    Term::make(alloc, TermNode::Inst(e, t))
-}
-
-// A package.
-#[cycle(put_type)]
-#[tactic(auto, using(crate::proofs::OneIndex::put_type_same))]
-#[inline(never)]
-fn put_in_package(
-    alloc: Global,
-    t: &Ty,
-    e: &Term,
-    u: &Ty,
-    index: u64,
-    arg: &Ty,
-) -> Result<Term, Mem>
-    ensures { IfOk result (λ made. made ≡ put_type (TermTree.Pack t.now e.now u.now) index arg.now) }
-{
-    let t = substitute(alloc, t, index, arg)?;
-    let e = put_type(alloc, e, index, arg)?;
-    let u = substitute(alloc, u, index, arg)?;
-    Term::make(alloc, TermNode::Pack(t, e, u))
-}
-
-// An opened package.
-#[cycle(put_type)]
-#[tactic(auto, using(crate::proofs::OneIndex::put_type_same))]
-#[inline(never)]
-fn put_in_opened(alloc: Global, p: &Term, e: &Term, index: u64, arg: &Ty) -> Result<Term, Mem>
-    ensures { IfOk result (λ made. made ≡ put_type (TermTree.Unpack p.now e.now) index arg.now) }
-{
-    let p = put_type(alloc, p, index, arg)?;
-    let e = put_under_both(alloc, e, index, arg)?;
-    Term::make(alloc, TermNode::Unpack(p, e))
-}
-
-// A choice.
-#[cycle(put_type)]
-#[tactic(auto, using(crate::proofs::OneIndex::put_type_same))]
-#[inline(never)]
-fn put_in_choice(
-    alloc: Global,
-    a: &Term,
-    b: &Term,
-    c: &Term,
-    index: u64,
-    arg: &Ty,
-) -> Result<Term, Mem>
-    ensures { IfOk result (λ made. made ≡ put_type (TermTree.If a.now b.now c.now) index arg.now) }
-{
-    let a = put_type(alloc, a, index, arg)?;
-    let b = put_type(alloc, b, index, arg)?;
-    let c = put_type(alloc, c, index, arg)?;
-    Term::make(alloc, TermNode::If(a, b, c))
-}
-
-// A computation.
-#[cycle(put_type)]
-#[tactic(auto, using(crate::proofs::OneIndex::put_type_same))]
-#[inline(never)]
-fn put_in_arith(
-    alloc: Global,
-    op: Op,
-    a: &Term,
-    b: &Term,
-    index: u64,
-    arg: &Ty,
-) -> Result<Term, Mem>
-    ensures { IfOk result (λ made. made ≡ put_type (TermTree.Arith op a.now b.now) index arg.now) }
-{
-    let a = put_type(alloc, a, index, arg)?;
-    let b = put_type(alloc, b, index, arg)?;
-    Term::make(alloc, TermNode::Arith(op, a, b))
-}
-
-// A function that calls itself.
-#[cycle(put_type)]
-#[tactic(auto, using(crate::proofs::OneIndex::put_type_same))]
-#[inline(never)]
-fn put_in_fix(alloc: Global, t: &Ty, u: &Ty, e: &Term, index: u64, arg: &Ty) -> Result<Term, Mem>
-    ensures { IfOk result (λ made. made ≡ put_type (TermTree.Fix t.now u.now e.now) index arg.now) }
-{
-    let t = substitute(alloc, t, index, arg)?;
-    let u = substitute(alloc, u, index, arg)?;
-    let e = put_under_two(alloc, e, index, arg)?;
-    Term::make(alloc, TermNode::Fix(t, u, e))
-}
-
-// The body of a binder of a term variable with the argument put in.
-#[cycle(put_type)]
-#[tactic(auto, using(crate::proofs::OneIndex::put_type_under))]
-fn put_under_term(alloc: Global, body: &Term, index: u64, arg: &Ty) -> Result<Term, Mem>
-    ensures { IfOk result (λ e. e ≡ sub_term (put index arg.now) (up_term TermTree.Var) body.now) }
-{
-    put_type(alloc, body, index, arg)
-}
-
-// The body of a binder of a type variable with the argument put in.
-#[cycle(put_type)]
-#[tactic(auto, using(crate::proofs::OneIndex::put_type_under))]
-fn put_under_type(alloc: Global, body: &Term, index: u64, arg: &Ty) -> Result<Term, Mem>
-    ensures { IfOk result (λ e. e ≡ sub_term (under (put index arg.now)) (under_type TermTree.Var) body.now) }
-{
-    let arg = shift(alloc, arg, 1, 0)?;
-    put_type(alloc, body, next_level(index)?, &arg)
-}
-
-// The body of a binder of a type variable and a term variable with the argument put in.
-#[cycle(put_type)]
-#[tactic(auto, using(crate::proofs::OneIndex::put_type_under))]
-fn put_under_both(alloc: Global, body: &Term, index: u64, arg: &Ty) -> Result<Term, Mem>
-    ensures { IfOk result (λ e. e ≡ sub_term (under (put index arg.now)) (up_term (under_type TermTree.Var)) body.now) }
-{
-    let arg = shift(alloc, arg, 1, 0)?;
-    put_under_term(alloc, body, next_level(index)?, &arg)
-}
-
-// The body of a binder of two term variables with the argument put in.
-#[cycle(put_type)]
-#[tactic(auto, using(crate::proofs::OneIndex::put_type_under))]
-fn put_under_two(alloc: Global, body: &Term, index: u64, arg: &Ty) -> Result<Term, Mem>
-    ensures { IfOk result (λ e. e ≡ sub_term (put index arg.now) (up_term (up_term TermTree.Var)) body.now) }
-{
-    put_type(alloc, body, index, arg)
-}
-
-// The fields with the argument put in each part.
-#[cycle(put_type)]
-#[tactic(auto, using(crate::proofs::OneIndex::put_type_rows))]
-fn put_in_fields(
-    alloc: Global,
-    fields: &TermFields,
-    index: u64,
-    arg: &Ty,
-) -> Result<TermFields, Mem>
-    ensures { IfOk result (λ f. term_row f ≡ sub_fields (put index arg.now) TermTree.Var (term_row fields.now)) }
-{
-    let mut filled = TermFields::with_capacity(alloc, fields.items().len())?;
-    for field in fields.items() {
-        let part = put_type(alloc, &field.1, index, arg)?;
-        filled.push((field.0.share()?, part))?;
+    let at = index.checked_add(depth).ok_or(Mem)?;
+    if ty.bound() <= at {
+        return ty.share();
     }
-    Ok(filled)
+    let arg = shift(alloc, arg, depth, 0)?;
+    substitute(alloc, ty, at, &arg)
 }

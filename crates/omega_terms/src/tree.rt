@@ -9,8 +9,8 @@ ghost use Rattle.omega_terms.specs.ValueTest.{value_test};
 ghost use Rattle.omega_terms.specs.View.{term_of};
 
 use crate::op::Op;
-use omega_kinds::{Extent, Kind, Label, Mem, NOTHING, Name, compare};
-use omega_types::{Ty, next_level};
+use omega_kinds::{Extent, Kind, Label, Mem, NOTHING, Name};
+use omega_types::{Ty, next_level, part_at};
 use std::alloc::Global;
 use std::marker::Model;
 use std::rc::Rc;
@@ -349,13 +349,7 @@ impl TermFields {
     pub fn find(&self, label: &Label) -> Option<&Term>
         ensures { option_copied result ≡ at_label self.now label.now }
     {
-        match self
-            .pairs
-            .binary_search_by(|field| compare(&field.0, label))
-        {
-            Ok(at) => Some(&self.pairs[at].1),
-            Err(_) => None,
-        }
+        part_at(self.items(), label)
     }
 
     // The least number above all free type indexes of the fields.

@@ -4,6 +4,7 @@
 // one normal form, which hereditary substitution computes, and conversion is decided by it.
 #![tactic(auto)]
 
+mod finding;
 mod kinding;
 mod levels;
 mod putting;
@@ -12,6 +13,7 @@ mod theory;
 mod tree;
 mod walking;
 
+pub use finding::part_at;
 pub use kinding::{is_star, kind_of, share_context, variable_kind};
 pub use levels::next_level;
 pub use putting::substitute;

@@ -6,8 +6,9 @@ ghost use Rattle.omega_types.specs.Fields.{Rises, MayFollow, at_label};
 ghost use Rattle.omega_types.specs.Height.{height};
 ghost use Rattle.omega_types.specs.View.{ty_of};
 
+use crate::finding::part_at;
 use crate::levels::next_level;
-use omega_kinds::{Extent, Kind, Label, Mem, NOTHING, compare};
+use omega_kinds::{Extent, Kind, Label, Mem, NOTHING};
 use std::alloc::Global;
 use std::marker::Model;
 use std::rc::Rc;
@@ -246,13 +247,7 @@ impl TyFields {
     pub fn find(&self, label: &Label) -> Option<&Ty>
         ensures { option_copied result ≡ at_label self.now label.now }
     {
-        match self
-            .pairs
-            .binary_search_by(|field| compare(&field.0, label))
-        {
-            Ok(at) => Some(&self.pairs[at].1),
-            Err(_) => None,
-        }
+        part_at(self.items(), label)
     }
 
     // The least number above all free indexes of the fields.

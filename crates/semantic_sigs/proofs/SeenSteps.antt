@@ -22,7 +22,7 @@ use Rattle.sig_definitions.specs.Env.{Entry, Env, find, past_type, past_term, ty
 use Rattle.sig_laws.proofs.Algebra.SigAlgebra.{rename-rename_sig, rename_sig-id}
 use Rattle.semantic_sigs.specs.declared.env.Entry.TheVariants as entry
 use Rattle.semantic_sigs.specs.Entries.{is_named, type_vars, term_vars, here, seen}
-use Rattle.semantic_sigs.proofs.TermAlgebra.{ren-ren_term}
+use Rattle.omega_terms.proofs.TermAlgebra.{ren-ren_term}
 
 -- what is found, past one variable more
 

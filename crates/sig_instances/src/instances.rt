@@ -10,9 +10,8 @@ ghost use Rattle.sig_laws.specs.Good.{NormalTerm};
 ghost use Rattle.semantic_sigs.specs.Changes.{ty_in, sunk, putting};
 
 use omega_kinds::Mem;
-use omega_terms::{Term, TermNode};
+use omega_terms::{Change, Inner, OUTSIDE, Term, TermNode, walk};
 use omega_types::Ty;
-use omega_walks::{Change, Inner, OUTSIDE, walk};
 use semantic_sigs::put_types;
 use std::alloc::Global;
 use type_normal::{NormalTy, as_normal, plain};

@@ -1,5 +1,5 @@
 // Normal types put in for the type variables of a term, each type in the term being brought to normal form at once.
-// Stands on omega_walks, which goes through the term, and on semantic_sigs, which puts types into types.
+// Stands on omega_terms, which goes through the term, and on semantic_sigs, which puts types into types.
 // Proved: `instance` gives the instance of the term that the definitions speak of.
 #![tactic(auto)]
 

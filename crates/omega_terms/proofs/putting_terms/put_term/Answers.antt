@@ -1,0 +1,7 @@
+use Rattle.std.proofs.Common.{◌≡◌, IfOk, subst}
+use Rattle.omega_terms.specs.Term.{Term}
+use Rattle.omega_terms.proofs.Puts.{walk-is-put_term}
+use Rattle.omega_terms.proofs.putting_terms.put_term.Goals as goal
+
+pub returns : goal.returns
+returns c = subst (λ (u : Term). IfOk c.walk.result (λ e. e ≡ u)) (walk-is-put_term c.args.index c.args.arg.now c.args.body.now) c.walk.ensures
