@@ -13,6 +13,7 @@ mod putting_types;
 mod shifting;
 mod theory;
 mod tree;
+mod version;
 
 pub use counting::nodes;
 pub use labels::result_label;
@@ -22,3 +23,4 @@ pub use putting_types::put_type;
 pub use shifting::shift_term;
 pub use theory::{coercion_rows, typing};
 pub use tree::{Term, TermFields, TermNode, is_value};
+pub use version::Version;
