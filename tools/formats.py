@@ -257,11 +257,12 @@ def has_64_bits(spelled):
 
 class Reader:
     """Reads the forms of texts from bytes; raises `Malformed` at the first byte that fits none. Types come as tuples.
-    `types` is None where the number of type variables in scope is not known."""
+    `types` is None where the number of type variables in scope is not known. `version` is that of Omega text."""
 
     def __init__(self, text, at=0):
         self.text = text
         self.at = at
+        self.version = 2
 
     def fail(self, what):
         raise Malformed(f"{what} wanted at byte {self.at}")
@@ -345,6 +346,12 @@ class Reader:
             return ("->", left, right)
         if self.has(b"(rec"):
             return ("rec", self.fields(self.label, lambda: self.type(types)))
+        if self.version > 1 and self.has(b"(sum"):
+            return ("sum", self.fields(self.label, lambda: self.type(types)))
+        if self.version > 1 and self.has(b"(mu "):
+            body = self.type(under())
+            self.need(b")")
+            return ("mu", body)
         for binder in (b"(all ", b"(some ", b"(lam "):
             if self.has(binder):
                 kind = self.kind()
@@ -405,7 +412,9 @@ class Reader:
             self.number("a term")
 
     def omega(self):
-        self.need(b"omega 1\n")
+        self.version = 1 if self.has(b"omega 1\n") else 2
+        if self.version == 2:
+            self.need(b"omega 2\n")
         self.type(0)
         self.need(b"\n")
         self.term(0, 0)
@@ -433,7 +442,7 @@ ITEM = re.compile(rb'"(?:\\.|[^"\\])*(?:"|\\?\Z)|[^ \n()"]+', re.S)
 def omega_refusal(text):
     """Why bytes are no Omega text that is read, or None."""
     first = re.match(rb"omega ([0-9]+)\n", text)
-    if first and first[1] != b"1":
+    if first and first[1] not in (b"1", b"2"):
         return "Version"
     count = 0
     for byte in QUOTED.sub(b"", text):
@@ -475,7 +484,7 @@ class Reply(Reader):
             part = rest.pop()
             if part[0] == "@" and part[1][0] not in ("@", "var"):
                 raise Malformed("a type in normal form wanted")
-            if part[0] == "rec":
+            if part[0] in ("rec", "sum"):
                 rest.extend(inner for _, inner in part[1])
             else:
                 rest.extend(inner for inner in part[1:] if isinstance(inner, tuple) and inner[0] != ">")

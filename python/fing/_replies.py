@@ -135,7 +135,7 @@ def emit(source: Source) -> Reply:
     """The type and the term of System Fω that a program is compiled to, as Omega text, or its refusal.
 
     >>> print(emit("val x = 1").text, end="")
-    omega 1
+    omega 2
     (rec (x (rec (.val int))))
     (call (fn (rec (.val int)) (rec (x x0))) (rec (.val 1)))
     """
@@ -156,7 +156,7 @@ def run(source: Source, budget: int = 1_000_000) -> Reply:
 def verify(text: Source) -> Reply:
     """Whether an Omega text is well typed by the rules of System Fω, or its refusal.
 
-    >>> verify("omega 1\\nint\\n3\\n").text
+    >>> verify("omega 2\\nint\\n3\\n").text
     'well typed\\n'
     """
     return reply(["verify"], text)

@@ -121,9 +121,9 @@ class Refusals(unittest.TestCase):
         self.check_line(fing.check, "val x =", "Syntax", ("3",), None)
 
     def test_reasons_of_texts(self):
-        self.check_line(fing.verify, "omega 2\nint\n3\n", "Version", (), None)
+        self.check_line(fing.verify, "omega 3\nint\n3\n", "Version", (), None)
         self.check_line(fing.verify, "val x = 1", "NotOmega", (), None)
-        self.check_line(fing.verify, "omega 1\nbool\n3\n", "IllTyped", (), None)
+        self.check_line(fing.verify, "omega 2\nbool\n3\n", "IllTyped", (), None)
 
 
 class Pages(unittest.TestCase):

@@ -5,45 +5,45 @@ use std::alloc::Global;
 use std::test::Fail;
 
 const ONE: &str =
-    "omega 1\n(rec (x (rec (.val int))))\n(call (fn (rec (.val int)) (rec (x x0))) (rec (.val 1)))\n";
+    "omega 2\n(rec (x (rec (.val int))))\n(call (fn (rec (.val int)) (rec (x x0))) (rec (.val 1)))\n";
 
 /// The text of a module that hides a type.
 pub const SEALED: &str =
-    "omega 1\n(some * (rec (M (rec (t (rec (.typ (all (> * *) (-> (@ a1 a0) (@ a1 a0)))))) (x (rec (.val a0)))))))\n(pack int (call (fn (rec (t (rec (.typ (all (> * *) (-> (@ a0 int) (@ a0 int)))))) (x (rec (.val int)))) (rec (M x0))) (get (call (fn (rec (t (rec (.typ (all (> * *) (-> (@ a0 int) (@ a0 int)))))) (x (rec (.val int)))) (call (fn (rec (t (rec (.typ (all (> * *) (-> (@ a0 int) (@ a0 int)))))) (x (rec (.val int)))) (rec (%0 x1) (%1 x0))) (call (fn (rec (t (rec (.typ (all (> * *) (-> (@ a0 int) (@ a0 int)))))) (x (rec (.val int)))) (rec (t (call (fn (rec (.typ (all (> * *) (-> (@ a0 int) (@ a0 int))))) x2) (get x1 t))) (x (call (fn (rec (.val int)) x2) (get x1 x))))) x0))) (call (fn (rec (.typ (all (> * *) (-> (@ a0 int) (@ a0 int))))) (call (fn (rec (.val int)) (rec (t x0) (x x1))) (rec (.val 5)))) (rec (.typ (tfn (> * *) (fn (@ a0 int) x0)))))) %0)) (some * (rec (M (rec (t (rec (.typ (all (> * *) (-> (@ a1 a0) (@ a1 a0)))))) (x (rec (.val a0))))))))\n";
+    "omega 2\n(some * (rec (M (rec (t (rec (.typ (all (> * *) (-> (@ a1 a0) (@ a1 a0)))))) (x (rec (.val a0)))))))\n(pack int (call (fn (rec (t (rec (.typ (all (> * *) (-> (@ a0 int) (@ a0 int)))))) (x (rec (.val int)))) (rec (M x0))) (get (call (fn (rec (t (rec (.typ (all (> * *) (-> (@ a0 int) (@ a0 int)))))) (x (rec (.val int)))) (call (fn (rec (t (rec (.typ (all (> * *) (-> (@ a0 int) (@ a0 int)))))) (x (rec (.val int)))) (rec (%0 x1) (%1 x0))) (call (fn (rec (t (rec (.typ (all (> * *) (-> (@ a0 int) (@ a0 int)))))) (x (rec (.val int)))) (rec (t (call (fn (rec (.typ (all (> * *) (-> (@ a0 int) (@ a0 int))))) x2) (get x1 t))) (x (call (fn (rec (.val int)) x2) (get x1 x))))) x0))) (call (fn (rec (.typ (all (> * *) (-> (@ a0 int) (@ a0 int))))) (call (fn (rec (.val int)) (rec (t x0) (x x1))) (rec (.val 5)))) (rec (.typ (tfn (> * *) (fn (@ a0 int) x0)))))) %0)) (some * (rec (M (rec (t (rec (.typ (all (> * *) (-> (@ a1 a0) (@ a1 a0)))))) (x (rec (.val a0))))))))\n";
 
 const ACCEPTED: [(&str, &str); 9] = [
-    ("", "omega 1\n(rec)\n(rec)\n"),
+    ("", "omega 2\n(rec)\n(rec)\n"),
     (
         "module M = struct type t = Int val x = 5 end :> sig type t val x : t end",
         SEALED,
     ),
     (
         "val x = 1 + 2",
-        "omega 1\n(rec (x (rec (.val int))))\n(call (fn (rec (.val int)) (rec (x x0))) (rec (.val (+ 1 2))))\n",
+        "omega 2\n(rec (x (rec (.val int))))\n(call (fn (rec (.val int)) (rec (x x0))) (rec (.val (+ 1 2))))\n",
     ),
     (
         "val x = 1 + 2 + 3 -- a sum",
-        "omega 1\n(rec (x (rec (.val int))))\n(call (fn (rec (.val int)) (rec (x x0))) (rec (.val (+ (+ 1 2) 3))))\n",
+        "omega 2\n(rec (x (rec (.val int))))\n(call (fn (rec (.val int)) (rec (x x0))) (rec (.val (+ (+ 1 2) 3))))\n",
     ),
     (
         "val x = (1 + 2) + (3 + (4))",
-        "omega 1\n(rec (x (rec (.val int))))\n(call (fn (rec (.val int)) (rec (x x0))) (rec (.val (+ (+ 1 2) (+ 3 4)))))\n",
+        "omega 2\n(rec (x (rec (.val int))))\n(call (fn (rec (.val int)) (rec (x x0))) (rec (.val (+ (+ 1 2) (+ 3 4)))))\n",
     ),
     (
         "val x = 1 val y = x + x",
-        "omega 1\n(rec (x (rec (.val int))) (y (rec (.val int))))\n(call (fn (rec (.val int)) (call (fn (rec (.val int)) (rec (x x0) (y x1))) (rec (.val (+ (get x0 .val) (get x0 .val)))))) (rec (.val 1)))\n",
+        "omega 2\n(rec (x (rec (.val int))) (y (rec (.val int))))\n(call (fn (rec (.val int)) (call (fn (rec (.val int)) (rec (x x0) (y x1))) (rec (.val (+ (get x0 .val) (get x0 .val)))))) (rec (.val 1)))\n",
     ),
     (
         "val x = 1 val y = (x) + (2 + x)",
-        "omega 1\n(rec (x (rec (.val int))) (y (rec (.val int))))\n(call (fn (rec (.val int)) (call (fn (rec (.val int)) (rec (x x0) (y x1))) (rec (.val (+ (get x0 .val) (+ 2 (get x0 .val))))))) (rec (.val 1)))\n",
+        "omega 2\n(rec (x (rec (.val int))) (y (rec (.val int))))\n(call (fn (rec (.val int)) (call (fn (rec (.val int)) (rec (x x0) (y x1))) (rec (.val (+ (get x0 .val) (+ 2 (get x0 .val))))))) (rec (.val 1)))\n",
     ),
     (
         "val x = 1 val x = 2",
-        "omega 1\n(rec (x (rec (.val int))))\n(call (fn (rec (.val int)) (call (fn (rec (.val int)) (rec (x x1))) (rec (.val 2)))) (rec (.val 1)))\n",
+        "omega 2\n(rec (x (rec (.val int))))\n(call (fn (rec (.val int)) (call (fn (rec (.val int)) (rec (x x1))) (rec (.val 2)))) (rec (.val 1)))\n",
     ),
     (
         "val b = ~1 val a = b",
-        "omega 1\n(rec (a (rec (.val int))) (b (rec (.val int))))\n(call (fn (rec (.val int)) (call (fn (rec (.val int)) (rec (a x1) (b x0))) (rec (.val (get x0 .val))))) (rec (.val -1)))\n",
+        "omega 2\n(rec (a (rec (.val int))) (b (rec (.val int))))\n(call (fn (rec (.val int)) (call (fn (rec (.val int)) (rec (a x1) (b x0))) (rec (.val (get x0 .val))))) (rec (.val -1)))\n",
     ),
 ];
 
@@ -76,7 +76,7 @@ fn refused_sources(rt: HostRuntime) -> Result<(), Fail> {
 
 // The replies of the proper fronts of `val x = 1 + 2`, from the shortest to the longest.
 const FRONTS: [&str; 13] = [
-    "omega 1\n(rec)\n(rec)\n",
+    "omega 2\n(rec)\n(rec)\n",
     "refused Syntax 0\n",
     "refused Syntax 0\n",
     "refused Syntax 1\n",
@@ -126,7 +126,7 @@ fn nested_parentheses(rt: HostRuntime) -> Result<(), Fail> {
 fn bindings(alloc: Global, count: usize, last: &str) -> Result<String, Fail> {
     let fronts = "(call (fn (rec (.val int)) ".repeat(alloc, count)?;
     let backs = ") (rec (.val 1)))".repeat(alloc, count)?;
-    Ok(format!(in alloc; "omega 1\n(rec (x (rec (.val int))))\n{fronts}(rec (x {last})){backs}\n")?)
+    Ok(format!(in alloc; "omega 2\n(rec (x (rec (.val int))))\n{fronts}(rec (x {last})){backs}\n")?)
 }
 
 // The number of the binding `n` counts n + 3, and no token may count more than 1,000.

@@ -43,7 +43,7 @@ fn words_behind_the_end_of_options(rt: HostRuntime) -> Result<(), Fail> {
 // A command, how many spaces its source has, the status, and the reply.
 const LENGTHS: [(&str, usize, Status, &[u8]); 4] = [
     ("emit", 1048577, Status::TooLong, b""),
-    ("emit", 1048576, Status::Ok, b"omega 1\n(rec)\n(rec)\n"),
+    ("emit", 1048576, Status::Ok, b"omega 2\n(rec)\n(rec)\n"),
     ("check", 1048577, Status::TooLong, b""),
     ("check", 1048576, Status::Ok, b"pure (ex () (str))\n"),
 ];
@@ -77,7 +77,7 @@ fn writes_fail(rt: HostRuntime) -> Result<(), Fail> {
     assert!(rt; found.is(Status::WriteFault, b"", true));
     let small = MemSink::new(rt.alloc(), 9, 2, Vec::new(rt.alloc()))?;
     let found = tried(rt.alloc(), &["emit"], SUM, &[], small)?;
-    assert!(rt; found.is(Status::WriteFault, b"omega 1\n(", true));
+    assert!(rt; found.is(Status::WriteFault, b"omega 2\n(", true));
     Ok(())
 }
 

@@ -55,10 +55,20 @@ const ALL_TYPES: &str =
 const ALL_TERMS: &str =
     "(tfn * (call (fn (rec (x a0)) (open (pack a0 (get x0 x) (some * a1)) (if (< 1 -2) (rec (.gen (inst x0 a1)) (b \"b\")) false))) (fix int (-> int bool) (== (+ 1 (- 2 3)) (* 4 (/ 5 (% 6 x1)))))))";
 
-// The text of these two lines, read and written again.
-fn again(alloc: Global, ty: &str, term: &str) -> Result<bool, Fail> {
-    let text = format!(in alloc; "omega 1\n{ty}\n{term}\n")?;
-    let (ty, term) = read(alloc, text.as_bytes())?;
+// Types that have a text in the second version only.
+const SECOND_TYPES: [&str; 5] = [
+    "(sum)",
+    "(sum (a int) (b bool))",
+    "(mu a0)",
+    "(mu (sum (more (rec (head int) (tail a0))) (none (rec))))",
+    "(all * (-> (sum (a int) (b a0)) (mu (-> a1 int))))",
+];
+
+// The text of these two lines in a version, read and written again.
+fn again(alloc: Global, version: u64, ty: &str, term: &str) -> Result<bool, Fail> {
+    let given = format!(in alloc; "omega {version}\n{ty}\n{term}\n")?;
+    let text = format!(in alloc; "omega 2\n{ty}\n{term}\n")?;
+    let (ty, term) = read(alloc, given.as_bytes())?;
     let mut sink = MemSink::new(alloc, 4096, 3, Vec::new(alloc))?;
     let is_whole = write_omega(&mut sink, &ty, &term).is_ok();
     Ok(is_whole && sink.bytes() == text.as_bytes())
@@ -66,12 +76,17 @@ fn again(alloc: Global, ty: &str, term: &str) -> Result<bool, Fail> {
 
 #[test]
 fn each_form_goes_both_ways(rt: HostRuntime) -> Result<(), Fail> {
-    for ty in &TYPES {
-        assert!(rt; again(rt.alloc(), ty, "0")?, "at {ty}");
+    for version in 1..3 {
+        for ty in &TYPES {
+            assert!(rt; again(rt.alloc(), version, ty, "0")?, "at {ty}");
+        }
+        for term in &TERMS {
+            assert!(rt; again(rt.alloc(), version, "int", term)?, "at {term}");
+        }
+        assert!(rt; again(rt.alloc(), version, ALL_TYPES, ALL_TERMS)?);
     }
-    for term in &TERMS {
-        assert!(rt; again(rt.alloc(), "int", term)?, "at {term}");
+    for ty in &SECOND_TYPES {
+        assert!(rt; again(rt.alloc(), 2, ty, "0")?, "at {ty}");
     }
-    assert!(rt; again(rt.alloc(), ALL_TYPES, ALL_TERMS)?);
     Ok(())
 }

@@ -7,14 +7,43 @@ use std::alloc::Global;
 use std::process::Abort;
 use std::test::Fail;
 
-const WELL_TYPED: [&str; 6] = [
+// A function on sums that goes on for ever, whose result would be of a recursive type.
+const LOOP: &str =
+    "(all * (-> (sum (a int) (b a0)) (mu (-> a1 int))))\n(tfn * (fix (sum (a int) (b a0)) (mu (-> a1 int)) (call x0 x1)))\n";
+
+const WELL_TYPED: [&str; 9] = [
     SEALED,
     "omega 1\n(rec (x (rec (.val int))))\n(call (fn (rec (.val int)) (rec (x x0))) (rec (.val (+ 1 2))))\n",
     "omega 1\n(all * (-> a0 a0))\n(tfn * (fn a0 (open (pack a0 x0 (some * a1)) x0)))\n",
     "omega 1\n(-> int int)\n(fn (@ (lam * a0) int) x0)\n",
     "omega 1\n(all (> * *) (all (> (> * *) *) (-> (@ a1 a0) (@ a1 (lam * (@ a0 a2))))))\n(tfn (> * *) (tfn (> (> * *) *) (fn (@ a1 a0) x0)))\n",
     "omega 1\n(some * a0)\n(pack int 1 (@ (lam * (some * a1)) bool))\n",
+    "omega 2\n(rec (x (rec (.val int))))\n(call (fn (rec (.val int)) (rec (x x0))) (rec (.val (+ 1 2))))\n",
+    "omega 2\n(-> (sum (a int) (b bool)) (sum (a int) (b bool)))\n(fn (sum (a (@ (lam * a0) int)) (b bool)) x0)\n",
+    "omega 2\n(-> (sum) (mu a0))\n(fix (sum) (mu (@ (lam * a1) a0)) (call x0 x1))\n",
 ];
+
+#[test]
+fn sums_and_recursive_types(rt: HostRuntime) -> Result<(), Fail> {
+    let second = format!(in rt.alloc(); "omega 2\n{LOOP}")?;
+    replies(
+        &rt,
+        rt.alloc(),
+        &["verify"],
+        &second,
+        Status::Ok,
+        "well typed\n",
+    )?;
+    let first = format!(in rt.alloc(); "omega 1\n{LOOP}")?;
+    replies(
+        &rt,
+        rt.alloc(),
+        &["verify"],
+        &first,
+        Status::Refused,
+        "refused NotOmega\n",
+    )
+}
 
 #[test]
 fn well_typed_texts(rt: HostRuntime) -> Result<(), Fail> {
@@ -31,8 +60,26 @@ fn well_typed_texts(rt: HostRuntime) -> Result<(), Fail> {
     Ok(())
 }
 
-const REFUSED: [(&str, &str); 8] = [
+const REFUSED: [(&str, &str); 14] = [
     ("omega 7\n", "refused Version\n"),
+    ("omega 3\n(sum)\n0\n", "refused Version\n"),
+    ("omega 1\n(sum)\n0\n", "refused NotOmega\n"),
+    (
+        "omega 2\n(-> (sum (b int) (a int)) int)\n(fn (sum (b int) (a int)) 0)\n",
+        "refused NotOmega\n",
+    ),
+    (
+        "omega 2\n(-> (sum (a int)) (rec (a int)))\n(fn (sum (a int)) x0)\n",
+        "refused IllTyped\n",
+    ),
+    (
+        "omega 2\n(-> (mu (-> a0 int)) (-> (mu (-> a0 int)) int))\n(fn (mu (-> a0 int)) x0)\n",
+        "refused IllTyped\n",
+    ),
+    (
+        "omega 2\n(-> (mu (@ a0 int)) int)\n(fn (mu (@ a0 int)) 1)\n",
+        "refused IllTyped\n",
+    ),
     (
         "omega 1\n(rec (x (rec (.val int))))\n(call (fn (rec (.val int)) (rec (x x1))) (rec (.val (+ 1 2))))\n",
         "refused NotOmega\n",

@@ -8,7 +8,7 @@ use Rattle.omega_terms.specs.Typing.{HasType}
 use Rattle.omega_terms.specs.ValueText.{value_text}
 use Rattle.omega_spelling.specs.Omega.{OmegaText}
 use Rattle.omega_spelling.specs.Refused.{Refused}
-use Rattle.omega_spelling.proofs.Texts.{one-text}
+use Rattle.omega_spelling.proofs.Texts.{one-tree}
 use Rattle.omega_spelling.proofs.Refusing.{exclusive}
 use Rattle.omega_spelling.proofs.Answering.{unrefused}
 use Rattle.omega_laws.proofs.Runs.{outcome_unique}
@@ -95,7 +95,7 @@ one_counts_told budget m s r t u p q =
 
 -- a text is the text of one type and one term
 text_one : {bytes : List ℕ} {t u : Ty} {e d : Term} → OmegaText bytes t e → OmegaText bytes u d → (t ≡ u) × (e ≡ d)
-text_one {bytes} {t} {u} {e} {d} p q = one-text t u e d p.type_spelled q.type_spelled p.term_spelled q.term_spelled (sym p.text ∙ q.text)
+text_one {bytes} {t} {u} {e} {d} p q = one-tree bytes t u e d p q
 
 typed_again : {bytes : List ℕ} {t u : Ty} {e d : Term} → OmegaText bytes t e → OmegaText bytes u d → HasType [] [] e t → HasType [] [] d u
 typed_again {bytes} {t} {u} {e} {d} p q h = let same = text_one p q in subst (λ (v : Ty). HasType [] [] d v) same.0 (subst (λ (w : Term). HasType [] [] w t) same.1 h)

@@ -1,16 +1,17 @@
 -- What is read from whole texts, and what is refused.
-use Rattle.std.proofs.Common.{◌≡◌, ℕ, List, Some, None, false, true, refl, sym, inl, inr}
+use Rattle.std.proofs.Common.{◌≡◌, ℕ, List, Some, None, false, true, refl, inl, inr}
 use Rattle.std.specs.Prelude.{◌⊎◌, Result, Ok, Err}
 use Rattle.omega_types.specs.Ty.{Ty}
+use Rattle.omega_terms.specs.declared.version.Version as text
 use Rattle.omega_terms.specs.Term.{Term}
-use Rattle.omega_terms.specs.OmegaText.{omega_text}
+use Rattle.omega_terms.specs.OmegaText.{version_text}
 use Rattle.omega_spelling.specs.Spelled.{TySpelled}
 use Rattle.omega_spelling.specs.TermReading.{TermSpelled}
-use Rattle.omega_spelling.specs.Omega.{omega_at}
+use Rattle.omega_spelling.specs.Omega.{OmegaText, omega_at}
 use Rattle.omega_spelling.specs.Refusals.{is_version, is_too_deep, has_wide, zeroed}
 use Rattle.omega_spelling.specs.Refused.{IsVersion, IsTooDeep, IsWide, IsNotOmega, Refuses}
 use Rattle.omega_spelling.proofs.Wholes.{omega-takes}
-use Rattle.omega_spelling.proofs.Texts.{one-text}
+use Rattle.omega_spelling.proofs.Texts.{one-tree}
 use Rattle.omega_spelling.proofs.Answering.{unread, unrefused}
 use Rattle.omega_spelling.proofs.Zeroed.{not-wide}
 use Rattle.omega_read.specs.declared.whole.ReadRefusal.{ReadRefusal}
@@ -35,19 +36,20 @@ wide_refused bytes x v s w e = (v, s, ((x.0, x.1, omega-takes (zeroed bytes) x.0
 pub ruleset wholes = (whole_ok, narrow_refused, unread_refused, wide_refused)
 
 -- a text that is not too deep has one answer, unless memory runs out
-pub read_again : (t : Ty) (e : Term) → TySpelled 0 t → TermSpelled 0 0 e → is_too_deep (omega_text t e) ≡ false
-    → (answer : Result (Ty × Term) ReadRefusal) → ReadAs (omega_text t e) answer → (answer ≡ Ok (t, e)) ⊎ (answer ≡ Err Mem)
-read_again t e p q s (Ok x) h =
-    let same = one-text x.0 t x.1 e h.1.type_spelled p h.1.term_spelled q (text x h) in
-    inl (pair x same.0 same.1)
+pub read_again : (v : text.Version) (t : Ty) (e : Term) → TySpelled v 0 t → TermSpelled v 0 0 e → is_too_deep (version_text v t e) ≡ false
+    → (answer : Result (Ty × Term) ReadRefusal) → ReadAs (version_text v t e) answer → (answer ≡ Ok (t, e)) ⊎ (answer ≡ Err Mem)
+read_again v t e p q s answer h = go answer h
   where
-    text : (x : Ty × Term) → ReadAs (omega_text t e) (Ok x) → omega_text x.0 x.1 ≡ omega_text t e
-    text x h = sym h.1.text
+    own : OmegaText (version_text v t e) t e
+    own = (v, record { type_spelled = p; term_spelled = q; text = refl })
 
     pair : (x : Ty × Term) → x.0 ≡ t → x.1 ≡ e → (let r : Result (Ty × Term) ReadRefusal = Ok x in r) ≡ Ok (t, e)
     pair x a b = λ i. Ok (a i, b i)
-read_again t e p q s (Err Mem) h = inr refl
-read_again t e p q s (Err Version) h = absurd (unrefused (omega_text t e) t e (record { type_spelled = p; term_spelled = q; text = refl }) s IsVersion h)
-read_again t e p q s (Err TooDeep) h = absurd (unrefused (omega_text t e) t e (record { type_spelled = p; term_spelled = q; text = refl }) s IsTooDeep h)
-read_again t e p q s (Err Wide) h = absurd (unrefused (omega_text t e) t e (record { type_spelled = p; term_spelled = q; text = refl }) s IsWide h)
-read_again t e p q s (Err NotOmega) h = absurd (unrefused (omega_text t e) t e (record { type_spelled = p; term_spelled = q; text = refl }) s IsNotOmega h)
+
+    go : (answer : Result (Ty × Term) ReadRefusal) → ReadAs (version_text v t e) answer → (answer ≡ Ok (t, e)) ⊎ (answer ≡ Err Mem)
+    go (Ok x) h = let same = one-tree (version_text v t e) x.0 t x.1 e h.1 own in inl (pair x same.0 same.1)
+    go (Err Mem) h = inr refl
+    go (Err Version) h = absurd (unrefused (version_text v t e) t e own s IsVersion h)
+    go (Err TooDeep) h = absurd (unrefused (version_text v t e) t e own s IsTooDeep h)
+    go (Err Wide) h = absurd (unrefused (version_text v t e) t e own s IsWide h)
+    go (Err NotOmega) h = absurd (unrefused (version_text v t e) t e own s IsNotOmega h)

@@ -14,7 +14,7 @@ use crate::numbers::{number_of, signed_of};
 use crate::texts::text_of;
 use crate::types::ty_of;
 use omega_kinds::Label;
-use omega_terms::{Op, Term, TermFields, TermNode};
+use omega_terms::{Op, Term, TermFields, TermNode, Version};
 use std::alloc::Global;
 
 // A variable, behind the letter that begins it.
@@ -96,25 +96,26 @@ fn op_of(left: &mut Left<'_>) -> Result<Op, Stop>
     Err(Stop::NotOmega)
 }
 
-// A term with so many type variables and so many term variables in scope, and at most so many parentheses open at
+// A term of a version with so many type variables and so many term variables in scope, and at most so many parentheses open at
 // once.
 #[cycle(terms)]
 #[tactic(auto, using(crate::proofs::Unfold::term_unfold))]
 pub fn term_of(
     alloc: Global,
+    version: Version,
     depth: u32,
     types: u64,
     terms: u64,
     left: &mut Left<'_>,
 ) -> Result<Term, Stop>
     requires { types + depth < 2 ^ 64 × terms + 2 * depth < 2 ^ 64 }
-    ensures { Gives (λ e. e) result left.new.rest.now (term_at depth types terms left.old.rest.now) }
+    ensures { Gives (λ e. e) result left.new.rest.now (term_at version depth types terms left.old.rest.now) }
 {
     if depth == 0 {
         return leaf_of(alloc, terms, left);
     }
     if left.eat(b"(") {
-        return node_of(alloc, depth - 1, types, terms, left);
+        return node_of(alloc, version, depth - 1, types, terms, left);
     }
     leaf_of(alloc, terms, left)
 }
@@ -124,45 +125,46 @@ pub fn term_of(
 #[tactic(auto, unfolding(omega_spelling::specs::TermReading::term_node_at))]
 fn node_of(
     alloc: Global,
+    version: Version,
     depth: u32,
     types: u64,
     terms: u64,
     left: &mut Left<'_>,
 ) -> Result<Term, Stop>
     requires { types + depth + 1 < 2 ^ 64 × terms + 2 * depth + 2 < 2 ^ 64 }
-    ensures { Gives (λ e. e) result left.new.rest.now (term_node_at (kind_at depth) (ty_at depth) (term_at depth) types terms left.old.rest.now) }
+    ensures { Gives (λ e. e) result left.new.rest.now (term_node_at (kind_at depth) (ty_at version depth) (term_at version depth) types terms left.old.rest.now) }
 {
     if left.eat(b"fn ") {
-        return lam_of(alloc, depth, types, terms, left);
+        return lam_of(alloc, version, depth, types, terms, left);
     }
     if left.eat(b"call ") {
-        return call_of(alloc, depth, types, terms, left);
+        return call_of(alloc, version, depth, types, terms, left);
     }
     if left.eat(b"tfn ") {
-        return ty_lam_of(alloc, depth, types, terms, left);
+        return ty_lam_of(alloc, version, depth, types, terms, left);
     }
     if left.eat(b"inst ") {
-        return inst_of(alloc, depth, types, terms, left);
+        return inst_of(alloc, version, depth, types, terms, left);
     }
     if left.eat(b"rec") {
-        return record_of(alloc, depth, types, terms, left);
+        return record_of(alloc, version, depth, types, terms, left);
     }
     if left.eat(b"get ") {
-        return get_of(alloc, depth, types, terms, left);
+        return get_of(alloc, version, depth, types, terms, left);
     }
     if left.eat(b"pack ") {
-        return pack_of(alloc, depth, types, terms, left);
+        return pack_of(alloc, version, depth, types, terms, left);
     }
     if left.eat(b"open ") {
-        return unpack_of(alloc, depth, types, terms, left);
+        return unpack_of(alloc, version, depth, types, terms, left);
     }
     if left.eat(b"if ") {
-        return if_of(alloc, depth, types, terms, left);
+        return if_of(alloc, version, depth, types, terms, left);
     }
     if left.eat(b"fix ") {
-        return fix_of(alloc, depth, types, terms, left);
+        return fix_of(alloc, version, depth, types, terms, left);
     }
-    arith_of(alloc, depth, types, terms, left)
+    arith_of(alloc, version, depth, types, terms, left)
 }
 
 // A function, behind the word that begins it.
@@ -170,17 +172,18 @@ fn node_of(
 #[tactic(auto, unfolding(omega_spelling::specs::Reading::two))]
 fn lam_of(
     alloc: Global,
+    version: Version,
     depth: u32,
     types: u64,
     terms: u64,
     left: &mut Left<'_>,
 ) -> Result<Term, Stop>
     requires { types + depth + 1 < 2 ^ 64 × terms + 2 * depth + 2 < 2 ^ 64 }
-    ensures { Gives (λ e. e) result left.new.rest.now (two Lam (ty_at depth types) (term_at depth types (terms + 1)) left.old.rest.now) }
+    ensures { Gives (λ e. e) result left.new.rest.now (two Lam (ty_at version depth types) (term_at version depth types (terms + 1)) left.old.rest.now) }
 {
-    let first = ty_of(alloc, depth, types, left)?;
+    let first = ty_of(alloc, version, depth, types, left)?;
     left.expect_bytes(b" ")?;
-    let second = term_of(alloc, depth, types, terms + 1, left)?;
+    let second = term_of(alloc, version, depth, types, terms + 1, left)?;
     left.expect_bytes(b")")?;
     Ok(Term::make(alloc, TermNode::Lam(first, second))?)
 }
@@ -190,17 +193,18 @@ fn lam_of(
 #[tactic(auto, unfolding(omega_spelling::specs::Reading::two))]
 fn call_of(
     alloc: Global,
+    version: Version,
     depth: u32,
     types: u64,
     terms: u64,
     left: &mut Left<'_>,
 ) -> Result<Term, Stop>
     requires { types + depth + 1 < 2 ^ 64 × terms + 2 * depth + 2 < 2 ^ 64 }
-    ensures { Gives (λ e. e) result left.new.rest.now (two Call (term_at depth types terms) (term_at depth types terms) left.old.rest.now) }
+    ensures { Gives (λ e. e) result left.new.rest.now (two Call (term_at version depth types terms) (term_at version depth types terms) left.old.rest.now) }
 {
-    let first = term_of(alloc, depth, types, terms, left)?;
+    let first = term_of(alloc, version, depth, types, terms, left)?;
     left.expect_bytes(b" ")?;
-    let second = term_of(alloc, depth, types, terms, left)?;
+    let second = term_of(alloc, version, depth, types, terms, left)?;
     left.expect_bytes(b")")?;
     Ok(Term::make(alloc, TermNode::Call(first, second))?)
 }
@@ -210,17 +214,18 @@ fn call_of(
 #[tactic(auto, unfolding(omega_spelling::specs::Reading::two))]
 fn ty_lam_of(
     alloc: Global,
+    version: Version,
     depth: u32,
     types: u64,
     terms: u64,
     left: &mut Left<'_>,
 ) -> Result<Term, Stop>
     requires { types + depth + 1 < 2 ^ 64 × terms + 2 * depth + 2 < 2 ^ 64 }
-    ensures { Gives (λ e. e) result left.new.rest.now (two TyLam (kind_at depth) (term_at depth (types + 1) terms) left.old.rest.now) }
+    ensures { Gives (λ e. e) result left.new.rest.now (two TyLam (kind_at depth) (term_at version depth (types + 1) terms) left.old.rest.now) }
 {
     let first = kind_of(alloc, depth, left)?;
     left.expect_bytes(b" ")?;
-    let second = term_of(alloc, depth, types + 1, terms, left)?;
+    let second = term_of(alloc, version, depth, types + 1, terms, left)?;
     left.expect_bytes(b")")?;
     Ok(Term::make(alloc, TermNode::TyLam(first, second))?)
 }
@@ -230,17 +235,18 @@ fn ty_lam_of(
 #[tactic(auto, unfolding(omega_spelling::specs::Reading::two))]
 fn inst_of(
     alloc: Global,
+    version: Version,
     depth: u32,
     types: u64,
     terms: u64,
     left: &mut Left<'_>,
 ) -> Result<Term, Stop>
     requires { types + depth + 1 < 2 ^ 64 × terms + 2 * depth + 2 < 2 ^ 64 }
-    ensures { Gives (λ e. e) result left.new.rest.now (two Inst (term_at depth types terms) (ty_at depth types) left.old.rest.now) }
+    ensures { Gives (λ e. e) result left.new.rest.now (two Inst (term_at version depth types terms) (ty_at version depth types) left.old.rest.now) }
 {
-    let first = term_of(alloc, depth, types, terms, left)?;
+    let first = term_of(alloc, version, depth, types, terms, left)?;
     left.expect_bytes(b" ")?;
-    let second = ty_of(alloc, depth, types, left)?;
+    let second = ty_of(alloc, version, depth, types, left)?;
     left.expect_bytes(b")")?;
     Ok(Term::make(alloc, TermNode::Inst(first, second))?)
 }
@@ -250,15 +256,16 @@ fn inst_of(
 #[tactic(auto, unfolding(omega_spelling::specs::TermReading::term_record_at))]
 fn record_of(
     alloc: Global,
+    version: Version,
     depth: u32,
     types: u64,
     terms: u64,
     left: &mut Left<'_>,
 ) -> Result<Term, Stop>
     requires { types + depth + 1 < 2 ^ 64 × terms + 2 * depth + 2 < 2 ^ 64 }
-    ensures { Gives (λ e. e) result left.new.rest.now (term_record_at (term_at depth types terms) left.old.rest.now) }
+    ensures { Gives (λ e. e) result left.new.rest.now (term_record_at (term_at version depth types terms) left.old.rest.now) }
 {
-    let fields = fields_of(alloc, depth, types, terms, left)?;
+    let fields = fields_of(alloc, version, depth, types, terms, left)?;
     Ok(Term::make(alloc, TermNode::Fields(fields))?)
 }
 
@@ -267,15 +274,16 @@ fn record_of(
 #[tactic(auto, unfolding(omega_spelling::specs::Reading::two))]
 fn get_of(
     alloc: Global,
+    version: Version,
     depth: u32,
     types: u64,
     terms: u64,
     left: &mut Left<'_>,
 ) -> Result<Term, Stop>
     requires { types + depth + 1 < 2 ^ 64 × terms + 2 * depth + 2 < 2 ^ 64 }
-    ensures { Gives (λ e. e) result left.new.rest.now (two Get (term_at depth types terms) label_at left.old.rest.now) }
+    ensures { Gives (λ e. e) result left.new.rest.now (two Get (term_at version depth types terms) label_at left.old.rest.now) }
 {
-    let first = term_of(alloc, depth, types, terms, left)?;
+    let first = term_of(alloc, version, depth, types, terms, left)?;
     left.expect_bytes(b" ")?;
     let second = label_of(alloc, left)?;
     left.expect_bytes(b")")?;
@@ -287,19 +295,20 @@ fn get_of(
 #[tactic(auto, unfolding(omega_spelling::specs::Reading::two, omega_spelling::specs::TermReading::three))]
 fn pack_of(
     alloc: Global,
+    version: Version,
     depth: u32,
     types: u64,
     terms: u64,
     left: &mut Left<'_>,
 ) -> Result<Term, Stop>
     requires { types + depth + 1 < 2 ^ 64 × terms + 2 * depth + 2 < 2 ^ 64 }
-    ensures { Gives (λ e. e) result left.new.rest.now (three Pack (ty_at depth types) (term_at depth types terms) (ty_at depth types) left.old.rest.now) }
+    ensures { Gives (λ e. e) result left.new.rest.now (three Pack (ty_at version depth types) (term_at version depth types terms) (ty_at version depth types) left.old.rest.now) }
 {
-    let first = ty_of(alloc, depth, types, left)?;
+    let first = ty_of(alloc, version, depth, types, left)?;
     left.expect_bytes(b" ")?;
-    let second = term_of(alloc, depth, types, terms, left)?;
+    let second = term_of(alloc, version, depth, types, terms, left)?;
     left.expect_bytes(b" ")?;
-    let third = ty_of(alloc, depth, types, left)?;
+    let third = ty_of(alloc, version, depth, types, left)?;
     left.expect_bytes(b")")?;
     Ok(Term::make(alloc, TermNode::Pack(first, second, third))?)
 }
@@ -309,17 +318,18 @@ fn pack_of(
 #[tactic(auto, unfolding(omega_spelling::specs::Reading::two))]
 fn unpack_of(
     alloc: Global,
+    version: Version,
     depth: u32,
     types: u64,
     terms: u64,
     left: &mut Left<'_>,
 ) -> Result<Term, Stop>
     requires { types + depth + 1 < 2 ^ 64 × terms + 2 * depth + 2 < 2 ^ 64 }
-    ensures { Gives (λ e. e) result left.new.rest.now (two Unpack (term_at depth types terms) (term_at depth (types + 1) (terms + 1)) left.old.rest.now) }
+    ensures { Gives (λ e. e) result left.new.rest.now (two Unpack (term_at version depth types terms) (term_at version depth (types + 1) (terms + 1)) left.old.rest.now) }
 {
-    let first = term_of(alloc, depth, types, terms, left)?;
+    let first = term_of(alloc, version, depth, types, terms, left)?;
     left.expect_bytes(b" ")?;
-    let second = term_of(alloc, depth, types + 1, terms + 1, left)?;
+    let second = term_of(alloc, version, depth, types + 1, terms + 1, left)?;
     left.expect_bytes(b")")?;
     Ok(Term::make(alloc, TermNode::Unpack(first, second))?)
 }
@@ -329,19 +339,20 @@ fn unpack_of(
 #[tactic(auto, unfolding(omega_spelling::specs::Reading::two, omega_spelling::specs::TermReading::three))]
 fn if_of(
     alloc: Global,
+    version: Version,
     depth: u32,
     types: u64,
     terms: u64,
     left: &mut Left<'_>,
 ) -> Result<Term, Stop>
     requires { types + depth + 1 < 2 ^ 64 × terms + 2 * depth + 2 < 2 ^ 64 }
-    ensures { Gives (λ e. e) result left.new.rest.now (three If (term_at depth types terms) (term_at depth types terms) (term_at depth types terms) left.old.rest.now) }
+    ensures { Gives (λ e. e) result left.new.rest.now (three If (term_at version depth types terms) (term_at version depth types terms) (term_at version depth types terms) left.old.rest.now) }
 {
-    let first = term_of(alloc, depth, types, terms, left)?;
+    let first = term_of(alloc, version, depth, types, terms, left)?;
     left.expect_bytes(b" ")?;
-    let second = term_of(alloc, depth, types, terms, left)?;
+    let second = term_of(alloc, version, depth, types, terms, left)?;
     left.expect_bytes(b" ")?;
-    let third = term_of(alloc, depth, types, terms, left)?;
+    let third = term_of(alloc, version, depth, types, terms, left)?;
     left.expect_bytes(b")")?;
     Ok(Term::make(alloc, TermNode::If(first, second, third))?)
 }
@@ -351,19 +362,20 @@ fn if_of(
 #[tactic(auto, unfolding(omega_spelling::specs::Reading::two, omega_spelling::specs::TermReading::three))]
 fn fix_of(
     alloc: Global,
+    version: Version,
     depth: u32,
     types: u64,
     terms: u64,
     left: &mut Left<'_>,
 ) -> Result<Term, Stop>
     requires { types + depth + 1 < 2 ^ 64 × terms + 2 * depth + 2 < 2 ^ 64 }
-    ensures { Gives (λ e. e) result left.new.rest.now (three Fix (ty_at depth types) (ty_at depth types) (term_at depth types (terms + 2)) left.old.rest.now) }
+    ensures { Gives (λ e. e) result left.new.rest.now (three Fix (ty_at version depth types) (ty_at version depth types) (term_at version depth types (terms + 2)) left.old.rest.now) }
 {
-    let first = ty_of(alloc, depth, types, left)?;
+    let first = ty_of(alloc, version, depth, types, left)?;
     left.expect_bytes(b" ")?;
-    let second = ty_of(alloc, depth, types, left)?;
+    let second = ty_of(alloc, version, depth, types, left)?;
     left.expect_bytes(b" ")?;
-    let third = term_of(alloc, depth, types, terms + 2, left)?;
+    let third = term_of(alloc, version, depth, types, terms + 2, left)?;
     left.expect_bytes(b")")?;
     Ok(Term::make(alloc, TermNode::Fix(first, second, third))?)
 }
@@ -373,18 +385,19 @@ fn fix_of(
 #[tactic(auto, unfolding(omega_spelling::specs::Reading::two, omega_spelling::specs::TermReading::arith_at))]
 fn arith_of(
     alloc: Global,
+    version: Version,
     depth: u32,
     types: u64,
     terms: u64,
     left: &mut Left<'_>,
 ) -> Result<Term, Stop>
     requires { types + depth + 1 < 2 ^ 64 × terms + 2 * depth + 2 < 2 ^ 64 }
-    ensures { Gives (λ e. e) result left.new.rest.now (arith_at (term_at depth types terms) left.old.rest.now) }
+    ensures { Gives (λ e. e) result left.new.rest.now (arith_at (term_at version depth types terms) left.old.rest.now) }
 {
     let op = op_of(left)?;
-    let first = term_of(alloc, depth, types, terms, left)?;
+    let first = term_of(alloc, version, depth, types, terms, left)?;
     left.expect_bytes(b" ")?;
-    let second = term_of(alloc, depth, types, terms, left)?;
+    let second = term_of(alloc, version, depth, types, terms, left)?;
     left.expect_bytes(b")")?;
     Ok(Term::make(alloc, TermNode::Arith(op, first, second))?)
 }
@@ -393,13 +406,14 @@ fn arith_of(
 #[cycle(terms)]
 fn fields_of(
     alloc: Global,
+    version: Version,
     depth: u32,
     types: u64,
     terms: u64,
     left: &mut Left<'_>,
 ) -> Result<TermFields, Stop>
     requires { types + depth + 1 < 2 ^ 64 × terms + 2 * depth + 2 < 2 ^ 64 }
-    ensures { Gives (λ f. term_row f) result left.new.rest.now (fields_at End More (term_at depth types terms) (length left.old.rest.now) None left.old.rest.now) }
+    ensures { Gives (λ f. term_row f) result left.new.rest.now (fields_at End More (term_at version depth types terms) (length left.old.rest.now) None left.old.rest.now) }
 {
     let mut fields = TermFields::new(alloc);
     let turns = left.rest.len();
@@ -408,7 +422,7 @@ fn fields_of(
             left.expect_bytes(b")")?;
             return Ok(fields);
         }
-        let field = field_of(alloc, depth, types, terms, left)?;
+        let field = field_of(alloc, version, depth, types, terms, left)?;
         if !term_may_follow(&fields, &field.0) {
             return Err(Stop::NotOmega);
         }
@@ -422,17 +436,18 @@ fn fields_of(
 #[tactic(auto, unfolding(omega_spelling::specs::Reading::two, omega_spelling::specs::Reading::field_at))]
 fn field_of(
     alloc: Global,
+    version: Version,
     depth: u32,
     types: u64,
     terms: u64,
     left: &mut Left<'_>,
 ) -> Result<(Label, Term), Stop>
     requires { types + depth + 1 < 2 ^ 64 × terms + 2 * depth + 2 < 2 ^ 64 }
-    ensures { Gives (λ f. f) result left.new.rest.now (field_at (term_at depth types terms) left.old.rest.now) }
+    ensures { Gives (λ f. f) result left.new.rest.now (field_at (term_at version depth types terms) left.old.rest.now) }
 {
     let label = label_of(alloc, left)?;
     left.expect_bytes(b" ")?;
-    let part = term_of(alloc, depth, types, terms, left)?;
+    let part = term_of(alloc, version, depth, types, terms, left)?;
     left.expect_bytes(b")")?;
     Ok((label, part))
 }

@@ -3,12 +3,13 @@ ghost use Rattle.std.specs.Prelude.{◌≡◌, ◌⊎◌, Result, Ok, Err, None,
 ghost use Rattle.omega_types.specs.Ty.{Ty as TyTree};
 ghost use Rattle.omega_terms.specs.Term.{Term as TermTree};
 ghost use Rattle.omega_terms.specs.InScope.{TyInScope, TermInScope};
-ghost use Rattle.omega_terms.specs.OmegaText.{omega_text};
+ghost use Rattle.omega_terms.specs.declared.version.Version.{Version as VersionTree};
+ghost use Rattle.omega_terms.specs.OmegaText.{version_text};
 ghost use Rattle.omega_spelling.specs.Spelled.{TySpelled};
 ghost use Rattle.omega_spelling.specs.TermReading.{TermSpelled};
-ghost use Rattle.omega_spelling.specs.Omega.{omega_at};
+ghost use Rattle.omega_spelling.specs.Omega.{version_at, omega_at};
 ghost use Rattle.omega_spelling.specs.Refusals.{is_version, other_version, is_too_deep};
-ghost use Rattle.omega_read.specs.Gives.{GivesAll};
+ghost use Rattle.omega_read.specs.Gives.{Gives, GivesAll};
 ghost use Rattle.omega_read.specs.ReadAs.{ReadAs, RefusedAs};
 
 use crate::depth::too_deep;
@@ -17,7 +18,7 @@ use crate::numbers::digits_len;
 use crate::terms::term_of;
 use crate::types::ty_of;
 use crate::wide::{any_wide, with_zeros};
-use omega_terms::Term;
+use omega_terms::{Term, Version};
 use omega_types::Ty;
 use std::alloc::Global;
 use thiserror::Error;
@@ -28,7 +29,7 @@ pub enum ReadRefusal {
     /// The bytes are no Omega text, and no other refusal holds.
     #[error("the bytes are no Omega text")]
     NotOmega,
-    /// The bytes begin with `omega `, one or more digits other than `1` alone, and a line end.
+    /// The bytes begin with `omega `, one or more digits other than `1` and `2` alone, and a line end.
     #[error("the text has another version")]
     Version,
     /// With each number replaced by 0 the bytes are Omega text, and some number is outside signed 64 bits.
@@ -49,7 +50,7 @@ fn is_other(digits: &[u8], rest: &[u8]) -> bool
     match (digits, rest) {
         ([], _) => false,
         ([_, ..], []) => false,
-        ([d], [e, ..]) => *e == b'\n' && *d != b'1',
+        ([d], [e, ..]) => *e == b'\n' && *d != b'1' && *d != b'2',
         ([_, _, ..], [e, ..]) => *e == b'\n',
     }
 }
@@ -68,16 +69,30 @@ fn has_other_version(bytes: &[u8]) -> bool
     is_other(digits, rest)
 }
 
+// The version that the first line names.
+#[tactic(auto, unfolding(omega_spelling::specs::Omega::version_at))]
+fn version_of(left: &mut Left<'_>) -> Result<Version, Stop>
+    ensures { Gives (λ v. v) result left.new.rest.now (version_at left.old.rest.now) }
+{
+    if left.eat(b"omega 1\n") {
+        return Ok(Version::First);
+    }
+    if left.eat(b"omega 2\n") {
+        return Ok(Version::Second);
+    }
+    Err(Stop::NotOmega)
+}
+
 // The type and the term of a whole text, with at most 4,000 parentheses open at once.
 #[tactic(auto, unfolding(omega_spelling::specs::Omega::omega_at))]
 fn omega_of(alloc: Global, bytes: &[u8]) -> Result<(Ty, Term), Stop>
     ensures { GivesAll (λ x. x) result (omega_at bytes.now) }
 {
     let mut left = Left { rest: bytes };
-    left.expect_bytes(b"omega 1\n")?;
-    let ty = ty_of(alloc, 4000, 0, &mut left)?;
+    let version = version_of(&mut left)?;
+    let ty = ty_of(alloc, version, 4000, 0, &mut left)?;
     left.expect_bytes(b"\n")?;
-    let term = term_of(alloc, 4000, 0, 0, &mut left)?;
+    let term = term_of(alloc, version, 4000, 0, 0, &mut left)?;
     left.expect_bytes(b"\n")?;
     match left.rest {
         [] => Ok((ty, term)),
@@ -106,7 +121,7 @@ fn refusal_of(alloc: Global, bytes: &[u8]) -> ReadRefusal
     }
 }
 
-/// The type and the term whose Omega text the bytes are. `Ok` comes exactly where they are such a text and no more
+/// The type and the term whose Omega text the bytes are, in the version that the first line names. `Ok` comes exactly where they are such a text and no more
 /// than 4,000 parentheses are open in it; each refusal but want of memory exactly where it is the first that holds.
 /// Both are closed, so that they can be written again.
 #[tactic(auto, using(crate::proofs::Wholes::wholes))]
@@ -127,10 +142,11 @@ pub fn read(alloc: Global, bytes: &[u8]) -> Result<(Ty, Term), ReadRefusal>
     }
 }
 
-/// A written text with at most 4,000 open parentheses, whose labels, texts and numbers have a spelling, is read back
-/// to the same type and term, unless memory runs out.
+/// A text of either version with at most 4,000 open parentheses, whose labels, texts and numbers have a spelling, is
+/// read back to the same type and term, unless memory runs out. What is written is the text of the second version.
 pub fn read_back()
-    ensures { (t : TyTree) (e : TermTree) → TySpelled 0 t → TermSpelled 0 0 e → is_too_deep (omega_text t e) ≡ false
-        → (answer : Result (TyTree × TermTree) ReadRefusal) → ReadAs (omega_text t e) answer
+    ensures { (v : VersionTree) (t : TyTree) (e : TermTree) → TySpelled v 0 t → TermSpelled v 0 0 e
+        → is_too_deep (version_text v t e) ≡ false
+        → (answer : Result (TyTree × TermTree) ReadRefusal) → ReadAs (version_text v t e) answer
         → (answer ≡ Ok (t, e)) ⊎ (answer ≡ Err ReadRefusal.Mem) }
 {}

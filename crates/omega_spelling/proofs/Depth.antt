@@ -7,7 +7,8 @@ use Rattle.omega_kinds.specs.Text.{◌then◌}
 use Rattle.omega_kinds.specs.declared.label.Label.{Label}
 use Rattle.omega_kinds.specs.declared.label.Label.TheVariants.{Val, Typ, Sig, App, Gen, Name}
 use Rattle.omega_kinds.specs.Kind.{Kind, Star, Arrow as ArrowKind}
-use Rattle.omega_types.specs.Ty.{Ty, Row, Var, Int, Bool as BoolTy, Text, Arrow, Fields, All, Ex, Lam, Apply, End, More}
+use Rattle.omega_types.specs.Ty.{Ty, Row, Var, Int, Bool as BoolTy, Text, Arrow, Fields, Sum, All, Ex, Mu, Lam, Apply, End, More}
+use Rattle.omega_terms.specs.declared.version.Version.{Version}
 use Rattle.omega_terms.specs.KindText.{kind_text, label_text}
 use Rattle.omega_terms.specs.TypeText.{ty_text, row_text}
 use Rattle.omega_spelling.specs.Spelled.{LabelSpelled, TySpelled, RowSpelled, kind_deep, deep, deep_row, is_hidden}
@@ -16,7 +17,7 @@ use Rattle.omega_spelling.specs.Refusals.{Outside, deep_from}
 use Rattle.std.proofs.lemmas.Fmt.{digits_decimal}
 use Rattle.omega_spelling.proofs.Steps.{and_ok}
 use Rattle.omega_spelling.proofs.Numbers.{own}
-use Rattle.omega_spelling.proofs.Types.{built-is, record-is, field-is}
+use Rattle.omega_spelling.proofs.Types.{built-is, closed-is, field-is}
 
 -- a byte that neither opens nor closes anything
 abbrev pub quiet : ℕ → Bool
@@ -153,10 +154,11 @@ var-shows : (n i : ℕ) → n - (i + 1) < 2 ^ 64 → Shows (codes "a" then decim
 unfolding ◌then◌
 var-shows n i lt = quiet-shows (97 ∷ decimal (n - (i + 1))) (rw (quiet-all is_ascii_digit refl refl refl (decimal (n - (i + 1))) (digits_decimal own (n - (i + 1)) lt)) refl)
 
-pub record-shows : (a : List ℕ) (da : ℕ) → Shows a da → (o c : ℕ) (rest : List ℕ) → deep_from Outside o c (codes "(rec" ++ (a ++ (41 ∷ rest))) ≡ false → Shallow o c (da + 1) rest
-record-shows a da sa o c rest e =
-    let s1 = open-step o c (codes "rec" ++ (a ++ (41 ∷ rest))) e in
-    let s2 = quiet-run (codes "rec") (o + 1) c (a ++ (41 ∷ rest)) refl s1.1 in
+-- a form of one part, or of fields
+pub closed-shows : (front a : List ℕ) (da : ℕ) → passes quiet front ≡ true → Shows a da → (o c : ℕ) (rest : List ℕ) → deep_from Outside o c (40 ∷ (front ++ (a ++ (41 ∷ rest)))) ≡ false → Shallow o c (da + 1) rest
+closed-shows front a da q sa o c rest e =
+    let s1 = open-step o c (front ++ (a ++ (41 ∷ rest))) e in
+    let s2 = quiet-run front (o + 1) c (a ++ (41 ∷ rest)) q s1.1 in
     let s3 = sa (o + 1) c (41 ∷ rest) s2 in
     let s6 = close-step (o + 1 + s3.more) (c + s3.more) rest s3.later in
     let j : o + (s3.more + 1) ≡ o + 1 + s3.more = omega arith in
@@ -186,33 +188,40 @@ field-shows l a b da db q sa sb o c rest e =
     deepest : (o c da db m : ℕ) → 0 < max da db → (0 < da → o + 1 + da ≤ c + 4000) → (0 < db → o + m + db ≤ c + m + 4000) → o + max da db ≤ c + 4000
     deepest o c da db m some x y = grind arith
 
-mutual
-  pub ty-shows : (t : Ty) (n : ℕ) → TySpelled n t → Shows (ty_text n t) (deep t)
-  ty-shows (Var i) n ok = var-shows n i ok.1
-  ty-shows Int n ok = quiet-shows (codes "int") refl
-  ty-shows BoolTy n ok = quiet-shows (codes "bool") refl
-  ty-shows Text n ok = quiet-shows (codes "text") refl
-  ty-shows (Arrow a b) n ok = λ o c rest e.
-      two-shows (codes "-> ") (ty_text n a) (ty_text n b) (deep a) (deep b) refl (ty-shows a n ok.0) (ty-shows b n ok.1) o c rest
-      (subst (λ (w : List ℕ). deep_from Outside o c w ≡ false) (built-is (codes "(-> ") (ty_text n a) (ty_text n b) rest) e)
-  ty-shows (Fields r) n ok = λ o c rest e.
-      record-shows (row_text n r) (deep_row r) (row-shows r n None ok) o c rest
-      (subst (λ (w : List ℕ). deep_from Outside o c w ≡ false) (record-is (codes "(rec") (row_text n r) rest) e)
-  ty-shows (All k b) n ok = λ o c rest e.
-      two-shows (codes "all ") (kind_text k) (ty_text (n + 1) b) (kind_deep k) (deep b) refl (kind-shows k) (ty-shows b (n + 1) ok) o c rest
-      (subst (λ (w : List ℕ). deep_from Outside o c w ≡ false) (built-is (codes "(all ") (kind_text k) (ty_text (n + 1) b) rest) e)
-  ty-shows (Ex k b) n ok = λ o c rest e.
-      two-shows (codes "some ") (kind_text k) (ty_text (n + 1) b) (kind_deep k) (deep b) refl (kind-shows k) (ty-shows b (n + 1) ok) o c rest
-      (subst (λ (w : List ℕ). deep_from Outside o c w ≡ false) (built-is (codes "(some ") (kind_text k) (ty_text (n + 1) b) rest) e)
-  ty-shows (Lam k b) n ok = λ o c rest e.
-      two-shows (codes "lam ") (kind_text k) (ty_text (n + 1) b) (kind_deep k) (deep b) refl (kind-shows k) (ty-shows b (n + 1) ok) o c rest
-      (subst (λ (w : List ℕ). deep_from Outside o c w ≡ false) (built-is (codes "(lam ") (kind_text k) (ty_text (n + 1) b) rest) e)
-  ty-shows (Apply a b) n ok = λ o c rest e.
-      two-shows (codes "@ ") (ty_text n a) (ty_text n b) (deep a) (deep b) refl (ty-shows a n ok.0) (ty-shows b n ok.1) o c rest
-      (subst (λ (w : List ℕ). deep_from Outside o c w ≡ false) (built-is (codes "(@ ") (ty_text n a) (ty_text n b) rest) e)
+module _ (v : Version) where
+  mutual
+    pub ty-shows : (t : Ty) (n : ℕ) → TySpelled v n t → Shows (ty_text n t) (deep t)
+    ty-shows (Var i) n ok = var-shows n i ok.1
+    ty-shows Int n ok = quiet-shows (codes "int") refl
+    ty-shows BoolTy n ok = quiet-shows (codes "bool") refl
+    ty-shows Text n ok = quiet-shows (codes "text") refl
+    ty-shows (Arrow a b) n ok = λ o c rest e.
+        two-shows (codes "-> ") (ty_text n a) (ty_text n b) (deep a) (deep b) refl (ty-shows a n ok.0) (ty-shows b n ok.1) o c rest
+        (subst (λ (w : List ℕ). deep_from Outside o c w ≡ false) (built-is (codes "(-> ") (ty_text n a) (ty_text n b) rest) e)
+    ty-shows (Fields r) n ok = λ o c rest e.
+        closed-shows (codes "rec") (row_text n r) (deep_row r) refl (row-shows r n None ok) o c rest
+        (subst (λ (w : List ℕ). deep_from Outside o c w ≡ false) (closed-is (codes "(rec") (row_text n r) rest) e)
+    ty-shows (Sum r) n ok = λ o c rest e.
+        closed-shows (codes "sum") (row_text n r) (deep_row r) refl (row-shows r n None ok.1) o c rest
+        (subst (λ (w : List ℕ). deep_from Outside o c w ≡ false) (closed-is (codes "(sum") (row_text n r) rest) e)
+    ty-shows (Mu b) n ok = λ o c rest e.
+        closed-shows (codes "mu ") (ty_text (n + 1) b) (deep b) refl (ty-shows b (n + 1) ok.1) o c rest
+        (subst (λ (w : List ℕ). deep_from Outside o c w ≡ false) (closed-is (codes "(mu ") (ty_text (n + 1) b) rest) e)
+    ty-shows (All k b) n ok = λ o c rest e.
+        two-shows (codes "all ") (kind_text k) (ty_text (n + 1) b) (kind_deep k) (deep b) refl (kind-shows k) (ty-shows b (n + 1) ok) o c rest
+        (subst (λ (w : List ℕ). deep_from Outside o c w ≡ false) (built-is (codes "(all ") (kind_text k) (ty_text (n + 1) b) rest) e)
+    ty-shows (Ex k b) n ok = λ o c rest e.
+        two-shows (codes "some ") (kind_text k) (ty_text (n + 1) b) (kind_deep k) (deep b) refl (kind-shows k) (ty-shows b (n + 1) ok) o c rest
+        (subst (λ (w : List ℕ). deep_from Outside o c w ≡ false) (built-is (codes "(some ") (kind_text k) (ty_text (n + 1) b) rest) e)
+    ty-shows (Lam k b) n ok = λ o c rest e.
+        two-shows (codes "lam ") (kind_text k) (ty_text (n + 1) b) (kind_deep k) (deep b) refl (kind-shows k) (ty-shows b (n + 1) ok) o c rest
+        (subst (λ (w : List ℕ). deep_from Outside o c w ≡ false) (built-is (codes "(lam ") (kind_text k) (ty_text (n + 1) b) rest) e)
+    ty-shows (Apply a b) n ok = λ o c rest e.
+        two-shows (codes "@ ") (ty_text n a) (ty_text n b) (deep a) (deep b) refl (ty-shows a n ok.0) (ty-shows b n ok.1) o c rest
+        (subst (λ (w : List ℕ). deep_from Outside o c w ≡ false) (built-is (codes "(@ ") (ty_text n a) (ty_text n b) rest) e)
 
-  row-shows : (r : Row) (n : ℕ) (last : Option Label) → RowSpelled n last r → Shows (row_text n r) (deep_row r)
-  row-shows End n last ok = quiet-shows [] refl
-  row-shows (More l t r) n last ok = λ o c rest e.
-      field-shows (label_text l) (ty_text n t) (row_text n r) (deep t) (deep_row r) (label-quiet l ok.1) (ty-shows t n ok.2) (row-shows r n (Some l) ok.3) o c rest
-      (subst (λ (w : List ℕ). deep_from Outside o c w ≡ false) (field-is (codes " (") (label_text l) (ty_text n t) (row_text n r) rest) e)
+    row-shows : (r : Row) (n : ℕ) (last : Option Label) → RowSpelled v n last r → Shows (row_text n r) (deep_row r)
+    row-shows End n last ok = quiet-shows [] refl
+    row-shows (More l t r) n last ok = λ o c rest e.
+        field-shows (label_text l) (ty_text n t) (row_text n r) (deep t) (deep_row r) (label-quiet l ok.1) (ty-shows t n ok.2) (row-shows r n (Some l) ok.3) o c rest
+        (subst (λ (w : List ℕ). deep_from Outside o c w ≡ false) (field-is (codes " (") (label_text l) (ty_text n t) (row_text n r) rest) e)

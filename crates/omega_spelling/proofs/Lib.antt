@@ -8,6 +8,7 @@ pub mod Quoted
 pub mod Terms
 pub mod Texts
 pub mod TermDepth
+pub mod Versions
 pub mod Narrow
 pub mod Wholes
 pub mod Zeroed

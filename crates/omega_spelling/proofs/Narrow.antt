@@ -15,7 +15,9 @@ use Rattle.omega_types.specs.Ty.{Ty, Row}
 use Rattle.omega_terms.specs.KindText.{kind_text, label_text}
 use Rattle.omega_terms.specs.TypeText.{ty_text, row_text}
 use Rattle.omega_terms.specs.TermText.{byte_text, term_text, term_row_text}
-use Rattle.omega_terms.specs.OmegaText.{omega_text}
+use Rattle.omega_terms.specs.declared.version.Version.{Version}
+use Rattle.omega_terms.specs.declared.version.Version.TheVariants.{First, Second}
+use Rattle.omega_terms.specs.OmegaText.{version_line, version_text}
 use Rattle.omega_spelling.specs.Spelled.{LabelSpelled, TySpelled, RowSpelled, is_hidden}
 use Rattle.omega_terms.specs.declared.op.Op.TheVariants.{Add, Sub, Mul, Div, Rem, Less, Equal}
 use Rattle.omega_terms.specs.Term.{Term, TermRow, Var, Int, Bool, Text, Lam, Call, TyLam, Inst, Fields, Get, Pack, Unpack, If, Arith, Fix, End, More}
@@ -25,7 +27,7 @@ use Rattle.omega_spelling.specs.Refusals.{Outside, Inside, in_item, is_wide, som
 use Rattle.omega_spelling.proofs.Steps.{and_ok, Stops}
 use Rattle.omega_spelling.proofs.Numbers.{own}
 use Rattle.omega_spelling.proofs.Quoted.{Sorted, quote, slash, line, other, sorted, differs}
-use Rattle.omega_spelling.proofs.Types.{below-test, built-is, record-is, field-is}
+use Rattle.omega_spelling.proofs.Types.{below-test, built-is, closed-is, field-is}
 use Rattle.omega_spelling.proofs.Terms.{three-is, quoted-is}
 use Rattle.omega_spelling.proofs.Depth.{or-cases}
 use Rattle.omega_spelling.proofs.Texts.{text-is}
@@ -149,6 +151,9 @@ two-narrow : (front a b : List ℕ) → Opens front → Narrow a → Narrow b �
 two-narrow front a b f na nb rest d =
     ap wide (built-is front a b rest) ∙ f (a ++ (32 ∷ (b ++ (41 ∷ rest)))) ∙ na (32 ∷ (b ++ (41 ∷ rest))) refl ∙ nb (41 ∷ rest) refl
 
+one-narrow : (front a : List ℕ) → Opens front → Narrow a → Narrow (front then a then codes ")")
+one-narrow front a f na rest d = ap wide (closed-is front a rest) ∙ f (a ++ (41 ∷ rest)) ∙ na (41 ∷ rest) refl
+
 three-narrow : (front a b c : List ℕ) → Opens front → Narrow a → Narrow b → Narrow c → Narrow (front then a then codes " " then b then codes " " then c then codes ")")
 three-narrow front a b c f na nb nc rest d =
     ap wide (three-is front a b c rest) ∙ f (a ++ (32 ∷ (b ++ (32 ∷ (c ++ (41 ∷ rest)))))) ∙ na (32 ∷ (b ++ (32 ∷ (c ++ (41 ∷ rest))))) refl ∙ nb (32 ∷ (c ++ (41 ∷ rest))) refl ∙ nc (41 ∷ rest) refl
@@ -157,9 +162,10 @@ three-narrow front a b c f na nb nc rest d =
 abbrev Closes : List ℕ → Type 0
 Closes text = (rest : List ℕ) → wide (text ++ (41 ∷ rest)) ≡ wide rest
 
-record-narrow : (a : List ℕ) → Closes a → ((rest : List ℕ) → Delimits (a ++ (41 ∷ rest))) → Narrow (codes "(rec" then a then codes ")")
-record-narrow a na da rest d =
-    ap wide (record-is (codes "(rec") a rest) ∙ item-end (codes "rec") (a ++ (41 ∷ rest)) refl (da rest) ∙ na rest
+-- a form of fields, which begins with this word
+row-narrow : (word a : List ℕ) → passes in_item word ≡ true → is_wide word ≡ false → Closes a → ((rest : List ℕ) → Delimits (a ++ (41 ∷ rest))) → Narrow ((40 ∷ word) then a then codes ")")
+row-narrow word a p n na da rest d =
+    ap wide (closed-is (40 ∷ word) a rest) ∙ item-narrow word p n (a ++ (41 ∷ rest)) (da rest) ∙ na rest
 
 field-narrow : (l a b : List ℕ) → Narrow l → Narrow a → Closes b → Closes (codes " (" then l then codes " " then a then codes ")" then b)
 field-narrow l a b nl na nb rest =
@@ -187,55 +193,62 @@ term-var : (n m i : ℕ) → m - (i + 1) < 2 ^ 64 → Narrow (term_text n m (Var
 unfolding ◌then◌
 term-var n m i lt = level-narrow 120 m i refl refl refl lt
 
-mutual
-  ty-narrow : (t : Ty) (n : ℕ) → TySpelled n t → Narrow (ty_text n t)
-  ty-narrow (types.Var i) n ok = ty-var n i ok.1
-  ty-narrow types.Int n ok = item-narrow (codes "int") refl refl
-  ty-narrow types.Bool n ok = item-narrow (codes "bool") refl refl
-  ty-narrow types.Text n ok = item-narrow (codes "text") refl refl
-  ty-narrow (types.Arrow a b) n ok = two-narrow (codes "(-> ") (ty_text n a) (ty_text n b) (λ w. refl) (ty-narrow a n ok.0) (ty-narrow b n ok.1)
-  ty-narrow (types.Fields r) n ok = record-narrow (row_text n r) (row-narrow r n None ok) (row-delimits n r)
-  ty-narrow (types.All k b) n ok = two-narrow (codes "(all ") (kind_text k) (ty_text (n + 1) b) (λ w. refl) (kind-narrow k) (ty-narrow b (n + 1) ok)
-  ty-narrow (types.Ex k b) n ok = two-narrow (codes "(some ") (kind_text k) (ty_text (n + 1) b) (λ w. refl) (kind-narrow k) (ty-narrow b (n + 1) ok)
-  ty-narrow (types.Lam k b) n ok = two-narrow (codes "(lam ") (kind_text k) (ty_text (n + 1) b) (λ w. refl) (kind-narrow k) (ty-narrow b (n + 1) ok)
-  ty-narrow (types.Apply a b) n ok = two-narrow (codes "(@ ") (ty_text n a) (ty_text n b) (λ w. refl) (ty-narrow a n ok.0) (ty-narrow b n ok.1)
+behind-line : (v : Version) (w : List ℕ) → (lines_cut (version_line v ++ w)).1 ≡ w
+behind-line First w = refl
+behind-line Second w = refl
 
-  row-narrow : (r : Row) (n : ℕ) (last : Option Label) → RowSpelled n last r → Closes (row_text n r)
-  row-narrow types.End n last ok = λ rest. refl
-  row-narrow (types.More l t r) n last ok = field-narrow (label_text l) (ty_text n t) (row_text n r) (label-narrow l ok.1) (ty-narrow t n ok.2) (row-narrow r n (Some l) ok.3)
+module _ (v : Version) where
+  mutual
+    ty-narrow : (t : Ty) (n : ℕ) → TySpelled v n t → Narrow (ty_text n t)
+    ty-narrow (types.Var i) n ok = ty-var n i ok.1
+    ty-narrow types.Int n ok = item-narrow (codes "int") refl refl
+    ty-narrow types.Bool n ok = item-narrow (codes "bool") refl refl
+    ty-narrow types.Text n ok = item-narrow (codes "text") refl refl
+    ty-narrow (types.Arrow a b) n ok = two-narrow (codes "(-> ") (ty_text n a) (ty_text n b) (λ w. refl) (ty-narrow a n ok.0) (ty-narrow b n ok.1)
+    ty-narrow (types.Fields r) n ok = row-narrow (codes "rec") (row_text n r) refl refl (fields-narrow r n None ok) (row-delimits n r)
+    ty-narrow (types.Sum r) n ok = row-narrow (codes "sum") (row_text n r) refl refl (fields-narrow r n None ok.1) (row-delimits n r)
+    ty-narrow (types.Mu b) n ok = one-narrow (codes "(mu ") (ty_text (n + 1) b) (λ w. refl) (ty-narrow b (n + 1) ok.1)
+    ty-narrow (types.All k b) n ok = two-narrow (codes "(all ") (kind_text k) (ty_text (n + 1) b) (λ w. refl) (kind-narrow k) (ty-narrow b (n + 1) ok)
+    ty-narrow (types.Ex k b) n ok = two-narrow (codes "(some ") (kind_text k) (ty_text (n + 1) b) (λ w. refl) (kind-narrow k) (ty-narrow b (n + 1) ok)
+    ty-narrow (types.Lam k b) n ok = two-narrow (codes "(lam ") (kind_text k) (ty_text (n + 1) b) (λ w. refl) (kind-narrow k) (ty-narrow b (n + 1) ok)
+    ty-narrow (types.Apply a b) n ok = two-narrow (codes "(@ ") (ty_text n a) (ty_text n b) (λ w. refl) (ty-narrow a n ok.0) (ty-narrow b n ok.1)
 
-mutual
-  term-narrow : (x : Term) (n m : ℕ) → TermSpelled n m x → Narrow (term_text n m x)
-  term-narrow (Var i) n m ok = term-var n m i ok.1
-  term-narrow (Int z) n m ok = signed-narrow z ok
-  term-narrow (Bool true) n m ok = item-narrow (codes "true") refl refl
-  term-narrow (Bool false) n m ok = item-narrow (codes "false") refl refl
-  term-narrow (Text bytes) n m ok = text-narrow bytes
-  term-narrow (Fields r) n m ok = record-narrow (term_row_text n m r) (term-row-narrow r n m None ok) (term-row-delimits n m r)
-  term-narrow (Lam t e) n m ok = two-narrow (codes "(fn ") (ty_text n t) (term_text n (m + 1) e) (λ w. refl) (ty-narrow t n ok.0) (term-narrow e n (m + 1) ok.1)
-  term-narrow (Call f a) n m ok = two-narrow (codes "(call ") (term_text n m f) (term_text n m a) (λ w. refl) (term-narrow f n m ok.0) (term-narrow a n m ok.1)
-  term-narrow (TyLam k e) n m ok = two-narrow (codes "(tfn ") (kind_text k) (term_text (n + 1) m e) (λ w. refl) (kind-narrow k) (term-narrow e (n + 1) m ok)
-  term-narrow (Inst f t) n m ok = two-narrow (codes "(inst ") (term_text n m f) (ty_text n t) (λ w. refl) (term-narrow f n m ok.0) (ty-narrow t n ok.1)
-  term-narrow (Get e l) n m ok = two-narrow (codes "(get ") (term_text n m e) (label_text l) (λ w. refl) (term-narrow e n m ok.0) (label-narrow l ok.1)
-  term-narrow (Pack t e u) n m ok = three-narrow (codes "(pack ") (ty_text n t) (term_text n m e) (ty_text n u) (λ w. refl) (ty-narrow t n ok.0) (term-narrow e n m ok.1) (ty-narrow u n ok.2)
-  term-narrow (Unpack e b) n m ok = two-narrow (codes "(open ") (term_text n m e) (term_text (n + 1) (m + 1) b) (λ w. refl) (term-narrow e n m ok.0) (term-narrow b (n + 1) (m + 1) ok.1)
-  term-narrow (If a b d) n m ok = three-narrow (codes "(if ") (term_text n m a) (term_text n m b) (term_text n m d) (λ w. refl) (term-narrow a n m ok.0) (term-narrow b n m ok.1) (term-narrow d n m ok.2)
-  term-narrow (Fix t u e) n m ok = three-narrow (codes "(fix ") (ty_text n t) (ty_text n u) (term_text n (m + 2) e) (λ w. refl) (ty-narrow t n ok.0) (ty-narrow u n ok.1) (term-narrow e n (m + 2) ok.2)
-  term-narrow (Arith Add a b) n m ok = two-narrow (codes "(+ ") (term_text n m a) (term_text n m b) (λ w. refl) (term-narrow a n m ok.0) (term-narrow b n m ok.1)
-  term-narrow (Arith Sub a b) n m ok = two-narrow (codes "(- ") (term_text n m a) (term_text n m b) (λ w. refl) (term-narrow a n m ok.0) (term-narrow b n m ok.1)
-  term-narrow (Arith Mul a b) n m ok = two-narrow (codes "(* ") (term_text n m a) (term_text n m b) (λ w. refl) (term-narrow a n m ok.0) (term-narrow b n m ok.1)
-  term-narrow (Arith Div a b) n m ok = two-narrow (codes "(/ ") (term_text n m a) (term_text n m b) (λ w. refl) (term-narrow a n m ok.0) (term-narrow b n m ok.1)
-  term-narrow (Arith Rem a b) n m ok = two-narrow (codes "(% ") (term_text n m a) (term_text n m b) (λ w. refl) (term-narrow a n m ok.0) (term-narrow b n m ok.1)
-  term-narrow (Arith Less a b) n m ok = two-narrow (codes "(< ") (term_text n m a) (term_text n m b) (λ w. refl) (term-narrow a n m ok.0) (term-narrow b n m ok.1)
-  term-narrow (Arith Equal a b) n m ok = two-narrow (codes "(== ") (term_text n m a) (term_text n m b) (λ w. refl) (term-narrow a n m ok.0) (term-narrow b n m ok.1)
+    fields-narrow : (r : Row) (n : ℕ) (last : Option Label) → RowSpelled v n last r → Closes (row_text n r)
+    fields-narrow types.End n last ok = λ rest. refl
+    fields-narrow (types.More l t r) n last ok = field-narrow (label_text l) (ty_text n t) (row_text n r) (label-narrow l ok.1) (ty-narrow t n ok.2) (fields-narrow r n (Some l) ok.3)
 
-  term-row-narrow : (r : TermRow) (n m : ℕ) (last : Option Label) → TermRowSpelled n m last r → Closes (term_row_text n m r)
-  term-row-narrow End n m last ok = λ rest. refl
-  term-row-narrow (More l t r) n m last ok = field-narrow (label_text l) (term_text n m t) (term_row_text n m r) (label-narrow l ok.1) (term-narrow t n m ok.2) (term-row-narrow r n m (Some l) ok.3)
+  mutual
+    term-narrow : (x : Term) (n m : ℕ) → TermSpelled v n m x → Narrow (term_text n m x)
+    term-narrow (Var i) n m ok = term-var n m i ok.1
+    term-narrow (Int z) n m ok = signed-narrow z ok
+    term-narrow (Bool true) n m ok = item-narrow (codes "true") refl refl
+    term-narrow (Bool false) n m ok = item-narrow (codes "false") refl refl
+    term-narrow (Text bytes) n m ok = text-narrow bytes
+    term-narrow (Fields r) n m ok = row-narrow (codes "rec") (term_row_text n m r) refl refl (term-row-narrow r n m None ok) (term-row-delimits n m r)
+    term-narrow (Lam t e) n m ok = two-narrow (codes "(fn ") (ty_text n t) (term_text n (m + 1) e) (λ w. refl) (ty-narrow t n ok.0) (term-narrow e n (m + 1) ok.1)
+    term-narrow (Call f a) n m ok = two-narrow (codes "(call ") (term_text n m f) (term_text n m a) (λ w. refl) (term-narrow f n m ok.0) (term-narrow a n m ok.1)
+    term-narrow (TyLam k e) n m ok = two-narrow (codes "(tfn ") (kind_text k) (term_text (n + 1) m e) (λ w. refl) (kind-narrow k) (term-narrow e (n + 1) m ok)
+    term-narrow (Inst f t) n m ok = two-narrow (codes "(inst ") (term_text n m f) (ty_text n t) (λ w. refl) (term-narrow f n m ok.0) (ty-narrow t n ok.1)
+    term-narrow (Get e l) n m ok = two-narrow (codes "(get ") (term_text n m e) (label_text l) (λ w. refl) (term-narrow e n m ok.0) (label-narrow l ok.1)
+    term-narrow (Pack t e u) n m ok = three-narrow (codes "(pack ") (ty_text n t) (term_text n m e) (ty_text n u) (λ w. refl) (ty-narrow t n ok.0) (term-narrow e n m ok.1) (ty-narrow u n ok.2)
+    term-narrow (Unpack e b) n m ok = two-narrow (codes "(open ") (term_text n m e) (term_text (n + 1) (m + 1) b) (λ w. refl) (term-narrow e n m ok.0) (term-narrow b (n + 1) (m + 1) ok.1)
+    term-narrow (If a b d) n m ok = three-narrow (codes "(if ") (term_text n m a) (term_text n m b) (term_text n m d) (λ w. refl) (term-narrow a n m ok.0) (term-narrow b n m ok.1) (term-narrow d n m ok.2)
+    term-narrow (Fix t u e) n m ok = three-narrow (codes "(fix ") (ty_text n t) (ty_text n u) (term_text n (m + 2) e) (λ w. refl) (ty-narrow t n ok.0) (ty-narrow u n ok.1) (term-narrow e n (m + 2) ok.2)
+    term-narrow (Arith Add a b) n m ok = two-narrow (codes "(+ ") (term_text n m a) (term_text n m b) (λ w. refl) (term-narrow a n m ok.0) (term-narrow b n m ok.1)
+    term-narrow (Arith Sub a b) n m ok = two-narrow (codes "(- ") (term_text n m a) (term_text n m b) (λ w. refl) (term-narrow a n m ok.0) (term-narrow b n m ok.1)
+    term-narrow (Arith Mul a b) n m ok = two-narrow (codes "(* ") (term_text n m a) (term_text n m b) (λ w. refl) (term-narrow a n m ok.0) (term-narrow b n m ok.1)
+    term-narrow (Arith Div a b) n m ok = two-narrow (codes "(/ ") (term_text n m a) (term_text n m b) (λ w. refl) (term-narrow a n m ok.0) (term-narrow b n m ok.1)
+    term-narrow (Arith Rem a b) n m ok = two-narrow (codes "(% ") (term_text n m a) (term_text n m b) (λ w. refl) (term-narrow a n m ok.0) (term-narrow b n m ok.1)
+    term-narrow (Arith Less a b) n m ok = two-narrow (codes "(< ") (term_text n m a) (term_text n m b) (λ w. refl) (term-narrow a n m ok.0) (term-narrow b n m ok.1)
+    term-narrow (Arith Equal a b) n m ok = two-narrow (codes "(== ") (term_text n m a) (term_text n m b) (λ w. refl) (term-narrow a n m ok.0) (term-narrow b n m ok.1)
 
--- in an Omega text each number is one of signed 64 bits
-pub text-not-wide : (t : Ty) (e : Term) → TySpelled 0 t → TermSpelled 0 0 e → has_wide (omega_text t e) ≡ false
-unfolding has_wide
-text-not-wide t e p q =
-    subst (λ (w : List ℕ). wide (lines_cut w).1 ≡ false) (sym (text-is t e))
-    (ty-narrow t 0 p (10 ∷ (term_text 0 0 e ++ (10 ∷ []))) refl ∙ term-narrow e 0 0 q (10 ∷ []) refl)
+    term-row-narrow : (r : TermRow) (n m : ℕ) (last : Option Label) → TermRowSpelled v n m last r → Closes (term_row_text n m r)
+    term-row-narrow End n m last ok = λ rest. refl
+    term-row-narrow (More l t r) n m last ok = field-narrow (label_text l) (term_text n m t) (term_row_text n m r) (label-narrow l ok.1) (term-narrow t n m ok.2) (term-row-narrow r n m (Some l) ok.3)
+
+  -- in an Omega text each number is one of signed 64 bits
+  pub text-not-wide : (t : Ty) (e : Term) → TySpelled v 0 t → TermSpelled v 0 0 e → has_wide (version_text v t e) ≡ false
+  unfolding has_wide
+  text-not-wide t e p q =
+      subst (λ (w : List ℕ). wide (lines_cut w).1 ≡ false) (sym (text-is v t e))
+      (ap wide (behind-line v (ty_text 0 t ++ (10 ∷ (term_text 0 0 e ++ (10 ∷ []))))) ∙ ty-narrow t 0 p (10 ∷ (term_text 0 0 e ++ (10 ∷ []))) refl ∙ term-narrow e 0 0 q (10 ∷ []) refl)

@@ -9,6 +9,7 @@ use Rattle.omega_terms.specs.KindText.{kind_text, label_text}
 use Rattle.omega_terms.specs.TypeText.{ty_text}
 use Rattle.omega_terms.specs.TermText.{byte_text, term_text, term_row_text}
 use Rattle.omega_spelling.specs.Spelled.{kind_deep, deep}
+use Rattle.omega_terms.specs.declared.version.Version.{Version}
 use Rattle.omega_terms.specs.declared.op.Op.TheVariants.{Add, Sub, Mul, Div, Rem, Less, Equal}
 use Rattle.omega_terms.specs.Term.{Term, TermRow, Var, Int, Bool, Text, Lam, Call, TyLam, Inst, Fields, Get, Pack, Unpack, If, Arith, Fix, End, More}
 use Rattle.omega_spelling.specs.Reading.{passes}
@@ -17,9 +18,9 @@ use Rattle.omega_spelling.specs.Refusals.{Outside, Inside, Escaped, deep_from}
 use Rattle.omega_kinds.specs.declared.label.Label.{Label}
 use Rattle.omega_spelling.proofs.Numbers.{own}
 use Rattle.omega_spelling.proofs.Quoted.{Sorted, quote, slash, line, other, sorted}
-use Rattle.omega_spelling.proofs.Types.{built-is, record-is, field-is}
+use Rattle.omega_spelling.proofs.Types.{built-is, closed-is, field-is}
 use Rattle.omega_spelling.proofs.Terms.{three-is, quoted-is}
-use Rattle.omega_spelling.proofs.Depth.{quiet, quiet-all, quiet-run, quiet-shows, open-step, close-step, or-no, Shows, Shallow, two-shows, record-shows, field-shows, kind-shows, label-quiet, ty-shows}
+use Rattle.omega_spelling.proofs.Depth.{quiet, quiet-all, quiet-run, quiet-shows, open-step, close-step, or-no, Shows, Shallow, two-shows, closed-shows, field-shows, kind-shows, label-quiet, ty-shows}
 
 -- a byte in a text literal, which counts nothing
 inside-step : (b o c : ℕ) (w : List ℕ) → (b == 92) ≡ false → (b == 34) ≡ false → deep_from Inside o c (b ∷ w) ≡ false → deep_from Inside o c w ≡ false
@@ -100,67 +101,68 @@ three-shows front a b d da db dd q sa sb sd o c rest e =
 zero-max : (o c d : ℕ) (rest : List ℕ) → Shallow o c (max d 0 + 1) rest → Shallow o c (d + 1) rest
 zero-max o c d rest s = let k : max d 0 ≡ d = omega arith in rw k at s
 
-mutual
-  pub term-shows : (x : Term) (n m : ℕ) → TermSpelled n m x → Shows (term_text n m x) (term_deep x)
-  term-shows (Var i) n m ok = var-shows m i ok.1
-  term-shows (Int z) n m ok = signed-shows z ok
-  term-shows (Bool true) n m ok = quiet-shows (codes "true") refl
-  term-shows (Bool false) n m ok = quiet-shows (codes "false") refl
-  term-shows (Text bytes) n m ok = text-shows bytes
-  term-shows (Fields r) n m ok = λ o c rest e.
-      record-shows (term_row_text n m r) (term_deep_row r) (term-row-shows r n m None ok) o c rest
-      (subst (λ (w : List ℕ). deep_from Outside o c w ≡ false) (record-is (codes "(rec") (term_row_text n m r) rest) e)
-  term-shows (Lam t e) n m ok = λ o c rest h.
-      two-shows (codes "fn ") (ty_text n t) (term_text n (m + 1) e) (deep t) (term_deep e) refl (ty-shows t n ok.0) (term-shows e n (m + 1) ok.1) o c rest
-      (subst (λ (w : List ℕ). deep_from Outside o c w ≡ false) (built-is (codes "(fn ") (ty_text n t) (term_text n (m + 1) e) rest) h)
-  term-shows (Call f a) n m ok = λ o c rest h.
-      two-shows (codes "call ") (term_text n m f) (term_text n m a) (term_deep f) (term_deep a) refl (term-shows f n m ok.0) (term-shows a n m ok.1) o c rest
-      (subst (λ (w : List ℕ). deep_from Outside o c w ≡ false) (built-is (codes "(call ") (term_text n m f) (term_text n m a) rest) h)
-  term-shows (TyLam k e) n m ok = λ o c rest h.
-      two-shows (codes "tfn ") (kind_text k) (term_text (n + 1) m e) (kind_deep k) (term_deep e) refl (kind-shows k) (term-shows e (n + 1) m ok) o c rest
-      (subst (λ (w : List ℕ). deep_from Outside o c w ≡ false) (built-is (codes "(tfn ") (kind_text k) (term_text (n + 1) m e) rest) h)
-  term-shows (Inst f t) n m ok = λ o c rest h.
-      two-shows (codes "inst ") (term_text n m f) (ty_text n t) (term_deep f) (deep t) refl (term-shows f n m ok.0) (ty-shows t n ok.1) o c rest
-      (subst (λ (w : List ℕ). deep_from Outside o c w ≡ false) (built-is (codes "(inst ") (term_text n m f) (ty_text n t) rest) h)
-  term-shows (Get e l) n m ok = λ o c rest h.
-      zero-max o c (term_deep e) rest (two-shows (codes "get ") (term_text n m e) (label_text l) (term_deep e) 0 refl (term-shows e n m ok.0) (quiet-shows (label_text l) (label-quiet l ok.1)) o c rest
-      (subst (λ (w : List ℕ). deep_from Outside o c w ≡ false) (built-is (codes "(get ") (term_text n m e) (label_text l) rest) h))
-  term-shows (Pack t e u) n m ok = λ o c rest h.
-      three-shows (codes "pack ") (ty_text n t) (term_text n m e) (ty_text n u) (deep t) (term_deep e) (deep u) refl (ty-shows t n ok.0) (term-shows e n m ok.1) (ty-shows u n ok.2) o c rest
-      (subst (λ (w : List ℕ). deep_from Outside o c w ≡ false) (three-is (codes "(pack ") (ty_text n t) (term_text n m e) (ty_text n u) rest) h)
-  term-shows (Unpack e b) n m ok = λ o c rest h.
-      two-shows (codes "open ") (term_text n m e) (term_text (n + 1) (m + 1) b) (term_deep e) (term_deep b) refl (term-shows e n m ok.0) (term-shows b (n + 1) (m + 1) ok.1) o c rest
-      (subst (λ (w : List ℕ). deep_from Outside o c w ≡ false) (built-is (codes "(open ") (term_text n m e) (term_text (n + 1) (m + 1) b) rest) h)
-  term-shows (If a b d) n m ok = λ o c rest h.
-      three-shows (codes "if ") (term_text n m a) (term_text n m b) (term_text n m d) (term_deep a) (term_deep b) (term_deep d) refl (term-shows a n m ok.0) (term-shows b n m ok.1) (term-shows d n m ok.2) o c rest
-      (subst (λ (w : List ℕ). deep_from Outside o c w ≡ false) (three-is (codes "(if ") (term_text n m a) (term_text n m b) (term_text n m d) rest) h)
-  term-shows (Fix t u e) n m ok = λ o c rest h.
-      three-shows (codes "fix ") (ty_text n t) (ty_text n u) (term_text n (m + 2) e) (deep t) (deep u) (term_deep e) refl (ty-shows t n ok.0) (ty-shows u n ok.1) (term-shows e n (m + 2) ok.2) o c rest
-      (subst (λ (w : List ℕ). deep_from Outside o c w ≡ false) (three-is (codes "(fix ") (ty_text n t) (ty_text n u) (term_text n (m + 2) e) rest) h)
-  term-shows (Arith Add a b) n m ok = λ o c rest h.
-      two-shows (codes "+ ") (term_text n m a) (term_text n m b) (term_deep a) (term_deep b) refl (term-shows a n m ok.0) (term-shows b n m ok.1) o c rest
-      (subst (λ (w : List ℕ). deep_from Outside o c w ≡ false) (built-is (codes "(+ ") (term_text n m a) (term_text n m b) rest) h)
-  term-shows (Arith Sub a b) n m ok = λ o c rest h.
-      two-shows (codes "- ") (term_text n m a) (term_text n m b) (term_deep a) (term_deep b) refl (term-shows a n m ok.0) (term-shows b n m ok.1) o c rest
-      (subst (λ (w : List ℕ). deep_from Outside o c w ≡ false) (built-is (codes "(- ") (term_text n m a) (term_text n m b) rest) h)
-  term-shows (Arith Mul a b) n m ok = λ o c rest h.
-      two-shows (codes "* ") (term_text n m a) (term_text n m b) (term_deep a) (term_deep b) refl (term-shows a n m ok.0) (term-shows b n m ok.1) o c rest
-      (subst (λ (w : List ℕ). deep_from Outside o c w ≡ false) (built-is (codes "(* ") (term_text n m a) (term_text n m b) rest) h)
-  term-shows (Arith Div a b) n m ok = λ o c rest h.
-      two-shows (codes "/ ") (term_text n m a) (term_text n m b) (term_deep a) (term_deep b) refl (term-shows a n m ok.0) (term-shows b n m ok.1) o c rest
-      (subst (λ (w : List ℕ). deep_from Outside o c w ≡ false) (built-is (codes "(/ ") (term_text n m a) (term_text n m b) rest) h)
-  term-shows (Arith Rem a b) n m ok = λ o c rest h.
-      two-shows (codes "% ") (term_text n m a) (term_text n m b) (term_deep a) (term_deep b) refl (term-shows a n m ok.0) (term-shows b n m ok.1) o c rest
-      (subst (λ (w : List ℕ). deep_from Outside o c w ≡ false) (built-is (codes "(% ") (term_text n m a) (term_text n m b) rest) h)
-  term-shows (Arith Less a b) n m ok = λ o c rest h.
-      two-shows (codes "< ") (term_text n m a) (term_text n m b) (term_deep a) (term_deep b) refl (term-shows a n m ok.0) (term-shows b n m ok.1) o c rest
-      (subst (λ (w : List ℕ). deep_from Outside o c w ≡ false) (built-is (codes "(< ") (term_text n m a) (term_text n m b) rest) h)
-  term-shows (Arith Equal a b) n m ok = λ o c rest h.
-      two-shows (codes "== ") (term_text n m a) (term_text n m b) (term_deep a) (term_deep b) refl (term-shows a n m ok.0) (term-shows b n m ok.1) o c rest
-      (subst (λ (w : List ℕ). deep_from Outside o c w ≡ false) (built-is (codes "(== ") (term_text n m a) (term_text n m b) rest) h)
+module _ (v : Version) where
+  mutual
+    pub term-shows : (x : Term) (n m : ℕ) → TermSpelled v n m x → Shows (term_text n m x) (term_deep x)
+    term-shows (Var i) n m ok = var-shows m i ok.1
+    term-shows (Int z) n m ok = signed-shows z ok
+    term-shows (Bool true) n m ok = quiet-shows (codes "true") refl
+    term-shows (Bool false) n m ok = quiet-shows (codes "false") refl
+    term-shows (Text bytes) n m ok = text-shows bytes
+    term-shows (Fields r) n m ok = λ o c rest e.
+        closed-shows (codes "rec") (term_row_text n m r) (term_deep_row r) refl (term-row-shows r n m None ok) o c rest
+        (subst (λ (w : List ℕ). deep_from Outside o c w ≡ false) (closed-is (codes "(rec") (term_row_text n m r) rest) e)
+    term-shows (Lam t e) n m ok = λ o c rest h.
+        two-shows (codes "fn ") (ty_text n t) (term_text n (m + 1) e) (deep t) (term_deep e) refl (ty-shows v t n ok.0) (term-shows e n (m + 1) ok.1) o c rest
+        (subst (λ (w : List ℕ). deep_from Outside o c w ≡ false) (built-is (codes "(fn ") (ty_text n t) (term_text n (m + 1) e) rest) h)
+    term-shows (Call f a) n m ok = λ o c rest h.
+        two-shows (codes "call ") (term_text n m f) (term_text n m a) (term_deep f) (term_deep a) refl (term-shows f n m ok.0) (term-shows a n m ok.1) o c rest
+        (subst (λ (w : List ℕ). deep_from Outside o c w ≡ false) (built-is (codes "(call ") (term_text n m f) (term_text n m a) rest) h)
+    term-shows (TyLam k e) n m ok = λ o c rest h.
+        two-shows (codes "tfn ") (kind_text k) (term_text (n + 1) m e) (kind_deep k) (term_deep e) refl (kind-shows k) (term-shows e (n + 1) m ok) o c rest
+        (subst (λ (w : List ℕ). deep_from Outside o c w ≡ false) (built-is (codes "(tfn ") (kind_text k) (term_text (n + 1) m e) rest) h)
+    term-shows (Inst f t) n m ok = λ o c rest h.
+        two-shows (codes "inst ") (term_text n m f) (ty_text n t) (term_deep f) (deep t) refl (term-shows f n m ok.0) (ty-shows v t n ok.1) o c rest
+        (subst (λ (w : List ℕ). deep_from Outside o c w ≡ false) (built-is (codes "(inst ") (term_text n m f) (ty_text n t) rest) h)
+    term-shows (Get e l) n m ok = λ o c rest h.
+        zero-max o c (term_deep e) rest (two-shows (codes "get ") (term_text n m e) (label_text l) (term_deep e) 0 refl (term-shows e n m ok.0) (quiet-shows (label_text l) (label-quiet l ok.1)) o c rest
+        (subst (λ (w : List ℕ). deep_from Outside o c w ≡ false) (built-is (codes "(get ") (term_text n m e) (label_text l) rest) h))
+    term-shows (Pack t e u) n m ok = λ o c rest h.
+        three-shows (codes "pack ") (ty_text n t) (term_text n m e) (ty_text n u) (deep t) (term_deep e) (deep u) refl (ty-shows v t n ok.0) (term-shows e n m ok.1) (ty-shows v u n ok.2) o c rest
+        (subst (λ (w : List ℕ). deep_from Outside o c w ≡ false) (three-is (codes "(pack ") (ty_text n t) (term_text n m e) (ty_text n u) rest) h)
+    term-shows (Unpack e b) n m ok = λ o c rest h.
+        two-shows (codes "open ") (term_text n m e) (term_text (n + 1) (m + 1) b) (term_deep e) (term_deep b) refl (term-shows e n m ok.0) (term-shows b (n + 1) (m + 1) ok.1) o c rest
+        (subst (λ (w : List ℕ). deep_from Outside o c w ≡ false) (built-is (codes "(open ") (term_text n m e) (term_text (n + 1) (m + 1) b) rest) h)
+    term-shows (If a b d) n m ok = λ o c rest h.
+        three-shows (codes "if ") (term_text n m a) (term_text n m b) (term_text n m d) (term_deep a) (term_deep b) (term_deep d) refl (term-shows a n m ok.0) (term-shows b n m ok.1) (term-shows d n m ok.2) o c rest
+        (subst (λ (w : List ℕ). deep_from Outside o c w ≡ false) (three-is (codes "(if ") (term_text n m a) (term_text n m b) (term_text n m d) rest) h)
+    term-shows (Fix t u e) n m ok = λ o c rest h.
+        three-shows (codes "fix ") (ty_text n t) (ty_text n u) (term_text n (m + 2) e) (deep t) (deep u) (term_deep e) refl (ty-shows v t n ok.0) (ty-shows v u n ok.1) (term-shows e n (m + 2) ok.2) o c rest
+        (subst (λ (w : List ℕ). deep_from Outside o c w ≡ false) (three-is (codes "(fix ") (ty_text n t) (ty_text n u) (term_text n (m + 2) e) rest) h)
+    term-shows (Arith Add a b) n m ok = λ o c rest h.
+        two-shows (codes "+ ") (term_text n m a) (term_text n m b) (term_deep a) (term_deep b) refl (term-shows a n m ok.0) (term-shows b n m ok.1) o c rest
+        (subst (λ (w : List ℕ). deep_from Outside o c w ≡ false) (built-is (codes "(+ ") (term_text n m a) (term_text n m b) rest) h)
+    term-shows (Arith Sub a b) n m ok = λ o c rest h.
+        two-shows (codes "- ") (term_text n m a) (term_text n m b) (term_deep a) (term_deep b) refl (term-shows a n m ok.0) (term-shows b n m ok.1) o c rest
+        (subst (λ (w : List ℕ). deep_from Outside o c w ≡ false) (built-is (codes "(- ") (term_text n m a) (term_text n m b) rest) h)
+    term-shows (Arith Mul a b) n m ok = λ o c rest h.
+        two-shows (codes "* ") (term_text n m a) (term_text n m b) (term_deep a) (term_deep b) refl (term-shows a n m ok.0) (term-shows b n m ok.1) o c rest
+        (subst (λ (w : List ℕ). deep_from Outside o c w ≡ false) (built-is (codes "(* ") (term_text n m a) (term_text n m b) rest) h)
+    term-shows (Arith Div a b) n m ok = λ o c rest h.
+        two-shows (codes "/ ") (term_text n m a) (term_text n m b) (term_deep a) (term_deep b) refl (term-shows a n m ok.0) (term-shows b n m ok.1) o c rest
+        (subst (λ (w : List ℕ). deep_from Outside o c w ≡ false) (built-is (codes "(/ ") (term_text n m a) (term_text n m b) rest) h)
+    term-shows (Arith Rem a b) n m ok = λ o c rest h.
+        two-shows (codes "% ") (term_text n m a) (term_text n m b) (term_deep a) (term_deep b) refl (term-shows a n m ok.0) (term-shows b n m ok.1) o c rest
+        (subst (λ (w : List ℕ). deep_from Outside o c w ≡ false) (built-is (codes "(% ") (term_text n m a) (term_text n m b) rest) h)
+    term-shows (Arith Less a b) n m ok = λ o c rest h.
+        two-shows (codes "< ") (term_text n m a) (term_text n m b) (term_deep a) (term_deep b) refl (term-shows a n m ok.0) (term-shows b n m ok.1) o c rest
+        (subst (λ (w : List ℕ). deep_from Outside o c w ≡ false) (built-is (codes "(< ") (term_text n m a) (term_text n m b) rest) h)
+    term-shows (Arith Equal a b) n m ok = λ o c rest h.
+        two-shows (codes "== ") (term_text n m a) (term_text n m b) (term_deep a) (term_deep b) refl (term-shows a n m ok.0) (term-shows b n m ok.1) o c rest
+        (subst (λ (w : List ℕ). deep_from Outside o c w ≡ false) (built-is (codes "(== ") (term_text n m a) (term_text n m b) rest) h)
 
-  term-row-shows : (r : TermRow) (n m : ℕ) (last : Option Label) → TermRowSpelled n m last r → Shows (term_row_text n m r) (term_deep_row r)
-  term-row-shows End n m last ok = quiet-shows [] refl
-  term-row-shows (More l t r) n m last ok = λ o c rest e.
-      field-shows (label_text l) (term_text n m t) (term_row_text n m r) (term_deep t) (term_deep_row r) (label-quiet l ok.1) (term-shows t n m ok.2) (term-row-shows r n m (Some l) ok.3) o c rest
-      (subst (λ (w : List ℕ). deep_from Outside o c w ≡ false) (field-is (codes " (") (label_text l) (term_text n m t) (term_row_text n m r) rest) e)
+    term-row-shows : (r : TermRow) (n m : ℕ) (last : Option Label) → TermRowSpelled v n m last r → Shows (term_row_text n m r) (term_deep_row r)
+    term-row-shows End n m last ok = quiet-shows [] refl
+    term-row-shows (More l t r) n m last ok = λ o c rest e.
+        field-shows (label_text l) (term_text n m t) (term_row_text n m r) (term_deep t) (term_deep_row r) (label-quiet l ok.1) (term-shows t n m ok.2) (term-row-shows r n m (Some l) ok.3) o c rest
+        (subst (λ (w : List ℕ). deep_from Outside o c w ≡ false) (field-is (codes " (") (label_text l) (term_text n m t) (term_row_text n m r) rest) e)

@@ -1,18 +1,20 @@
 -- Bytes whose numbers are replaced by 0 have no more open parentheses, so that they are read where they are a text.
-use Rattle.std.proofs.Common.{◌≡◌, ℕ, ◌+◌, ◌≤◌, Bool, true, false, cond, List, [], ◌∷◌, ◌++◌, Option, Some, None, refl, sym, ap, ◌∙◌, subst, append_assoc, arith}
-use Rattle.std.specs.Prelude.{codes, ◌==◌, nat_lt}
+use Rattle.std.proofs.Common.{◌≡◌, ℕ, ◌+◌, ◌≤◌, Bool, true, false, cond, List, [], ◌∷◌, ◌++◌, None, refl, sym, ap, ◌∙◌, subst, append_assoc, arith}
+use Rattle.std.specs.Prelude.{◌==◌, nat_lt}
 use Rattle.std.proofs.lemmas.Bool.Decides.{nat_tests}
 use Rattle.omega_kinds.specs.Text.{◌then◌}
 use Rattle.omega_types.specs.Ty.{Ty}
 use Rattle.omega_terms.specs.Term.{Term}
-use Rattle.omega_terms.specs.OmegaText.{omega_text}
+use Rattle.omega_terms.specs.declared.version.Version.{Version}
+use Rattle.omega_terms.specs.declared.version.Version.TheVariants.{First, Second}
+use Rattle.omega_terms.specs.OmegaText.{version_line, version_text}
 use Rattle.omega_spelling.specs.Reading.{passes}
 use Rattle.omega_spelling.specs.Refusals.{Place, Outside, Inside, Escaped, after, opens, closes, deep_from, is_too_deep, in_item, is_number, zeroed_item, zeroed_from, lines_cut, zeroed}
 use Rattle.omega_spelling.specs.Omega.{OmegaText, omega_at}
 use Rattle.omega_spelling.specs.Refused.{HasWide}
-use Rattle.omega_spelling.proofs.Steps.{and_ok}
+use Rattle.omega_spelling.proofs.Steps.{and_ok, some-none}
 use Rattle.omega_spelling.proofs.Depth.{quiet, quiet-run, quiet-all, or-no}
-use Rattle.omega_spelling.proofs.Wholes.{omega-again}
+use Rattle.omega_spelling.proofs.Wholes.{line-quiet, omega-again}
 
 -- the bounds that each byte is tested for
 not-past : (a b : ℕ) → nat_lt a b ≡ false → b ≤ a
@@ -124,27 +126,25 @@ line-stays (b ∷ bs) = pick (b == 10) refl (line-stays bs)
     pick true q more = rw q refl
     pick false q more = rw q (ap (λ (w : List ℕ). b ∷ w) more)
 
-text-line : (t : Ty) (e : Term) → (lines_cut (omega_text t e)).0 ≡ codes "omega 1\n"
+text-line : (v : Version) (t : Ty) (e : Term) → (lines_cut (version_text v t e)).0 ≡ version_line v
 unfolding ◌then◌
-text-line t e = refl
+text-line First t e = refl
+text-line Second t e = refl
 
 -- where the numbers are replaced by 0 and a text comes out, no more parentheses are open than before
 pub zeroed-shallow : (bytes : List ℕ) (t : Ty) (e : Term) → OmegaText (zeroed bytes) t e → is_too_deep bytes ≡ false → is_too_deep (zeroed bytes) ≡ false
 unfolding is_too_deep zeroed
-zeroed-shallow bytes t e text shallow =
-    let first : (lines_cut bytes).0 ≡ codes "omega 1\n" = sym (line-stays bytes) ∙ ap (λ (w : List ℕ). (lines_cut w).0) text.text ∙ text-line t e in
+zeroed-shallow bytes t e (v, text) shallow =
+    let first : (lines_cut bytes).0 ≡ version_line v = sym (line-stays bytes) ∙ ap (λ (w : List ℕ). (lines_cut w).0) text.text ∙ text-line v t e in
     let rest = (lines_cut bytes).1 in
-    let whole : bytes ≡ codes "omega 1\n" ++ rest = lines-join bytes ∙ ap (λ (w : List ℕ). w ++ rest) first in
-    let behind : deep_from Outside 0 0 rest ≡ false = quiet-run (codes "omega 1\n") 0 0 rest refl (subst (λ (w : List ℕ). deep_from Outside 0 0 w ≡ false) whole shallow) in
+    let whole : bytes ≡ version_line v ++ rest = lines-join bytes ∙ ap (λ (w : List ℕ). w ++ rest) first in
+    let behind : deep_from Outside 0 0 rest ≡ false = quiet-run (version_line v) 0 0 rest (line-quiet v) (subst (λ (w : List ℕ). deep_from Outside 0 0 w ≡ false) whole shallow) in
     let zero : deep_from Outside 0 0 (zeroed_from Outside [] rest) ≡ false = zeroed-falls rest Outside [] 0 0 refl (omega arith) behind in
     subst (λ (w : List ℕ). deep_from Outside 0 0 (w ++ zeroed_from Outside [] rest) ≡ false) (sym first)
-    (quiet-more (codes "omega 1\n") 0 0 (zeroed_from Outside [] rest) refl (omega arith) zero)
+    (quiet-more (version_line v) 0 0 (zeroed_from Outside [] rest) (line-quiet v) (omega arith) zero)
 
 -- bytes that are not read with each number replaced by 0 are not refused for a wide number
 pub not-wide : (bytes : List ℕ) → is_too_deep bytes ≡ false → omega_at (zeroed bytes) ≡ None → HasWide bytes → ⊥
 not-wide bytes shallow none h =
     let again = omega-again (zeroed bytes) h.0.0 h.0.1 h.0.2 (zeroed-shallow bytes h.0.0 h.0.1 h.0.2 shallow) in
     some-none (h.0.0, h.0.1) (sym again ∙ none)
-  where
-    some-none : (x : Ty × Term) → (let o : Option (Ty × Term) = Some x in o) ≡ None → ⊥
-    some-none x e = cc

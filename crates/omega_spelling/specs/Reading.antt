@@ -6,7 +6,9 @@ use Rattle.omega_kinds.specs.declared.label.Label.{Label}
 use Rattle.omega_kinds.specs.declared.label.Label.TheVariants.{Val, Typ, Sig, App, Gen, Name}
 use Rattle.omega_kinds.specs.LabelOrder.{label_before}
 use Rattle.omega_kinds.specs.Kind.{Kind, Star, Arrow as ArrowKind}
-use Rattle.omega_types.specs.Ty.{Ty, Var, Int, Bool as BoolTy, Text, Arrow, Fields, All, Ex, Lam, Apply, End, More}
+use Rattle.omega_types.specs.Ty.{Ty, Row, Var, Int, Bool as BoolTy, Text, Arrow, Fields, Sum, All, Ex, Mu, Lam, Apply, End, More}
+use Rattle.omega_terms.specs.declared.version.Version.{Version}
+use Rattle.omega_terms.specs.declared.version.Version.TheVariants.{First, Second}
 
 infixl 10 ◌>>=◌
 abbrev pub ◌>>=◌ : {A B : Type 0} → Option A → (A → Option B) → Option B
@@ -105,6 +107,13 @@ label_at bytes =
 
 -- ---- kinds
 
+-- one part and a parenthesis after it
+unfoldable pub one : {A B : Type 0} → (A → B) → Reader A → Reader B
+one mk f bytes = do
+  x ← f bytes
+  e ← strip (codes ")") x.1
+  Some (mk x.0, e)
+
 -- two parts with a space between them and a parenthesis after them
 unfoldable pub two : {A B C : Type 0} → (A → B → C) → Reader A → Reader B → Reader C
 two mk f g bytes = do
@@ -143,7 +152,7 @@ follows (Some k) l = label_before k l
 unfoldable pub field_at : {T : Type 0} → Reader T → Reader (Label × T)
 field_at {T} f bytes = two (λ (l : Label) (t : T). (l, t)) label_at f bytes
 
--- The fields up to the parenthesis that closes the record, in at most so many turns, behind the last label:
+-- The fields up to the parenthesis that closes the form, in at most so many turns, behind the last label:
 -- end is the row of no fields, and more puts a field in front of a row.
 unfoldable pub fields_at : {T R : Type 0} → R → (Label → T → R → R) → Reader T → ℕ → Option Label → Reader R
 fields_at end more f zero last bytes = None
@@ -154,20 +163,33 @@ fields_at end more f (suc k) last bytes =
       if follows last x.0.0 then Some (more x.0.0 x.0.1 r.0, r.1) else None)
     (choose (strip (codes ")") bytes) (λ rest. Some (end, rest)) None)
 
-unfoldable pub record_at : Reader Ty → Reader Ty
-record_at f bytes = fields_at End More f (length bytes) None bytes >>= λ x. Some (Fields x.0, x.1)
+-- a form of fields, as a record
+unfoldable pub row_at : (Row → Ty) → Reader Ty → Reader Ty
+row_at mk f bytes = fields_at End More f (length bytes) None bytes >>= λ x. Some (mk x.0, x.1)
+
+-- behind the parenthesis that opens a type of the second version only
+unfoldable pub second_node_at : (ℕ → Reader Ty) → ℕ → Reader Ty
+second_node_at f n bytes =
+    choose (strip (codes "sum") bytes) (row_at Sum (f n)) (
+    choose (strip (codes "mu ") bytes) (one Mu (f (n + 1))) None)
+
+-- behind the parenthesis that opens a type that the first version does not have
+abbrev pub later_node_at : Version → (ℕ → Reader Ty) → ℕ → Reader Ty
+later_node_at First f n bytes = None
+later_node_at Second f n bytes = second_node_at f n bytes
 
 -- behind the parenthesis that opens a type
-unfoldable pub node_at : Reader Kind → (ℕ → Reader Ty) → ℕ → Reader Ty
-node_at k f n bytes =
+unfoldable pub node_at : Version → Reader Kind → (ℕ → Reader Ty) → ℕ → Reader Ty
+node_at v k f n bytes =
     choose (strip (codes "-> ") bytes) (two Arrow (f n) (f n)) (
-    choose (strip (codes "rec") bytes) (record_at (f n)) (
+    choose (strip (codes "rec") bytes) (row_at Fields (f n)) (
     choose (strip (codes "all ") bytes) (two All k (f (n + 1))) (
     choose (strip (codes "some ") bytes) (two Ex k (f (n + 1))) (
     choose (strip (codes "lam ") bytes) (two Lam k (f (n + 1))) (
-    choose (strip (codes "@ ") bytes) (two Apply (f n) (f n)) None)))))
+    choose (strip (codes "@ ") bytes) (two Apply (f n) (f n)) (
+    later_node_at v f n bytes))))))
 
--- a type with n type variables in scope, and at most so many parentheses open at once
-unfoldable pub ty_at : ℕ → ℕ → Reader Ty
-ty_at zero n bytes = leaf_at n bytes
-ty_at (suc d) n bytes = choose (strip (codes "(") bytes) (node_at (kind_at d) (ty_at d) n) (leaf_at n bytes)
+-- a type of a version with n type variables in scope, and at most so many parentheses open at once
+unfoldable pub ty_at : Version → ℕ → ℕ → Reader Ty
+ty_at v zero n bytes = leaf_at n bytes
+ty_at v (suc d) n bytes = choose (strip (codes "(") bytes) (node_at v (kind_at d) (ty_at v d) n) (leaf_at n bytes)

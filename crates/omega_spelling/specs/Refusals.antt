@@ -8,14 +8,14 @@ use Rattle.omega_spelling.specs.Reading.{strip, run, passes, value_of}
 abbrev pub other_version : List ℕ × List ℕ → Bool
 other_version ([], rest) = false
 other_version (d ∷ ds, []) = false
-other_version (d ∷ [], e ∷ rest) = e == 10 && not (d == 49)
+other_version (d ∷ [], e ∷ rest) = e == 10 && not (d == 49 || d == 50)
 other_version (d ∷ d' ∷ ds, e ∷ rest) = e == 10
 
 abbrev pub version_from : Option (List ℕ) → Bool
 version_from None = false
 version_from (Some bytes) = other_version (run is_ascii_digit bytes)
 
--- `omega `, one or more digits that are not `1`, and a line end
+-- `omega `, one or more digits that are neither `1` nor `2`, and a line end
 unfoldable pub is_version : List ℕ → Bool
 is_version bytes = version_from (strip (codes "omega ") bytes)
 

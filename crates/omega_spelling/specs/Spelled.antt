@@ -1,10 +1,12 @@
--- Which labels and types have a spelling.
+-- Which labels and types have a spelling, in each version.
 use Rattle.std.specs.Prelude.{◌≡◌, ℕ, ◌+◌, ◌-◌, ◌^◌, ◌<◌, max, List, [], ◌∷◌, Bool, true, false, ◌&&◌, ◌||◌, ◌==◌, Option, Some, None}
 use Rattle.std.specs.Char.{is_ascii_digit}
 use Rattle.omega_kinds.specs.declared.label.Label.{Label}
 use Rattle.omega_kinds.specs.declared.label.Label.TheVariants.{Val, Typ, Sig, App, Gen, Name}
 use Rattle.omega_kinds.specs.Kind.{Kind, Star, Arrow as ArrowKind}
-use Rattle.omega_types.specs.Ty.{Ty, Row, Var, Int, Bool as BoolTy, Text, Arrow, Fields, All, Ex, Lam, Apply, End, More}
+use Rattle.omega_types.specs.Ty.{Ty, Row, Var, Int, Bool as BoolTy, Text, Arrow, Fields, Sum, All, Ex, Mu, Lam, Apply, End, More}
+use Rattle.omega_terms.specs.declared.version.Version.{Version}
+use Rattle.omega_terms.specs.declared.version.Version.TheVariants.{Second}
 use Rattle.omega_spelling.specs.Reading.{is_name, all_in_name, follows}
 
 abbrev pub is_hidden : List ℕ → Bool
@@ -21,23 +23,26 @@ LabelSpelled App = Unit {0}
 LabelSpelled Gen = Unit {0}
 LabelSpelled (Name bytes) = (is_name bytes && all_in_name bytes || is_hidden bytes) ≡ true
 
--- variables in scope, numbers of 64 bits, labels that have a spelling, and fields in strictly rising order
+-- Variables in scope, numbers of 64 bits, labels that have a spelling, and fields in strictly rising order.
+-- Sums and recursive types have a spelling in the second version only.
 abbrev mutual
-  pub TySpelled : ℕ → Ty → Type 0
-  TySpelled n (Var i) = (i < n) × (n - (i + 1) < 2 ^ 64)
-  TySpelled n Int = Unit {0}
-  TySpelled n BoolTy = Unit {0}
-  TySpelled n Text = Unit {0}
-  TySpelled n (Arrow a b) = TySpelled n a × TySpelled n b
-  TySpelled n (Fields r) = RowSpelled n None r
-  TySpelled n (All k b) = TySpelled (n + 1) b
-  TySpelled n (Ex k b) = TySpelled (n + 1) b
-  TySpelled n (Lam k b) = TySpelled (n + 1) b
-  TySpelled n (Apply f a) = TySpelled n f × TySpelled n a
+  pub TySpelled : Version → ℕ → Ty → Type 0
+  TySpelled v n (Var i) = (i < n) × (n - (i + 1) < 2 ^ 64)
+  TySpelled v n Int = Unit {0}
+  TySpelled v n BoolTy = Unit {0}
+  TySpelled v n Text = Unit {0}
+  TySpelled v n (Arrow a b) = TySpelled v n a × TySpelled v n b
+  TySpelled v n (Fields r) = RowSpelled v n None r
+  TySpelled v n (Sum r) = (v ≡ Second) × RowSpelled v n None r
+  TySpelled v n (All k b) = TySpelled v (n + 1) b
+  TySpelled v n (Ex k b) = TySpelled v (n + 1) b
+  TySpelled v n (Mu b) = (v ≡ Second) × TySpelled v (n + 1) b
+  TySpelled v n (Lam k b) = TySpelled v (n + 1) b
+  TySpelled v n (Apply f a) = TySpelled v n f × TySpelled v n a
 
-  pub RowSpelled : ℕ → Option Label → Row → Type 0
-  RowSpelled n last End = Unit {0}
-  RowSpelled n last (More l t r) = (follows last l ≡ true) × LabelSpelled l × TySpelled n t × RowSpelled n (Some l) r
+  pub RowSpelled : Version → ℕ → Option Label → Row → Type 0
+  RowSpelled v n last End = Unit {0}
+  RowSpelled v n last (More l t r) = (follows last l ≡ true) × LabelSpelled l × TySpelled v n t × RowSpelled v n (Some l) r
 
 -- how many forms with parts stand one in the other
 abbrev pub kind_deep : Kind → ℕ
@@ -52,8 +57,10 @@ abbrev mutual
   deep Text = 0
   deep (Arrow a b) = max (deep a) (deep b) + 1
   deep (Fields r) = deep_row r + 1
+  deep (Sum r) = deep_row r + 1
   deep (All k b) = max (kind_deep k) (deep b) + 1
   deep (Ex k b) = max (kind_deep k) (deep b) + 1
+  deep (Mu b) = deep b + 1
   deep (Lam k b) = max (kind_deep k) (deep b) + 1
   deep (Apply f a) = max (deep f) (deep a) + 1
 

@@ -1,10 +1,11 @@
--- Reading terms from bytes, and which terms have a spelling.
+-- Reading terms from bytes, and which terms have a spelling, in each version.
 use Rattle.std.specs.Prelude.{◌≡◌, ℕ, zero, suc, ◌+◌, ◌-◌, ◌^◌, ◌<◌, max, List, [], ◌∷◌, length, codes, Bool as Truth, true, false, not, ◌&&◌, ◌||◌, ◌==◌, nat_lt, if◌then◌else◌, Option, Some, None, ℤ, pos, negsuc}
 use Rattle.omega_kinds.specs.declared.label.Label.{Label}
 use Rattle.omega_kinds.specs.Kind.{Kind}
 use Rattle.omega_types.specs.Ty.{Ty}
 use Rattle.omega_spelling.specs.Reading.{◌>>=◌, Reader, strip, choose, two, number_at, label_at, kind_at, ty_at, follows, fields_at}
 use Rattle.omega_spelling.specs.Spelled.{LabelSpelled, TySpelled, kind_deep, deep}
+use Rattle.omega_terms.specs.declared.version.Version.{Version}
 use Rattle.omega_terms.specs.declared.op.Op.{Op}
 use Rattle.omega_terms.specs.declared.op.Op.TheVariants.{Add, Sub, Mul, Div, Rem, Less, Equal}
 use Rattle.omega_terms.specs.Term.{Term, TermRow, Var, Int, Bool, Text, Lam, Call, TyLam, Inst, Fields, Get, Pack, Unpack, If, Arith, Fix, End, More}
@@ -105,34 +106,34 @@ term_node_at k f e n m bytes =
     choose (strip (codes "fix ") bytes) (three Fix (f n) (f n) (e n (m + 2))) (
     arith_at (e n m) bytes))))))))))
 
--- a term with n type variables and m term variables in scope
-unfoldable pub term_at : ℕ → ℕ → ℕ → Reader Term
-term_at zero n m bytes = term_leaf_at m bytes
-term_at (suc d) n m bytes = choose (strip (codes "(") bytes) (term_node_at (kind_at d) (ty_at d) (term_at d) n m) (term_leaf_at m bytes)
+-- a term of a version with n type variables and m term variables in scope
+unfoldable pub term_at : Version → ℕ → ℕ → ℕ → Reader Term
+term_at v zero n m bytes = term_leaf_at m bytes
+term_at v (suc d) n m bytes = choose (strip (codes "(") bytes) (term_node_at (kind_at d) (ty_at v d) (term_at v d) n m) (term_leaf_at m bytes)
 
 -- ---- what has a spelling
 
 abbrev mutual
-  pub TermSpelled : ℕ → ℕ → Term → Type 0
-  TermSpelled n m (Var i) = (i < m) × (m - (i + 1) < 2 ^ 64)
-  TermSpelled n m (Int z) = SignedFits z
-  TermSpelled n m (Bool b) = Unit {0}
-  TermSpelled n m (Text bytes) = all_spelled bytes ≡ true
-  TermSpelled n m (Lam t e) = TySpelled n t × TermSpelled n (m + 1) e
-  TermSpelled n m (Call f a) = TermSpelled n m f × TermSpelled n m a
-  TermSpelled n m (TyLam k e) = TermSpelled (n + 1) m e
-  TermSpelled n m (Inst f t) = TermSpelled n m f × TySpelled n t
-  TermSpelled n m (Fields r) = TermRowSpelled n m None r
-  TermSpelled n m (Get e l) = TermSpelled n m e × LabelSpelled l
-  TermSpelled n m (Pack t e u) = TySpelled n t × TermSpelled n m e × TySpelled n u
-  TermSpelled n m (Unpack e b) = TermSpelled n m e × TermSpelled (n + 1) (m + 1) b
-  TermSpelled n m (If a b c) = TermSpelled n m a × TermSpelled n m b × TermSpelled n m c
-  TermSpelled n m (Arith op a b) = TermSpelled n m a × TermSpelled n m b
-  TermSpelled n m (Fix t u e) = TySpelled n t × TySpelled n u × TermSpelled n (m + 2) e
+  pub TermSpelled : Version → ℕ → ℕ → Term → Type 0
+  TermSpelled v n m (Var i) = (i < m) × (m - (i + 1) < 2 ^ 64)
+  TermSpelled v n m (Int z) = SignedFits z
+  TermSpelled v n m (Bool b) = Unit {0}
+  TermSpelled v n m (Text bytes) = all_spelled bytes ≡ true
+  TermSpelled v n m (Lam t e) = TySpelled v n t × TermSpelled v n (m + 1) e
+  TermSpelled v n m (Call f a) = TermSpelled v n m f × TermSpelled v n m a
+  TermSpelled v n m (TyLam k e) = TermSpelled v (n + 1) m e
+  TermSpelled v n m (Inst f t) = TermSpelled v n m f × TySpelled v n t
+  TermSpelled v n m (Fields r) = TermRowSpelled v n m None r
+  TermSpelled v n m (Get e l) = TermSpelled v n m e × LabelSpelled l
+  TermSpelled v n m (Pack t e u) = TySpelled v n t × TermSpelled v n m e × TySpelled v n u
+  TermSpelled v n m (Unpack e b) = TermSpelled v n m e × TermSpelled v (n + 1) (m + 1) b
+  TermSpelled v n m (If a b c) = TermSpelled v n m a × TermSpelled v n m b × TermSpelled v n m c
+  TermSpelled v n m (Arith op a b) = TermSpelled v n m a × TermSpelled v n m b
+  TermSpelled v n m (Fix t u e) = TySpelled v n t × TySpelled v n u × TermSpelled v n (m + 2) e
 
-  pub TermRowSpelled : ℕ → ℕ → Option Label → TermRow → Type 0
-  TermRowSpelled n m last End = Unit {0}
-  TermRowSpelled n m last (More l t r) = (follows last l ≡ true) × LabelSpelled l × TermSpelled n m t × TermRowSpelled n m (Some l) r
+  pub TermRowSpelled : Version → ℕ → ℕ → Option Label → TermRow → Type 0
+  TermRowSpelled v n m last End = Unit {0}
+  TermRowSpelled v n m last (More l t r) = (follows last l ≡ true) × LabelSpelled l × TermSpelled v n m t × TermRowSpelled v n m (Some l) r
 
 abbrev mutual
   pub term_deep : Term → ℕ

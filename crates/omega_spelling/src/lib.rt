@@ -1,30 +1,40 @@
-// Reading the text of System Fω, on lists of bytes, and why bytes are refused as such a text.
+// Reading the text of System Fω, of its first and its second version, on lists of bytes, and why bytes are refused as
+// such a text.
 // Stands on omega_terms, whose definitions say how each tree is spelled.
-// Proved: a text is the text of one type and one term (`one_text`); reading on lists gives exactly what the bytes spell,
-// where no more than 4,000 parentheses are open (`reading_is_exact`); exactly one refusal holds of all other bytes
-// (`one_refusal`), and none of those that are read (`texts_are_not_refused`).
+// Proved: a text is the text of one type and one term, in one version (`one_text`), and what has a text in the first
+// version has one in the second (`later_version`); reading on lists gives exactly what the bytes spell, where no more than
+// 4,000 parentheses are open (`reading_is_exact`); exactly one refusal holds of all other bytes (`one_refusal`), and
+// none of those that are read (`texts_are_not_refused`).
 #![tactic(auto)]
 
 ghost use Rattle.std.specs.Prelude.{◌≡◌, ◌↔◌, ◌⊎◌, List, ℕ, Some, false};
 ghost use Rattle.omega_types.specs.Ty.{Ty};
 ghost use Rattle.omega_terms.specs.Term.{Term};
 ghost use Rattle.omega_terms.specs.TypeText.{ty_text};
-ghost use Rattle.omega_terms.specs.OmegaText.{omega_text};
+ghost use Rattle.omega_terms.specs.declared.version.Version.{Version};
+ghost use Rattle.omega_terms.specs.OmegaText.{version_text};
 ghost use Rattle.omega_spelling.specs.Spelled.{TySpelled};
 ghost use Rattle.omega_spelling.specs.TermReading.{TermSpelled};
 ghost use Rattle.omega_spelling.specs.Omega.{OmegaText, IsOmega, omega_at};
 ghost use Rattle.omega_spelling.specs.Refusals.{is_version, is_too_deep, has_wide};
 ghost use Rattle.omega_spelling.specs.Refused.{Refused, Refuses};
 
-/// A text is the text of one type only.
+/// In each version a text is the text of one type only.
 pub fn one_type()
-    ensures { (n : ℕ) (t u : Ty) → TySpelled n t → TySpelled n u → ty_text n t ≡ ty_text n u → t ≡ u }
+    ensures { (v : Version) (n : ℕ) (t u : Ty) → TySpelled v n t → TySpelled v n u → ty_text n t ≡ ty_text n u → t ≡ u }
 {}
 
-/// A whole text is the text of one type and one term only.
+/// A whole text is the text of one type and one term only, in one version.
 pub fn one_text()
-    ensures { (t u : Ty) (e f : Term) → TySpelled 0 t → TySpelled 0 u → TermSpelled 0 0 e → TermSpelled 0 0 f →
-        omega_text t e ≡ omega_text u f → (t ≡ u) × (e ≡ f) }
+    ensures { (v w : Version) (t u : Ty) (e f : Term) → TySpelled v 0 t → TySpelled w 0 u →
+        TermSpelled v 0 0 e → TermSpelled w 0 0 f →
+        version_text v t e ≡ version_text w u f → (v ≡ w) × (t ≡ u) × (e ≡ f) }
+{}
+
+/// What has a spelling in the first version has one in the second.
+pub fn later_version()
+    ensures types { (n : ℕ) (t : Ty) → TySpelled Version.First n t → TySpelled Version.Second n t }
+    ensures terms { (n m : ℕ) (e : Term) → TermSpelled Version.First n m e → TermSpelled Version.Second n m e }
 {}
 
 /// Where no more than 4,000 parentheses are open, reading gives a type and a term exactly where the bytes are their

@@ -14,6 +14,7 @@ mod putting_types;
 mod shifting;
 mod theory;
 mod tree;
+mod version;
 mod walking;
 
 pub use counting::nodes;
@@ -25,4 +26,5 @@ pub use putting_types::put_type;
 pub use shifting::shift_term;
 pub use theory::{coercion_rows, typing};
 pub use tree::{Term, TermFields, TermNode, is_value};
+pub use version::Version;
 pub use walking::{Change, walk};

@@ -5,8 +5,13 @@ use omega_types::{Ty, TyNode};
 use std::alloc::Global;
 use std::test::Fail;
 
-/// The text of a type and a term with these texts.
+/// The text of a type and a term with these texts, as it is written.
 pub fn whole(alloc: Global, ty: &str, term: &str) -> Result<String, Fail> {
+    Ok(format!(in alloc; "omega 2\n{ty}\n{term}\n")?)
+}
+
+/// Their text in the first version.
+pub fn first_version(alloc: Global, ty: &str, term: &str) -> Result<String, Fail> {
     Ok(format!(in alloc; "omega 1\n{ty}\n{term}\n")?)
 }
 

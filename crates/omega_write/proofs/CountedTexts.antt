@@ -9,7 +9,7 @@ use Rattle.omega_terms.specs.KindText.{kind_text, label_text}
 use Rattle.omega_terms.specs.TypeText.{level_text, ty_text, row_text}
 use Rattle.omega_terms.specs.TermText.{op_front, term_text, term_row_text}
 use Rattle.omega_write.specs.Counted.{level_in, next_in, counted_ty, counted_row, counted_term, counted_term_row}
-use Rattle.omega_write.specs.Pieces.{two_text, three_text}
+use Rattle.omega_write.specs.Pieces.{one_text, two_text, three_text}
 
 -- c counts n modulo 2^64
 abbrev pub Counts : (c n : ℕ) → Type 0
@@ -31,11 +31,13 @@ mutual
   ty-counted c n Ty.Bool e s = refl
   ty-counted c n Ty.Text e s = refl
   ty-counted c n (Ty.Arrow a b) e s = ap₂ (two_text (codes "(-> ")) (ty-counted c n a e s.0) (ty-counted c n b e s.1)
-  ty-counted c n (Ty.Fields row) e s = ap (λ (w : List ℕ). codes "(rec" then w then codes ")") (row-counted c n row e s)
+  ty-counted c n (Ty.Fields row) e s = ap (one_text (codes "(rec")) (row-counted c n row e s)
+  ty-counted c n (Ty.Sum row) e s = ap (one_text (codes "(sum")) (row-counted c n row e s)
   ty-counted c n (Ty.All k b) e s =
       ap (two_text (codes "(all ") (kind_text k)) (ty-counted (next_in c) (n + 1) b (next-counts c n e) s)
   ty-counted c n (Ty.Ex k b) e s =
       ap (two_text (codes "(some ") (kind_text k)) (ty-counted (next_in c) (n + 1) b (next-counts c n e) s)
+  ty-counted c n (Ty.Mu b) e s = ap (one_text (codes "(mu ")) (ty-counted (next_in c) (n + 1) b (next-counts c n e) s)
   ty-counted c n (Ty.Lam k b) e s =
       ap (two_text (codes "(lam ") (kind_text k)) (ty-counted (next_in c) (n + 1) b (next-counts c n e) s)
   ty-counted c n (Ty.Apply f a) e s = ap₂ (two_text (codes "(@ ")) (ty-counted c n f e s.0) (ty-counted c n a e s.1)
@@ -64,7 +66,7 @@ mutual
   term-counted c d n m (Term.Inst e t) u v s =
       ap₂ (two_text (codes "(inst ")) (term-counted c d n m e u v s.0) (ty-counted c n t u s.1)
   term-counted c d n m (Term.Fields row) u v s =
-      ap (λ (w : List ℕ). codes "(rec" then w then codes ")") (term_row-counted c d n m row u v s)
+      ap (one_text (codes "(rec")) (term_row-counted c d n m row u v s)
   term-counted c d n m (Term.Get e l) u v s =
       ap (λ (w : List ℕ). two_text (codes "(get ") w (label_text l)) (term-counted c d n m e u v s)
   term-counted c d n m (Term.Pack t e w) u v s =

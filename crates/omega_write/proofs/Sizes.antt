@@ -21,8 +21,10 @@ abbrev mutual
   ty_size Ty.Text = 1
   ty_size (Ty.Arrow a b) = ty_size a + ty_size b + 1
   ty_size (Ty.Fields row) = row_size row + 1
+  ty_size (Ty.Sum row) = row_size row + 1
   ty_size (Ty.All k b) = kind_size k + ty_size b + 1
   ty_size (Ty.Ex k b) = kind_size k + ty_size b + 1
+  ty_size (Ty.Mu b) = ty_size b + 1
   ty_size (Ty.Lam k b) = kind_size k + ty_size b + 1
   ty_size (Ty.Apply f a) = ty_size f + ty_size a + 1
 

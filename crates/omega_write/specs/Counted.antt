@@ -22,8 +22,10 @@ abbrev mutual
   counted_ty n Ty.Text = codes "text"
   counted_ty n (Ty.Arrow a b) = codes "(-> " then counted_ty n a then codes " " then counted_ty n b then codes ")"
   counted_ty n (Ty.Fields row) = codes "(rec" then counted_row n row then codes ")"
+  counted_ty n (Ty.Sum row) = codes "(sum" then counted_row n row then codes ")"
   counted_ty n (Ty.All k b) = codes "(all " then kind_text k then codes " " then counted_ty (next_in n) b then codes ")"
   counted_ty n (Ty.Ex k b) = codes "(some " then kind_text k then codes " " then counted_ty (next_in n) b then codes ")"
+  counted_ty n (Ty.Mu b) = codes "(mu " then counted_ty (next_in n) b then codes ")"
   counted_ty n (Ty.Lam k b) = codes "(lam " then kind_text k then codes " " then counted_ty (next_in n) b then codes ")"
   counted_ty n (Ty.Apply f a) = codes "(@ " then counted_ty n f then codes " " then counted_ty n a then codes ")"
 

@@ -1,5 +1,5 @@
--- A type and a term whose text is compared byte for byte.
-use Rattle.std.specs.Prelude.{[], ◌∷◌, pos}
+-- A type and a term, and a type of lists, whose texts are compared byte for byte.
+use Rattle.std.specs.Prelude.{[], ◌∷◌, pos, codes}
 use Rattle.omega_kinds.specs.declared.label.Label.{Label}
 use Rattle.omega_types.specs.Ty.{Ty, Row}
 use Rattle.omega_terms.specs.declared.op.Op.{Op}
@@ -19,3 +19,11 @@ example_term =
     Term.Call
     (Term.Lam int_part (Term.Fields (TermRow.More (Label.Name (120 ∷ [])) (Term.Var 0) TermRow.End)))
     (Term.Fields (TermRow.More Label.Val (Term.Arith Op.Add (Term.Int (pos 1)) (Term.Int (pos 2))) TermRow.End))
+
+-- a list of numbers: a number and more, or none
+abbrev pub list_type : Ty
+list_type =
+    Ty.Mu
+    (Ty.Sum
+    (Row.More (Label.Name (codes "more")) (Ty.Fields (Row.More (Label.Name (codes "head")) Ty.Int (Row.More (Label.Name (codes "tail")) (Ty.Var 0) Row.End)))
+    (Row.More (Label.Name (codes "none")) (Ty.Fields Row.End) Row.End)))

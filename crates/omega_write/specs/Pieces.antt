@@ -27,11 +27,10 @@ pieces_text [] = []
 pieces_text (p ∷ []) = piece_text p
 pieces_text (p ∷ q ∷ ps) = piece_text p then pieces_text (q ∷ ps)
 
--- a record of fields
-abbrev pub record_text : (fields : List ℕ) → List ℕ
-record_text fields = codes "(rec" then fields then codes ")"
+-- forms of one part, or of fields, and of two and of three parts
+abbrev pub one_text : (front part : List ℕ) → List ℕ
+one_text front part = front then part then codes ")"
 
--- forms of two and of three parts
 abbrev pub two_text : (front first second : List ℕ) → List ℕ
 two_text front first second = front then first then codes " " then second then codes ")"
 

@@ -11,7 +11,7 @@ ghost use Rattle.omega_terms.specs.TypeText.{ty_text};
 ghost use Rattle.std.specs.Prelude.{◌≡◌, decimal};
 ghost use Rattle.omega_kinds.specs.Text.{◌then◌};
 ghost use Rattle.omega_write.specs.Counted.{level_in, next_in, counted_ty, counted_row, counted_term, counted_term_row};
-ghost use Rattle.omega_write.specs.Pieces.{piece_text, pieces_text, record_text, field_text, two_text, three_text};
+ghost use Rattle.omega_write.specs.Pieces.{piece_text, pieces_text, field_text, one_text, two_text, three_text};
 ghost use Rattle.omega_write.specs.declared.trees.Piece.TheVariants as piece;
 
 use crate::leaves::{write_bytes, write_label, write_number, write_signed};
@@ -115,15 +115,17 @@ fn write_type<K: Sink>(sink: &mut K, types: u64, ty: &Ty) -> Result<(), WriteFau
         TyNode::Bool => put(sink, b"bool"),
         TyNode::Text => put(sink, b"text"),
         TyNode::Arrow(a, b) => write_two(sink, b"(-> ", Piece::Ty(types, a), Piece::Ty(types, b)),
-        TyNode::Fields(fields) => write_record(sink, Piece::TyFields(types, fields)),
+        TyNode::Fields(fields) => write_one(sink, b"(rec", Piece::TyFields(types, fields)),
+        TyNode::Sum(fields) => write_one(sink, b"(sum", Piece::TyFields(types, fields)),
         TyNode::All(k, b) => write_two(sink, b"(all ", Piece::Kind(k), Piece::Ty(next(types), b)),
         TyNode::Ex(k, b) => write_two(sink, b"(some ", Piece::Kind(k), Piece::Ty(next(types), b)),
+        TyNode::Mu(b) => write_one(sink, b"(mu ", Piece::Ty(next(types), b)),
         TyNode::Lam(k, b) => write_two(sink, b"(lam ", Piece::Kind(k), Piece::Ty(next(types), b)),
         TyNode::Apply(f, a) => write_two(sink, b"(@ ", Piece::Ty(types, f), Piece::Ty(types, a)),
     }
 }
 
-// Writes the fields of a record type, each with a space before it.
+// Writes the fields of a record or a sum type, each with a space before it.
 #[cycle(trees)]
 fn write_ty_fields<K: Sink>(sink: &mut K, types: u64, fields: &TyFields) -> Result<(), WriteFault>
     ensures { Wrote (K.told sink.old) (K.told sink.new) (counted_row types (row fields.now)) result }
@@ -152,7 +154,7 @@ fn write_expression<K: Sink>(sink: &mut K, here: Scope, term: &Term) -> Result<(
             write_two(sink, b"(tfn ", Piece::Kind(k), here.under_type().term(e))
         }
         TermNode::Inst(e, t) => write_two(sink, b"(inst ", here.term(e), here.ty(t)),
-        TermNode::Fields(fields) => write_record(sink, Piece::TermFields(here, fields)),
+        TermNode::Fields(fields) => write_one(sink, b"(rec", Piece::TermFields(here, fields)),
         TermNode::Get(e, l) => write_two(sink, b"(get ", here.term(e), Piece::Label(l)),
         TermNode::Pack(t, e, u) => {
             write_three(sink, b"(pack ", here.ty(t), here.term(e), here.ty(u))
@@ -232,12 +234,12 @@ fn write_quoted<'x, K: Sink>(sink: &mut K, text: &'x [u8]) -> Result<(), WriteFa
     )
 }
 
-// Writes a record of these fields.
+// Writes a form of one part, or of fields, each of which begins with a space.
 #[cycle(trees)]
-fn write_record<'x, K: Sink>(sink: &mut K, fields: Piece<'x>) -> Result<(), WriteFault>
-    ensures { Wrote (K.told sink.old) (K.told sink.new) (record_text (piece_text fields.entry)) result }
+fn write_one<'x, K: Sink>(sink: &mut K, front: &'x [u8], part: Piece<'x>) -> Result<(), WriteFault>
+    ensures { Wrote (K.told sink.old) (K.told sink.new) (one_text front.now (piece_text part.entry)) result }
 {
-    write_pieces(sink, &[Piece::Bytes(b"(rec"), fields, Piece::Bytes(b")")])
+    write_pieces(sink, &[Piece::Bytes(front), part, Piece::Bytes(b")")])
 }
 
 // Writes a form of two parts.
@@ -340,7 +342,7 @@ pub fn write_term<K: Sink>(
     write_expression(sink, Scope { types, terms }, term)
 }
 
-/// Writes the whole text of a closed type and a closed term, in three lines: `omega 1`, the type and the term.
+/// Writes the whole text of a closed type and a closed term, in three lines: `omega 2`, the type and the term.
 /// `Err` comes only where the sink counted a fault, and a front of the text was written, not all of it.
 pub fn write_omega<'x, K: Sink>(sink: &mut K, ty: &'x Ty, term: &'x Term) -> Result<(), WriteFault>
     requires ty { TyInScope 0 ty.now }
@@ -352,7 +354,7 @@ pub fn write_omega<'x, K: Sink>(sink: &mut K, ty: &'x Ty, term: &'x Term) -> Res
     write_pieces(
         sink,
         &[
-            Piece::Bytes(b"omega 1\n"),
+            Piece::Bytes(b"omega 2\n"),
             Piece::Ty(0, ty),
             line_end,
             Piece::Term(Scope { types: 0, terms: 0 }, term),

@@ -88,7 +88,7 @@ pub enum WhyLit<'a> {
 
 /// The closed type of an Omega text.
 pub fn closed(alloc: Global, text: &str) -> Result<Ty, Fail> {
-    let whole = format!(in alloc; "omega 1\n{text}\n0\n")?;
+    let whole = format!(in alloc; "omega 2\n{text}\n0\n")?;
     let (ty, _) = read(alloc, whole.as_bytes())?;
     Ok(ty)
 }

@@ -9,7 +9,7 @@ use std::test::Fail;
 
 /// The closed term of this text.
 pub fn term(alloc: Global, text: &str) -> Result<Term, Fail> {
-    let whole = format!(in alloc; "omega 1\nint\n{text}\n")?;
+    let whole = format!(in alloc; "omega 2\nint\n{text}\n")?;
     let (_, term) = read(alloc, whole.as_bytes())?;
     Ok(term)
 }

@@ -52,4 +52,4 @@ decreases-arith_of l = 5 * l.depth + 1
 
 abbrev pub invariant-fields_of-loop : goal.invariant-fields_of-loop
 invariant-fields_of-loop l =
-    with_front More l.fields (fields_at End More (term_at l.depth l.types l.terms) (l.turns - l.counter) (last_of l.fields) l.left.rest.now) ≡ fields_at End More (term_at l.depth l.types l.terms) l.turns None l.initial.left.rest.now
+    with_front More l.fields (fields_at End More (term_at l.version l.depth l.types l.terms) (l.turns - l.counter) (last_of l.fields) l.left.rest.now) ≡ fields_at End More (term_at l.version l.depth l.types l.terms) l.turns None l.initial.left.rest.now

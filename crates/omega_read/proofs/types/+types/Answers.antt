@@ -10,29 +10,29 @@ pub fields_of-returns-in_err-expect_bytes : goal.fields_of-returns-in_err-expect
 fields_of-returns-in_err-expect_bytes t c =
     let p = err_from_is_err_and c.from_residual.result c.from_residual.ensures.1 in
     let none = rw c.if-not-eat.ensures.1 at c.in_err-expect_bytes.ensures.1 in
-    rw (p.1, p.2, c.in_err-expect_bytes.ensures.0) (fields_none End More (ty_at c.args.depth c.args.types) c.loop.fields (length c.args.left.now.rest.now) c.loop.counter c.loop.left.rest.now _ c.loop-test.true c.if-not-eat.ensures.0 none c.loop.invariant)
+    rw (p.1, p.2, c.in_err-expect_bytes.ensures.0) (fields_none End More (ty_at c.args.version c.args.depth c.args.types) c.loop.fields (length c.args.left.now.rest.now) c.loop.counter c.loop.left.rest.now _ c.loop-test.true c.if-not-eat.ensures.0 none c.loop.invariant)
 
 pub fields_of-returns-then-not-eat : goal.fields_of-returns-then-not-eat
 fields_of-returns-then-not-eat t c =
     let close = rw c.if-not-eat.ensures.1 at c.in_ok-expect_bytes.ensures in
-    fields_done End More (ty_at c.args.depth c.args.types) c.loop.fields (length c.args.left.now.rest.now) c.loop.counter c.loop.left.rest.now c.expect_bytes.new.self.rest.now _ (row c.loop.fields) c.loop-test.true c.if-not-eat.ensures.0 close c.loop.invariant (onto_row c.loop.fields)
+    fields_done End More (ty_at c.args.version c.args.depth c.args.types) c.loop.fields (length c.args.left.now.rest.now) c.loop.counter c.loop.left.rest.now c.expect_bytes.new.self.rest.now _ (row c.loop.fields) c.loop-test.true c.if-not-eat.ensures.0 close c.loop.invariant (onto_row c.loop.fields)
 
 pub fields_of-returns-in_err-field : goal.fields_of-returns-in_err-field
 fields_of-returns-in_err-field t c =
     let p = err_from_is_err_and c.from_residual-in_err-field.result c.from_residual-in_err-field.ensures.1 in
-    rw (p.1, p.2) (fields_stops End More c.in_err-field.field-0.0 (ty_at c.args.depth c.args.types) c.loop.fields (length c.args.left.now.rest.now) c.loop.counter c.loop.left.rest.now c.eat.new.self.rest.now _ c.loop-test.true c.if-not-eat.ensures c.in_err-field.ensures c.loop.invariant)
+    rw (p.1, p.2) (fields_stops End More c.in_err-field.field-0.0 (ty_at c.args.version c.args.depth c.args.types) c.loop.fields (length c.args.left.now.rest.now) c.loop.counter c.loop.left.rest.now c.eat.new.self.rest.now _ c.loop-test.true c.if-not-eat.ensures c.in_err-field.ensures c.loop.invariant)
 
 pub fields_of-returns-then-not-type_may_follow : goal.fields_of-returns-then-not-type_may_follow
 fields_of-returns-then-not-type_may_follow t c =
-    fields_fall End More (ty_at c.args.depth c.args.types) c.loop.fields (length c.args.left.now.rest.now) c.loop.counter c.loop.left.rest.now c.eat.new.self.rest.now c.in_ok-field.field c.field_of.new.left.rest.now _ c.loop-test.true c.if-not-eat.ensures c.in_ok-field.ensures (sym c.type_may_follow.ensures ∙ c.if-not-type_may_follow.true) c.loop.invariant
+    fields_fall End More (ty_at c.args.version c.args.depth c.args.types) c.loop.fields (length c.args.left.now.rest.now) c.loop.counter c.loop.left.rest.now c.eat.new.self.rest.now c.in_ok-field.field c.field_of.new.left.rest.now _ c.loop-test.true c.if-not-eat.ensures c.in_ok-field.ensures (sym c.type_may_follow.ensures ∙ c.if-not-type_may_follow.true) c.loop.invariant
 
 pub fields_of-push-requires : goal.fields_of-push-requires
 fields_of-push-requires t c = MayFollow_from c.loop.fields c.in_ok-field.field.0 (sym c.type_may_follow.ensures ∙ c.if-not-type_may_follow.false)
 
 pub fields_of-loop-preserved : goal.fields_of-loop-preserved
 fields_of-loop-preserved t c =
-    rw c.in_ok-push.ensures.ok (fields_on End More (ty_at c.args.depth c.args.types) c.loop.fields (length c.args.left.now.rest.now) c.loop.counter c.loop.left.rest.now c.eat.new.self.rest.now c.in_ok-field.field c.field_of.new.left.rest.now _ c.loop-test.true c.if-not-eat.ensures c.in_ok-field.ensures (sym c.type_may_follow.ensures ∙ c.if-not-type_may_follow.false) c.loop.invariant)
+    rw c.in_ok-push.ensures.ok (fields_on End More (ty_at c.args.version c.args.depth c.args.types) c.loop.fields (length c.args.left.now.rest.now) c.loop.counter c.loop.left.rest.now c.eat.new.self.rest.now c.in_ok-field.field c.field_of.new.left.rest.now _ c.loop-test.true c.if-not-eat.ensures c.in_ok-field.ensures (sym c.type_may_follow.ensures ∙ c.if-not-type_may_follow.false) c.loop.invariant)
 
 pub fields_of-returns : goal.fields_of-returns
 fields_of-returns t c =
-    fields_spent End More (ty_at c.args.depth c.args.types) c.loop.fields (length c.args.left.now.rest.now) c.loop.counter c.loop.left.rest.now _ c.loop-test.false c.loop.invariant
+    fields_spent End More (ty_at c.args.version c.args.depth c.args.types) c.loop.fields (length c.args.left.now.rest.now) c.loop.counter c.loop.left.rest.now _ c.loop-test.false c.loop.invariant

@@ -30,8 +30,8 @@ decreases-write_variable g l = 2
 abbrev pub decreases-write_quoted : goal.decreases-write_quoted
 decreases-write_quoted g l = 2
 
-abbrev pub decreases-write_record : goal.decreases-write_record
-decreases-write_record g l = weight l.fields + 2
+abbrev pub decreases-write_one : goal.decreases-write_one
+decreases-write_one g l = weight l.part + 2
 
 abbrev pub decreases-write_field : goal.decreases-write_field
 decreases-write_field g l = weight l.part + 3
