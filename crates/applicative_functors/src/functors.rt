@@ -16,7 +16,7 @@ use semantic_sigs::{Abs, Module, encode_sig};
 use std::alloc::Global;
 
 /// `fun (X : S) => M`, where M is pure: the module of a pure functor, which hides what M hides, lifted over the types that
-/// the parameter hides. M stands under these and under X. Both signatures have normal types. `Err` is want of memory.
+/// the parameter hides. M stands under these and under X. Both signatures have normal types. `Err` is out of memory.
 ///
 /// Rossberg, Russo and Dreyer, "F-ing modules", section 7, Applicative functors.
 pub fn pure_functor(alloc: Global, param: &Abs, body: Module) -> Result<Module, Mem>

@@ -20,7 +20,7 @@ use type_normal::{NormalTy, as_normal, plain};
 /// The signature of a pure functor: it hides each type that the result hides, as an operator over the types that the
 /// parameter hides, and in the result these operators, applied to the parameter's types in order, stand for the hidden
 /// types. `kinds` are those of the parameter's hidden types, under which `param` and `body` stand; the signatures are
-/// normal. `Err` is want of memory, also where an index would pass the last number.
+/// normal. `Err` is out of memory, also where an index would pass the last number.
 ///
 /// Rossberg, Russo and Dreyer, "F-ing modules", section 7, Applicative functors.
 pub fn lift(alloc: Global, kinds: &Kinds, param: &Sig, body: &Abs) -> Result<Abs, Mem>
@@ -34,7 +34,7 @@ pub fn lift(alloc: Global, kinds: &Kinds, param: &Sig, body: &Abs) -> Result<Abs
 }
 
 // The result below the lifted types and then those of the parameter, where the lifted types stand for the hidden ones,
-// whose kinds are given. `Err` is want of memory.
+// whose kinds are given. `Err` is out of memory.
 fn lifted_result(alloc: Global, kinds: &Kinds, body: &Abs, hidden: &Kinds) -> Result<Sig, Mem>
     ensures { IfOk result (λ s. Put (rename_abs (bump (length hidden.now) (length kinds.now)) body.now) (lifted_vars_of kinds.now hidden.now) s) }
 {
@@ -45,7 +45,7 @@ fn lifted_result(alloc: Global, kinds: &Kinds, body: &Abs, hidden: &Kinds) -> Re
     instantiate(alloc, &raised, types.items())
 }
 
-// The signature of the functor below the lifted types, whose number is that of the hidden ones. `Err` is want of memory.
+// The signature of the functor below the lifted types, whose number is that of the hidden ones. `Err` is out of memory.
 fn functor_over(
     alloc: Global,
     kinds: &Kinds,
@@ -68,7 +68,7 @@ fn functor_over(
     Sig::make(alloc, functor)
 }
 
-/// Each type that a pure body keeps, as an operator over the parameter's hidden types, whose kinds are given. `Err` is want
+/// Each type that a pure body keeps, as an operator over the parameter's hidden types, whose kinds are given. `Err` is out
 /// of memory.
 pub fn lift_witness(alloc: Global, kinds: &Kinds, types: &[NormalTy]) -> Result<Witnesses, Mem>
     ensures value { IfOk result (λ ts. ts ≡ lifted_types kinds.now types.now) }

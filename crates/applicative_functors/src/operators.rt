@@ -8,7 +8,7 @@ use omega_kinds::{Kind, Kinds, Mem, arrow};
 use omega_types::{Ty, TyNode};
 use std::alloc::Global;
 
-// The kind of an operator that takes a type of each kind, the first one first. `Err` is want of memory, as for all calls
+// The kind of an operator that takes a type of each kind, the first one first. `Err` is out of memory, as for all calls
 // here.
 #[tactic(auto, using(crate::proofs::Loops::over_steps))]
 pub(crate) fn arrow_over(alloc: Global, kinds: &Kinds, target: Kind) -> Result<Kind, Mem>

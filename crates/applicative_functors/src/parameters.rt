@@ -16,7 +16,7 @@ use std::alloc::Global;
 use type_normal::{NormalTy, normal, raise};
 
 // For each hidden type its lifted variable, applied to the variables of the parameter, in normal form: under the lifted
-// variables and then those of the parameter, whose kinds are given. `Err` is want of memory, as for all calls here.
+// variables and then those of the parameter, whose kinds are given. `Err` is out of memory, as for all calls here.
 #[tactic(auto, using(crate::proofs::Loops::vars_steps))]
 pub(crate) fn lifted_vars(alloc: Global, kinds: &Kinds, hidden: &Kinds) -> Result<Witnesses, Mem>
     ensures { IfOk result (λ ts. ts ≡ lifted_vars_of kinds.now hidden.now) }

@@ -13,7 +13,7 @@ use type_normal::NormalTy;
 
 /// The coercion of a signature that hides nothing, whose encoding is `from`, to one that hides types, whose encoding
 /// `to` begins with one `some` for each of `types`, the outermost for the first. `inner` coerces to the right side's
-/// body at `types`. A `to` that begins with fewer `some` is packed no further than these. `Err` is want of memory.
+/// body at `types`. A `to` that begins with fewer `some` is packed no further than these. `Err` is out of memory.
 pub fn match_part(
     alloc: Global,
     from: &Ty,
@@ -31,7 +31,7 @@ pub fn match_part(
 
 /// The coercion of a signature that hides so many types, at least one, whose encoding is `from`. Under these `types`,
 /// `inner` and `to` stand, as in the coercion of a signature that hides nothing, and `to` may begin with fewer `some` as
-/// there. For a `count` of 0 it is a `let` at the type `from`. `Err` is want of memory.
+/// there. For a `count` of 0 it is a `let` at the type `from`. `Err` is out of memory.
 pub fn abs_part(
     alloc: Global,
     from: &Ty,

@@ -13,7 +13,7 @@ use omega_types::Ty;
 use std::alloc::Global;
 use type_normal::NormalTy;
 
-/// The coercion of a value part or a type part, whose encoding is `from`: the identity. `Err` is want of memory.
+/// The coercion of a value part or a type part, whose encoding is `from`: the identity. `Err` is out of memory.
 ///
 /// Rossberg, Russo and Dreyer, "F-ing modules", section 4, Signature matching, as for all calls of this crate.
 pub fn same_part(alloc: Global, from: &Ty) -> Result<Term, Mem>
@@ -25,7 +25,7 @@ pub fn same_part(alloc: Global, from: &Ty) -> Result<Term, Mem>
 }
 
 /// The coercion of a signature part, whose encoding is `from`, to one that holds a signature with the encoding `to`.
-/// `Err` is want of memory.
+/// `Err` is out of memory.
 pub fn meta_part(alloc: Global, from: &Ty, to: &Ty) -> Result<Term, Mem>
     ensures value { IfOk result (λ e. e ≡ meta_part_of from.now to.now) }
     ensures typed { IfOk result (λ e. HasMetaType from.now to.now e) }
@@ -35,7 +35,7 @@ pub fn meta_part(alloc: Global, from: &Ty, to: &Ty) -> Result<Term, Mem>
     Term::make(alloc, TermNode::Lam(from.share()?, body))
 }
 
-/// The coercion of a structure, whose encoding is `from`, by the coercion of each right label. `Err` is want of memory.
+/// The coercion of a structure, whose encoding is `from`, by the coercion of each right label. `Err` is out of memory.
 pub fn fields_part(alloc: Global, from: &Ty, fields: TermFields) -> Result<Term, Mem>
     ensures value { IfOk result (λ e. e ≡ fields_part_of from.now (term_row fields)) }
     ensures typed { IfOk result (λ e. HasFieldsType from.now (term_row fields) e) }
@@ -80,7 +80,7 @@ pub struct Functors<'a> {
 }
 
 /// The coercion of a functor to another. Under the right one's variables `types` are the types of the left functor's,
-/// `inner` coerces the parameter and `outer` the result at `types`. `Err` is want of memory.
+/// `inner` coerces the parameter and `outer` the result at `types`. `Err` is out of memory.
 pub fn functor_part(
     alloc: Global,
     sides: &Functors<'_>,

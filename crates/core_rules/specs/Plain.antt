@@ -1,4 +1,4 @@
--- What the code's refusals, base types and literals are seen as: plain ones, and nothing for want of memory.
+-- What the code's refusals, base types and literals are seen as: plain ones, and nothing when memory is out.
 use Rattle.std.specs.Prelude.{Option, Some, None}
 use Rattle.omega_kinds.specs.View.{kind_tree}
 use Rattle.core_judgments.specs.CoreWhy.{CoreWhy}
@@ -22,7 +22,7 @@ plain_why refusal.NotOperator = Some CoreWhy.NotOperator
 plain_why (refusal.DuplicateField name) = Some (CoreWhy.DuplicateField name)
 plain_why refusal.Mem = None
 
--- what the code answers for want of memory
+-- what the code answers when memory is out
 abbrev pub want_of_memory : CoreRefusal
 want_of_memory = refusal.Mem
 

@@ -28,7 +28,7 @@ pub enum Literal {
     Text(Name),
 }
 
-// A type and a term by their outermost forms. `Err` is want of memory.
+// A type and a term by their outermost forms. `Err` is out of memory.
 pub(crate) fn typed(alloc: Global, ty: TyNode, term: TermNode) -> Result<Typed, Mem>
     ensures ty { IfOk result (λ o. o.ty ≡ ty_of ty) }
     ensures term { IfOk result (λ o. o.term ≡ term_of term) }
@@ -39,7 +39,7 @@ pub(crate) fn typed(alloc: Global, ty: TyNode, term: TermNode) -> Result<Typed, 
     })
 }
 
-/// A number, a truth value or a text. `Err` is want of memory.
+/// A number, a truth value or a text. `Err` is out of memory.
 pub fn literal_exp(alloc: Global, what: Literal) -> Result<Typed, Mem>
     ensures { IfOk result (λ o. LiteralGives (plain_literal what) o.ty o.term) }
 {
@@ -65,7 +65,7 @@ pub fn lam_exp(alloc: Global, param: &Kinded, body: Typed) -> Result<Typed, Core
     Ok(Typed { ty, term })
 }
 
-/// `fun [X : K] => E`, E under X. `Err` is want of memory.
+/// `fun [X : K] => E`, E under X. `Err` is out of memory.
 pub fn ty_lam_exp(alloc: Global, kind: &Kind, body: Typed) -> Result<Typed, Mem>
     ensures { IfOk result (λ o. TypeFunctionGives (kind_tree kind.now) body.ty body.term o.ty o.term) }
 {

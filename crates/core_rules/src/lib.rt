@@ -2,7 +2,7 @@
 // in, or the refusal of the first condition that fails.
 // Stands on core_judgments, whose definitions say what is given and what is refused, and on the crates of types and terms and
 // semantic_sigs, in whose handles it works.
-// Proved: what a call gives is the conclusion of its rule, and each refusal is one of its rule; want of memory alone is free.
+// Proved: what a call gives is the conclusion of its rule, and each refusal is one of its rule; out of memory alone is free.
 #![tactic(auto)]
 
 mod expressions;

@@ -35,14 +35,14 @@ pub(crate) fn expect_same(found: &NormalTy, needed: &NormalTy) -> Result<(), Cor
     }
 }
 
-// A type by its outermost form. `Err` is want of memory.
+// A type by its outermost form. `Err` is out of memory.
 pub(crate) fn made(alloc: Global, node: TyNode) -> Result<NormalTy, Mem>
     ensures { IfOk result (λ t. t ≡ ty_of node) }
 {
     Ok(as_normal(Ty::make(alloc, node)?))
 }
 
-// A part of a normal type. `Err` is want of memory.
+// A part of a normal type. `Err` is out of memory.
 pub(crate) fn part(ty: &Ty) -> Result<NormalTy, Mem>
     ensures { IfOk result (λ t. t ≡ ty.now) }
 {

@@ -35,7 +35,7 @@ pub(crate) fn of_values(alloc: Global, node: TyNode) -> Result<Kinded, Mem>
     })
 }
 
-/// `Int`, `Bool` and `Text`. `Err` is want of memory.
+/// `Int`, `Bool` and `Text`. `Err` is out of memory.
 pub fn base_ty(alloc: Global, what: Base) -> Result<Kinded, Mem>
     ensures { IfOk result (λ o. BaseGives (plain_base what) o.ty (kind_tree o.kind)) }
 {
@@ -70,7 +70,7 @@ pub fn all_ty(alloc: Global, kind: &Kind, body: &Kinded) -> Result<Kinded, CoreR
     Ok(of_values(alloc, node)?)
 }
 
-/// `fun (X : K) => T`, T under X. `Err` is want of memory.
+/// `fun (X : K) => T`, T under X. `Err` is out of memory.
 pub fn lam_ty(alloc: Global, kind: &Kind, body: &Kinded) -> Result<Kinded, Mem>
     ensures { IfOk result (λ o. OperatorGives (kind_tree kind.now) body.now.ty (kind_tree body.now.kind) o.ty (kind_tree o.kind)) }
 {

@@ -20,7 +20,7 @@ val q = Q.f Q.v
 /// The source of the generated program of this size: a signature, a functor and a module; then, for each number from 1
 /// to `size`, an application of the functor, a package of it and a value; and last the first package unpacked. At size 0
 /// there is no package, so the program is not legal; that it is legal at other sizes is tested for some, not proved.
-/// `Err` is want of memory.
+/// `Err` is out of memory.
 #[tactic(auto, using(crate::proofs::Lines::next_sealed))]
 pub fn source_of(alloc: Global, size: u32) -> Result<Vec<u8>, Mem>
     ensures { IfOk result (λ text. text.items ≡ source_text size) }

@@ -4,7 +4,7 @@ use fing_text::MemSink;
 use fing_top::Status;
 use std::test::Fail;
 
-// Each front of a source, with the reply of `check`, and two more sources that break off in the middle of a phrase.
+// Each prefix of a source, with the reply of `check`, and two more sources that break off in the middle of a phrase.
 const FRONTS: [(&str, Status, &str); 16] = [
     ("", Status::Ok, "pure (ex () (str))\n"),
     ("v", Status::Refused, "refused Syntax 0\n"),

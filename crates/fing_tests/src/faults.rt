@@ -69,7 +69,7 @@ fn a_read_fails(rt: HostRuntime) -> Result<(), Fail> {
     Ok(())
 }
 
-// A sink whose first call fails, and one that has room for a front of the reply.
+// A sink whose first call fails, and one that has room for a prefix of the reply.
 #[test]
 fn writes_fail(rt: HostRuntime) -> Result<(), Fail> {
     let fails = MemSink::new(rt.alloc(), 4096, 4096, [0].to_vec(rt.alloc())?)?;

@@ -1,5 +1,5 @@
 // Sources of which a type, a signature or a value is higher than the stack is sure to hold, or too large. Each is refused
-// for want of memory, with nothing written, and a lower one of the same form is accepted.
+// when memory is out, with nothing written, and a lower one of the same form is accepted.
 use crate::runs::{Answer, ran};
 use fing_top::Status;
 use std::alloc::Global;

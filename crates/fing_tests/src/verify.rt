@@ -149,7 +149,7 @@ const CUT: [(&str, &str, &str); 2] = [
     ("verify", "omega 1\nint\n1\n", "well"),
 ];
 
-// What was confirmed stands where the sink takes only a front of the reply.
+// What was confirmed stands where the sink takes only a prefix of the reply.
 #[test]
 fn a_sink_that_is_full(rt: HostRuntime) -> Result<(), Fail> {
     for (command, source, front) in &CUT {

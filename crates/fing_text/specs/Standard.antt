@@ -25,12 +25,12 @@ sink_faults s = s.faults
 abbrev pub writer_told : {W : Type 0} → StdSink W → Told
 writer_told s = record { bytes = None; faults = s.faults }
 
--- a writer took a front of a piece
+-- a writer took a prefix of a piece
 pub record TookFront (old new : Option (List ℕ)) (piece : List ℕ) : Type 0 where
   pub count : ℕ
   pub within : count ≤ length piece
   pub taken : Appends old new (take count piece)
 
--- a writer took the first n bytes of a piece at Ok(n), and a front of it at an error
+-- a writer took the first n bytes of a piece at Ok(n), and a prefix of it at an error
 abbrev pub TakesFront : {E : Type 0} → Option (List ℕ) → Option (List ℕ) → List ℕ → Result ℕ E → Type 0
 TakesFront old new piece r = MatchResult r (λ n. Appends old new (take n piece)) (λ _. TookFront old new piece)

@@ -1,4 +1,4 @@
--- What the code's refusals are seen as: plain ones, and nothing for want of memory.
+-- What the code's refusals are seen as: plain ones, and nothing when memory is out.
 use Rattle.std.specs.Prelude.{Option, Some, None}
 use Rattle.module_judgments.specs.ModWhy.{ModWhy}
 use Rattle.module_rules.specs.declared.refusal.ModRefusal.{ModRefusal}
@@ -13,6 +13,6 @@ plain_why refusal.WrongPath = Some ModWhy.WrongPath
 plain_why refusal.Escapes = Some ModWhy.Escapes
 plain_why refusal.Mem = None
 
--- what the code answers for want of memory
+-- what the code answers when memory is out
 abbrev pub want_of_memory : ModRefusal
 want_of_memory = refusal.Mem

@@ -24,7 +24,7 @@ use semantic_sigs::{
 use std::alloc::Global;
 use type_normal::plain;
 
-/// `val X = E`: a value part. `Err` is want of memory, as for all calls of this file.
+/// `val X = E`: a value part. `Err` is out of memory, as for all calls of this file.
 pub fn bind_val(alloc: Global, value: Typed) -> Result<Module, Mem>
     ensures { IfOk result (λ m. ValueGives value.ty value.term (module_of m)) }
 {

@@ -30,7 +30,7 @@ use std::alloc::Global;
 use type_normal::NormalTy;
 
 /// `gen (X : S) => M`, and `fun (X : S) => M` where M is impure; M stands under the hidden types of S and X, and its types
-/// are normal and have their kinds there. `Err` is want of memory.
+/// are normal and have their kinds there. `Err` is out of memory.
 pub fn gen_functor(alloc: Global, param: &Abs, body: Module) -> Result<Module, Mem>
     ensures { IfOk result (λ m. (ctx : List KindTree) → KindedModule (extend ctx (kinds_of param.now)) (module_of body) → GenerativeGives ctx (kinds_of param.now) (body_of param.now) (module_of body) (module_of m)) }
 {
@@ -87,7 +87,7 @@ pub fn functor_parts(alloc: Global, sig: &Sig) -> Result<(Effect, Abs, Abs), Mod
     Ok((*effect, from, to))
 }
 
-/// `X :> S`, by a match of X against S: its types, and its coercion. `Err` is want of memory.
+/// `X :> S`, by a match of X against S: its types, and its coercion. `Err` is out of memory.
 pub fn seal(
     alloc: Global,
     found: Term,

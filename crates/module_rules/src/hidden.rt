@@ -20,7 +20,7 @@ pub(crate) fn count_of(kinds: &Kinds) -> u64
     kinds.items().len() as u64
 }
 
-// The variables that binders of these kinds bind, below all of them, in normal form. `Err` is want of memory.
+// The variables that binders of these kinds bind, below all of them, in normal form. `Err` is out of memory.
 pub(crate) fn own_types(alloc: Global, kinds: &Kinds) -> Result<Witnesses, Mem>
     ensures { IfOk result (λ ts. ts ≡ vars kinds.now) }
 {
@@ -35,7 +35,7 @@ pub(crate) fn own_types(alloc: Global, kinds: &Kinds) -> Result<Witnesses, Mem>
     Ok(types)
 }
 
-// The variable of a kind below so many further binders, in normal form. `Err` is want of memory.
+// The variable of a kind below so many further binders, in normal form. `Err` is out of memory.
 fn own_type(alloc: Global, kind: &Kind, inner: u64) -> Result<NormalTy, Mem>
     ensures { IfOk result (λ t. t ≡ shift inner 0 (eta (kind_tree kind.now) (Var 0))) }
 {
@@ -60,7 +60,7 @@ fn mentions_hidden(ty: &NormalTy, count: u64) -> bool
 }
 
 // The type as it stands outside of so many innermost variables; `None` exactly where it mentions one of them.
-// `Err` is want of memory.
+// `Err` is out of memory.
 pub(crate) fn outside(alloc: Global, ty: &NormalTy, count: u64) -> Result<Option<NormalTy>, Mem>
     ensures { IfOk result (λ o. MatchOption o (MentionsHidden count ty.now) (λ n. IsOutside count ty.now n)) }
 {

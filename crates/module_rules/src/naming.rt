@@ -12,7 +12,7 @@ use omega_terms::Term;
 use semantic_sigs::{Abs, Env, Module, Sig, Witnesses};
 use std::alloc::Global;
 
-// A pure module that hides nothing. `Err` is want of memory.
+// A pure module that hides nothing. `Err` is out of memory.
 pub(crate) fn open_module(alloc: Global, sig: Sig, term: Term) -> Result<Module, Mem>
     ensures { IfOk result (λ m. module_of m ≡ made Pure (AbsTree.Ex [] sig) [] term) }
 {

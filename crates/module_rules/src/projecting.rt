@@ -42,7 +42,7 @@ pub fn project(alloc: Global, whole: Module, name: &Name) -> Result<Module, ModR
     Ok(part_of(alloc, &whole, name, part)?)
 }
 
-// The module that a part of a structure is. `Err` is want of memory, as for all calls below.
+// The module that a part of a structure is. `Err` is out of memory, as for all calls below.
 fn part_of(alloc: Global, whole: &Module, name: &Name, part: &Sig) -> Result<Module, Mem>
     ensures { IfOk result (λ m. (fs : SigRow) → body_of whole.now.sig ≡ Str fs → HasField fs name.now part.now → (ctx : List KindTree) → KindedModule ctx (module_of whole.now) → Projected ctx (module_of whole.now) name.now (module_of m)) }
 {
@@ -140,7 +140,7 @@ pub(crate) fn opened(alloc: Global, term: Term, sig: &Abs, body: Term) -> Result
 }
 
 /// The term of a module, whose types are normal and have their kinds, with the types that its signature hides packed into
-/// it; an impure one has them packed already. `Err` is want of memory.
+/// it; an impure one has them packed already. `Err` is out of memory.
 pub fn packed(alloc: Global, whole: Module) -> Result<Term, Mem>
     ensures { IfOk result (λ e. (ctx : List KindTree) → KindedModule ctx (module_of whole) → Packed ctx (module_of whole) e) }
 {

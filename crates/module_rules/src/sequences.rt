@@ -33,7 +33,7 @@ use std::alloc::Global;
 
 /// A binding and the rest of a structure, which stands under the hidden types of the binding and its name. Where both are
 /// pure, the types that the first one keeps are put into the rest; else both are packed, the first one is opened, and
-/// what both hide is packed again. The types of both are normal and have their kinds. `Err` is want of memory.
+/// what both hide is packed again. The types of both are normal and have their kinds. `Err` is out of memory.
 ///
 /// Rossberg, Russo and Dreyer, "F-ing modules", sections 4 and 7.
 pub fn seq_bind(alloc: Global, first: Module, rest: Module) -> Result<Module, Mem>

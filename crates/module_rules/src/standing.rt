@@ -39,7 +39,7 @@ pub fn standing_part<'a>(
 }
 
 /// The module at the end of the environment: its signature is shifted past the type variables that come after its place.
-/// `Err` is want of memory.
+/// `Err` is out of memory.
 pub fn raised(alloc: Global, found: &Standing<'_>) -> Result<Module, Mem>
     ensures { IfOk result (λ m. module_of m ≡ standing_module found.now) }
 {

@@ -50,7 +50,7 @@ impl Checked {
 }
 
 /// Whether a term has a type, in the empty context: exactly where the typing rules give it the type there is a `Checked`
-/// of the two. A term or type with free variables has none. `Err` is want of memory.
+/// of the two. A term or type with free variables has none. `Err` is out of memory.
 ///
 /// Pierce, "Types and Programming Languages", figure 30-1, Higher-order polymorphic lambda-calculus, with records,
 /// existential types (figure 24-1) and fixed points (figure 11-12).

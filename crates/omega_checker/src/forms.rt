@@ -44,7 +44,7 @@ fn normalised(alloc: Global, ctx: &[Kind], ty: &Ty, kind: &Kind) -> Result<Optio
 }
 
 /// The normal form of a type, and none where it has not the kind. A type that is normal is given back as it is.
-/// `Err` is want of memory.
+/// `Err` is out of memory.
 pub(crate) fn normal_at(
     alloc: Global,
     ctx: &[Kind],
@@ -67,14 +67,14 @@ pub(crate) fn agree(left: &NormalTy, right: &NormalTy) -> bool
     same(left, right)
 }
 
-/// A type by its outermost form. `Err` is want of memory.
+/// A type by its outermost form. `Err` is out of memory.
 pub(crate) fn make(alloc: Global, node: TyNode) -> Result<NormalTy, Mem>
     ensures { IfOk result (λ t. t ≡ ty_of node) }
 {
     Ok(as_normal(Ty::make(alloc, node)?))
 }
 
-/// A part of a normal type. `Err` is want of memory.
+/// A part of a normal type. `Err` is out of memory.
 pub(crate) fn part(ty: &Ty) -> Result<NormalTy, Mem>
     ensures { IfOk result (λ t. t ≡ ty.now) }
 {

@@ -14,7 +14,7 @@ use omega_types::{Ty, TyFields, TyNode, is_star, variable_kind};
 use std::alloc::Global;
 
 /// Whether a type is normal at a kind, beta-normal and eta-long, in a context, which lists the kinds of the type
-/// variables, the innermost last. `Err` is want of memory.
+/// variables, the innermost last. `Err` is out of memory.
 ///
 /// Harper and Pfenning, "On equivalence and canonical forms in the LF type theory" (2005), has such forms as canonical
 /// and atomic ones.

@@ -14,7 +14,7 @@ use std::alloc::Global;
 use type_normal::{NormalTy, as_normal, hsubst, plain, same};
 
 /// Whether a type is the normal form of the body of a binder of a kind with a type put in for its variable.
-/// `Err` is want of memory.
+/// `Err` is out of memory.
 pub(crate) fn is_put(
     alloc: Global,
     kind: &Kind,

@@ -21,7 +21,7 @@ use omega_types::{Ty, TyFields, TyNode};
 use std::alloc::Global;
 use type_normal::{NormalTy, plain};
 
-/// The normal type of a term in the empty context, and none where it has no type. `Err` is want of memory.
+/// The normal type of a term in the empty context, and none where it has no type. `Err` is out of memory.
 pub(crate) fn synthesise(alloc: Global, term: &Term) -> Result<Option<NormalTy>, Mem>
     ensures { IfOk result (λ o. o ≡ synth_in [] [] term.now) }
 {

@@ -41,7 +41,7 @@ impl Vars {
         }
     }
 
-    /// One more variable, of a type under all type variables in scope. `Err` is want of memory.
+    /// One more variable, of a type under all type variables in scope. `Err` is out of memory.
     pub(crate) fn push(&mut self, ty: NormalTy) -> Result<(), Mem>
         ensures vars { OnOk result (self.new ≡ with_var self.old ty) }
         ensures types { OnOk result (types_of self.new ≡ ty ∷ types_of self.old) }
@@ -57,7 +57,7 @@ impl Vars {
         let _var = self.list.pop();
     }
 
-    /// One more type variable. `Err` is want of memory.
+    /// One more type variable. `Err` is out of memory.
     pub(crate) fn push_type(&mut self) -> Result<(), Mem>
         ensures vars { OnOk result (self.new ≡ with_type self.old) }
         ensures types { OnOk result (types_of self.new ≡ shift_all (types_of self.old)) }
@@ -76,7 +76,7 @@ impl Vars {
     }
 
     /// The type of the variable at an index, under all type variables in scope, and none where no variable has that
-    /// index. `Err` is want of memory, also where an index would pass the last number.
+    /// index. `Err` is out of memory, also where an index would pass the last number.
     pub(crate) fn find(&self, alloc: Global, index: u64) -> Result<Option<NormalTy>, Mem>
         ensures { IfOk result (λ o. o ≡ slice_get (types_of self.now) index) }
     {

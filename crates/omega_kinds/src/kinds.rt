@@ -38,7 +38,7 @@ impl Kinds {
         }
     }
 
-    /// One more kind at the end. `Err` is want of memory, and the list stays as it was.
+    /// One more kind at the end. `Err` is out of memory, and the list stays as it was.
     pub fn push(&mut self, kind: Kind) -> Result<(), Mem>
         ensures ok { OnOk result (self.new ≡ self.old ++ kind_tree kind ∷ []) }
         ensures err { OnErr result (self.new ≡ self.old) }
@@ -61,7 +61,7 @@ impl Kinds {
         self.list.get(i)
     }
 
-    /// The same kinds, with their parts shared. `Err` is want of memory.
+    /// The same kinds, with their parts shared. `Err` is out of memory.
     pub fn share(&self, alloc: Global) -> Result<Kinds, Mem>
         ensures { IfOk result (λ k. k ≡ self.now) }
     {

@@ -33,7 +33,7 @@ impl Label {
         }
     }
 
-    /// The same label, with its bytes shared. `Err` is want of memory.
+    /// The same label, with its bytes shared. `Err` is out of memory.
     pub fn share(&self) -> Result<Label, Mem>
         ensures { IfOk result (λ l. l ≡ self.now) }
     {

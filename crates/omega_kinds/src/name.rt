@@ -36,7 +36,7 @@ impl Name {
         self.shared.as_slice()
     }
 
-    /// The same name, with its bytes shared. `Err` is want of memory.
+    /// The same name, with its bytes shared. `Err` is out of memory.
     pub fn share(&self) -> Result<Name, Mem>
         ensures { IfOk result (λ n. n ≡ self.now) }
     {
@@ -46,7 +46,7 @@ impl Name {
     }
 }
 
-/// The name of these bytes. `Err` is want of memory.
+/// The name of these bytes. `Err` is out of memory.
 pub fn name_of(alloc: Global, bytes: &[u8]) -> Result<Name, Mem>
     ensures { IfOk result (λ n. n ≡ bytes.now) }
 {

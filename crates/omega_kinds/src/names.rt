@@ -31,7 +31,7 @@ impl Names {
         }
     }
 
-    /// One more name at the end. `Err` is want of memory, and the list stays as it was.
+    /// One more name at the end. `Err` is out of memory, and the list stays as it was.
     pub fn push(&mut self, name: Name) -> Result<(), Mem>
         ensures ok { OnOk result (self.new ≡ self.old ++ name ∷ []) }
         ensures err { OnErr result (self.new ≡ self.old) }

@@ -17,7 +17,7 @@ use std::alloc::Global;
 /// Runs the term of a checked program for as many steps as the budget allows: the value that it comes to, shown as its
 /// text, or the fault that it meets, with the exact number of steps, the step at which a fault is met being counted;
 /// `Spent` exactly where the term that is reached in as many steps as the budget is no value. No term that is reached
-/// is stuck, so one more step or a fault comes next. `Err` is want of memory.
+/// is stuck, so one more step or a fault comes next. `Err` is out of memory.
 ///
 /// Reduction is call by value, from left to right, by substitution. Pierce, "Types and Programming Languages", figures
 /// 11-7 (records), 11-12 (fixed points), 24-1 (existential types) and 30-1; Wright and Felleisen, "A Syntactic Approach

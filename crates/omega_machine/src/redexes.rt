@@ -21,7 +21,7 @@ pub(crate) enum Step {
     Fault(Arith),
 }
 
-/// Makes the step of a frame with a value in its hole. `Err` is want of memory.
+/// Makes the step of a frame with a value in its hole. `Err` is out of memory.
 pub(crate) fn reduce(alloc: Global, frame: Ready, value: &Term) -> Result<Step, Mem>
     requires sound { IsSoundReady frame }
     requires value { IsValue value.now }

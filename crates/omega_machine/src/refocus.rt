@@ -26,7 +26,7 @@ pub(crate) enum Move {
     Up(Term),
 }
 
-/// Goes on to the next redex, or to the value of the whole. No step is made. `Err` is want of memory.
+/// Goes on to the next redex, or to the value of the whole. No step is made. `Err` is out of memory.
 ///
 /// Danvy and Nielsen, "Refocusing in Reduction Semantics" (2004).
 pub(crate) fn refocus(alloc: Global, frames: &mut Vec<Frame>, focus: Focus) -> Result<Found, Mem>

@@ -7,7 +7,7 @@ abbrev pub Stops : {Y : Type 0} → Stop → Option Y → Type 0
 Stops Mem read = Unit {0}
 Stops NotOmega read = read ≡ None
 
--- a reading of a front of the bytes, and what is left behind it
+-- a reading of a prefix of the bytes, and what is left behind it
 abbrev pub Gives : {X Y : Type 0} → (X → Y) → Result X Stop → List ℕ → Option (Y × List ℕ) → Type 0
 Gives view (Ok x) rest read = read ≡ Some (view x, rest)
 Gives view (Err e) rest read = Stops e read

@@ -8,7 +8,7 @@ use Rattle.omega_spelling.specs.Refused.{IsVersion, IsTooDeep, IsWide, IsNotOmeg
 use Rattle.omega_read.specs.declared.whole.ReadRefusal.{ReadRefusal}
 use Rattle.omega_read.specs.declared.whole.ReadRefusal.TheVariants.{NotOmega, Version, Wide, TooDeep, Mem}
 
--- want of memory may come for all bytes
+-- out of memory may come for all bytes
 abbrev pub RefusedAs : List ℕ → ReadRefusal → Type 0
 RefusedAs bytes NotOmega = Refuses bytes IsNotOmega
 RefusedAs bytes Version = Refuses bytes IsVersion

@@ -58,7 +58,7 @@ fn closed(spot: Spot, b: u8) -> u64
     }
 }
 
-// Whether in some front more than 4,000 parentheses are open.
+// Whether in some prefix more than 4,000 parentheses are open.
 #[tactic(auto, unfolding(omega_spelling::specs::Refusals::is_too_deep), using(crate::proofs::Scans::scans))]
 pub fn too_deep(bytes: &[u8]) -> bool
     ensures { result ≡ is_too_deep bytes.now }

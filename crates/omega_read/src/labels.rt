@@ -19,7 +19,7 @@ fn goes_on(b: u8) -> bool
     begins(b) || b.is_ascii_digit() || b == b'\''
 }
 
-// How many bytes of a name stand at the front.
+// How many bytes of a name stand at the start.
 #[tactic(auto, using(crate::proofs::Runs::runs))]
 fn name_len(bytes: &[u8]) -> usize
     ensures run { run in_name bytes.now ≡ (take result bytes.now, drop result bytes.now) }

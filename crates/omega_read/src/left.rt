@@ -5,7 +5,7 @@ ghost use Rattle.omega_spelling.specs.Reading.{strip};
 use omega_kinds::Mem;
 use std::alloc::{AllocError, AllocFailed};
 
-// Why nothing was read: want of memory, or bytes that are not what was to be read.
+// Why nothing was read: out of memory, or bytes that are not what was to be read.
 #[derive(Clone, Copy, Debug, PartialEq, Eq)]
 pub enum Stop {
     Mem,
@@ -52,7 +52,7 @@ pub struct Left<'a> {
 }
 
 impl Left<'_> {
-    // Takes these bytes from the front, where they are there.
+    // Takes these bytes from the start, where they are there.
     pub fn eat(&mut self, front: &[u8]) -> bool
         ensures { MatchBool result
             (strip front.now self.old.rest.now ≡ Some self.new.rest.now)
@@ -67,7 +67,7 @@ impl Left<'_> {
         }
     }
 
-    // Takes these bytes from the front, which must be there.
+    // Takes these bytes from the start, which must be there.
     pub fn expect_bytes(&mut self, front: &[u8]) -> Result<(), Stop>
         ensures { MatchResult result
             (λ _. strip front.now self.old.rest.now ≡ Some self.new.rest.now)

@@ -7,7 +7,7 @@ ghost use Rattle.omega_read.specs.Gives.{Gives};
 
 use crate::left::{Left, Stop};
 
-// How many digits stand at the front.
+// How many digits stand at the start.
 #[tactic(auto, using(crate::proofs::Runs::runs))]
 pub fn digits_len(bytes: &[u8]) -> usize
     ensures run { run is_ascii_digit bytes.now ≡ (take result bytes.now, drop result bytes.now) }

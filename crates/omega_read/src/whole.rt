@@ -35,7 +35,7 @@ pub enum ReadRefusal {
     /// With each number replaced by 0 the bytes are Omega text, and some number is outside signed 64 bits.
     #[error("a number is outside signed 64 bits")]
     Wide,
-    /// In some front of the bytes more than 4,000 parentheses are open outside texts.
+    /// In some prefix of the bytes more than 4,000 parentheses are open outside texts.
     #[error("more than 4,000 parentheses are open at once")]
     TooDeep,
     /// Want of memory.
@@ -122,7 +122,7 @@ fn refusal_of(alloc: Global, bytes: &[u8]) -> ReadRefusal
 }
 
 /// The type and the term whose Omega text the bytes are, in the version that the first line names. `Ok` comes exactly where they are such a text and no more
-/// than 4,000 parentheses are open in it; each refusal but want of memory exactly where it is the first that holds.
+/// than 4,000 parentheses are open in it; each refusal but out of memory exactly where it is the first that holds.
 /// Both are closed, so that they can be written again.
 #[tactic(auto, using(crate::proofs::Wholes::wholes))]
 pub fn read(alloc: Global, bytes: &[u8]) -> Result<(Ty, Term), ReadRefusal>

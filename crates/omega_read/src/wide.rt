@@ -161,7 +161,7 @@ fn put_zeroed(out: &mut Vec<u8>, bytes: &[u8]) -> Result<(), Mem>
     Ok(())
 }
 
-// The bytes with each number behind the first line replaced by 0. `Err` is want of memory.
+// The bytes with each number behind the first line replaced by 0. `Err` is out of memory.
 #[tactic(auto, unfolding(omega_spelling::specs::Refusals::zeroed))]
 pub fn with_zeros(alloc: Global, bytes: &[u8]) -> Result<Vec<u8>, Mem>
     ensures { IfOk result (λ v. v.items ≡ zeroed bytes.now) }

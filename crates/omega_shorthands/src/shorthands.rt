@@ -12,7 +12,7 @@ use omega_types::{Ty, TyNode};
 use std::alloc::Global;
 use type_normal::{NormalTy, as_normal, hsubst, plain};
 
-/// A term variable. `Err` is want of memory, as for all calls of this crate.
+/// A term variable. `Err` is out of memory, as for all calls of this crate.
 pub fn variable(alloc: Global, index: u64) -> Result<Term, Mem>
     ensures { IfOk result (λ e. e ≡ Var index) }
 {

@@ -143,7 +143,7 @@ inside-run (b ∷ xs) w = one b (flat_map byte_text xs) w (sorted b) ∙ inside-
 text-narrow : (bytes : List ℕ) → Narrow (codes "\"" then flat_map byte_text bytes then codes "\"")
 text-narrow bytes rest d = ap wide (quoted-is bytes rest) ∙ inside-run bytes (34 ∷ rest)
 
--- a front that ends its item
+-- a prefix that ends its item
 abbrev Opens : List ℕ → Type 0
 Opens front = (w : List ℕ) → wide (front ++ w) ≡ wide w
 

@@ -36,7 +36,7 @@ one-line First Second x y e = absurd (some-none x (sym (strip-again (version_lin
 one-line Second First x y e = absurd (some-none x (sym (strip-again (version_line Second) x) ∙ ap (strip (version_line Second)) e ∙ other-line Second First y (λ h. cc)))
 
 module _ (v : Version) where
-  -- what is read from the front of a text, and the bytes after it, are determined
+  -- what is read from the start of a text, and the bytes after it, are determined
   ty-front : (n : ℕ) (t u : Ty) (r s : List ℕ) → TySpelled v n t → TySpelled v n u → Ends r → Ends s → ty_text n t ++ r ≡ ty_text n u ++ s → (t ≡ u) × (r ≡ s)
   ty-front n t u r s p q x y e =
       let a = (ty-reads v (max (deep t) (deep u)) n).again t r (p, omega arith) x in

@@ -1,4 +1,4 @@
--- Reading kinds, labels and types from bytes: what is read from the front, and the bytes after it.
+-- Reading kinds, labels and types from bytes: what is read from the start, and the bytes after it.
 use Rattle.std.specs.Prelude.{ℕ, zero, suc, ◌+◌, ◌-◌, ◌*◌, ◌^◌, List, [], ◌∷◌, length, codes, Bool, true, false, not, ◌&&◌, ◌||◌, ◌==◌, nat_lt, if◌then◌else◌, Option, Some, None}
 use Rattle.std.specs.Cmp.Lexicographic.{pointwise}
 use Rattle.std.specs.Char.{is_ascii_digit, is_ascii_alphabetic}
@@ -15,11 +15,11 @@ abbrev pub ◌>>=◌ : {A B : Type 0} → Option A → (A → Option B) → Opti
 (Some x) >>= f = f x
 None >>= f = None
 
--- what is read from the front, and the bytes after it
+-- what is read from the start, and the bytes after it
 abbrev pub Reader : Type 0 → Type 0
 Reader A = List ℕ → Option (A × List ℕ)
 
--- takes just these bytes from the front
+-- takes just these bytes from the start
 unfoldable pub strip : List ℕ → List ℕ → Option (List ℕ)
 strip [] bs = Some bs
 strip (p ∷ ps) [] = None
@@ -34,7 +34,7 @@ abbrev pub passes : (ℕ → Bool) → List ℕ → Bool
 passes p [] = true
 passes p (b ∷ bs) = p b && passes p bs
 
--- the longest front of bytes that pass, and the rest
+-- the longest prefix of bytes that pass, and the rest
 unfoldable pub run : (ℕ → Bool) → List ℕ → List ℕ × List ℕ
 run p [] = ([], [])
 run p (b ∷ bs) = if p b then (b ∷ (run p bs).0, (run p bs).1) else ([], b ∷ bs)

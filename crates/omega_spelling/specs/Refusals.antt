@@ -41,7 +41,7 @@ closes Outside b = if b == 41 then 1 else 0
 closes Inside b = 0
 closes Escaped b = 0
 
--- whether in some front that goes on from here, more than 4,000 are open
+-- whether in some prefix that goes on from here, more than 4,000 are open
 abbrev pub deep_from : Place → (open_count close_count : ℕ) → List ℕ → Bool
 deep_from p o c [] = false
 deep_from p o c (b ∷ bs) = nat_lt (c + closes p b + 4000) (o + opens p b) || deep_from (after p b) (o + opens p b) (c + closes p b) bs

@@ -1,5 +1,6 @@
 -- A walk over a term: f changes a type below so many binders of types, and g a variable below so many binders of types
--- and so many of terms. For example, the walk with f i t = t and g i j n = n + 1 where j ≤ n raises the free variables.
+-- and so many of terms. For example, the walk in which f i t = t, g i j n = Term.Var (n + 1) where j ≤ n, and g i j n = Term.Var n
+-- elsewhere, raises the free variables by one.
 use Rattle.std.specs.Prelude.{ℕ, ◌+◌}
 use Rattle.omega_types.specs.Ty.{Ty}
 use Rattle.omega_terms.specs.Term.{Term, TermRow}

@@ -15,7 +15,7 @@ pub struct Inner {
 pub const OUTSIDE: Inner = Inner { types: 0, terms: 0 };
 
 impl Inner {
-    /// One binder of types more. `Err` is want of memory: the number would pass the last one.
+    /// One binder of types more. `Err` is out of memory: the number would pass the last one.
     pub fn under_type(self) -> Result<Inner, Mem>
         ensures types { IfOk result (λ i. i.types ≡ self.types + 1) }
         ensures terms { IfOk result (λ i. i.terms ≡ self.terms) }
@@ -26,7 +26,7 @@ impl Inner {
         })
     }
 
-    /// One binder of terms more. `Err` is want of memory: the number would pass the last one.
+    /// One binder of terms more. `Err` is out of memory: the number would pass the last one.
     pub fn under_term(self) -> Result<Inner, Mem>
         ensures types { IfOk result (λ i. i.types ≡ self.types) }
         ensures terms { IfOk result (λ i. i.terms ≡ self.terms + 1) }

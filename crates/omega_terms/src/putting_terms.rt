@@ -14,7 +14,7 @@ use std::alloc::Global;
 
 /// The term with `arg` for the term variable `index`, and each greater index of a term variable lowered by one.
 /// `arg` stands in the context of the result, and is shifted below each binder that it comes under.
-/// `Err` is want of memory, also where an index would pass the last number.
+/// `Err` is out of memory, also where an index would pass the last number.
 ///
 /// Pierce, "Types and Programming Languages", section 6.2, Shifting and substitution.
 pub fn put_term(alloc: Global, body: &Term, index: u64, arg: &Term) -> Result<Term, Mem>

@@ -13,7 +13,7 @@ use omega_types::{Ty, shift};
 use std::alloc::Global;
 
 /// The term with `types` added to each free type index and `terms` to each free term index.
-/// `Err` is want of memory, also where an index would pass the last number.
+/// `Err` is out of memory, also where an index would pass the last number.
 ///
 /// Pierce, "Types and Programming Languages", section 6.2, Shifting and substitution.
 pub fn shift_term(alloc: Global, term: &Term, types: u64, terms: u64) -> Result<Term, Mem>

@@ -127,7 +127,7 @@ impl Model for TermFields {
 }
 
 impl Term {
-    /// The term that a node makes. `Err` is want of memory, also for a variable whose index is the last number, and for
+    /// The term that a node makes. `Err` is out of memory, also for a variable whose index is the last number, and for
     /// a term that is too high or too large (`Extent::over`).
     pub fn make(alloc: Global, node: TermNode) -> Result<Term, Mem>
         ensures { IfOk result (λ e. e ≡ term_of node) }
@@ -171,7 +171,7 @@ impl Term {
         self.made.is_value
     }
 
-    /// The same term, with its parts shared. `Err` is want of memory.
+    /// The same term, with its parts shared. `Err` is out of memory.
     pub fn share(&self) -> Result<Term, Mem>
         ensures { IfOk result (λ e. e ≡ self.now) }
     {
@@ -303,7 +303,7 @@ impl TermFields {
         }
     }
 
-    /// No fields, with room for so many. `Err` is want of memory.
+    /// No fields, with room for so many. `Err` is out of memory.
     pub fn with_capacity(alloc: Global, count: usize) -> Result<TermFields, Mem>
         ensures { IfOk result (λ f. f ≡ []) }
     {
@@ -315,7 +315,7 @@ impl TermFields {
     }
 
     /// One more field at the end, whose label is greater than the last one.
-    /// `Err` is want of memory, and the list stays as it was.
+    /// `Err` is out of memory, and the list stays as it was.
     pub fn push(&mut self, item: (Label, Term)) -> Result<(), Mem>
         requires { MayFollow self.old item.0 }
         ensures ok { OnOk result (self.new ≡ self.old ++ item ∷ []) }

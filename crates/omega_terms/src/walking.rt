@@ -25,16 +25,16 @@ pub trait Change {
     fn is_unchanged(&self, term: &Term, inner: Inner) -> bool
         ensures { IsTrue result → walked (type_at self.now) (variable_at self.now) inner.types inner.terms term.now ≡ term.now };
 
-    /// What becomes of a type. `Err` is want of memory.
+    /// What becomes of a type. `Err` is out of memory.
     fn change_type(&self, alloc: Global, ty: &Ty, inner: Inner) -> Result<Ty, Mem>
         ensures { IfOk result (λ t. t ≡ type_at self.now inner.types ty.now) };
 
-    /// What becomes of a variable. `Err` is want of memory.
+    /// What becomes of a variable. `Err` is out of memory.
     fn change_variable(&self, alloc: Global, index: u64, inner: Inner) -> Result<Term, Mem>
         ensures { IfOk result (λ e. e ≡ variable_at self.now inner.types inner.terms index) };
 }
 
-/// The term below these binders with the change made in it. `Err` is want of memory, also where a number of binders would
+/// The term below these binders with the change made in it. `Err` is out of memory, also where a number of binders would
 /// pass the last one.
 ///
 /// Pierce, "Types and Programming Languages", section 6.2, Shifting and substitution, of which the walk is the common part.

@@ -13,7 +13,7 @@ use omega_kinds::{Kind, Mem, arrow, same_kind};
 use std::alloc::Global;
 
 /// The kind of a type in a context, which lists the kinds of the type variables, the innermost last;
-/// `None` exactly where the type has none. `Err` is want of memory.
+/// `None` exactly where the type has none. `Err` is out of memory.
 ///
 /// Pierce, "Types and Programming Languages", figure 30-1, Higher-order polymorphic lambda-calculus, kinding.
 pub fn kind_of(alloc: Global, ctx: &[Kind], ty: &Ty) -> Result<Option<Kind>, Mem>
@@ -25,7 +25,7 @@ pub fn kind_of(alloc: Global, ctx: &[Kind], ty: &Ty) -> Result<Option<Kind>, Mem
     find_kind(alloc, &mut scope, ty)
 }
 
-/// The kinds of a context in a list that can grow, with their parts shared. `Err` is want of memory.
+/// The kinds of a context in a list that can grow, with their parts shared. `Err` is out of memory.
 pub fn share_context(alloc: Global, ctx: &[Kind]) -> Result<Vec<Kind>, Mem>
     ensures { IfOk result (λ scope. scope_of scope.items ≡ scope_of ctx.now) }
 {
@@ -37,7 +37,7 @@ pub fn share_context(alloc: Global, ctx: &[Kind]) -> Result<Vec<Kind>, Mem>
 }
 
 /// The kind of the variable at an index in a context, which lists the innermost last; `None` exactly where no variable
-/// has that index. `Err` is want of memory.
+/// has that index. `Err` is out of memory.
 pub fn variable_kind(ctx: &[Kind], index: u64) -> Result<Option<Kind>, Mem>
     ensures { IfOk result (λ o. option_map kind_tree o ≡ slice_get (scope_of ctx.now) index) }
 {

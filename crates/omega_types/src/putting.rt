@@ -36,7 +36,7 @@ impl TyChange for Put<'_> {
 
 /// The type with `arg` for the variable `index`, and each greater index lowered by one.
 /// `arg` stands in the context of the result, and is shifted under each binder that it comes below.
-/// `Err` is want of memory, also where an index would pass the last number.
+/// `Err` is out of memory, also where an index would pass the last number.
 ///
 /// Pierce, "Types and Programming Languages", section 6.2, Shifting and substitution.
 pub fn substitute(alloc: Global, body: &Ty, index: u64, arg: &Ty) -> Result<Ty, Mem>

@@ -31,7 +31,7 @@ impl TyChange for Raise {
 }
 
 /// The type with `by` added to each free index that is at least `from`.
-/// `Err` is want of memory, also where an index would pass the last number.
+/// `Err` is out of memory, also where an index would pass the last number.
 ///
 /// Pierce, "Types and Programming Languages", section 6.2, Shifting and substitution.
 #[tactic(auto, using(crate::proofs::Steps::shift_steps))]

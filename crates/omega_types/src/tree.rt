@@ -114,7 +114,7 @@ impl Model for TyFields {
 }
 
 impl Ty {
-    /// The type that a node makes. `Err` is want of memory, also for a variable whose index is the last number, and for
+    /// The type that a node makes. `Err` is out of memory, also for a variable whose index is the last number, and for
     /// a type that is too high or too large (`Extent::over`).
     pub fn make(alloc: Global, node: TyNode) -> Result<Ty, Mem>
         ensures { IfOk result (λ t. t ≡ ty_of node) }
@@ -150,7 +150,7 @@ impl Ty {
         self.made.extent
     }
 
-    /// The same type, with its parts shared. `Err` is want of memory.
+    /// The same type, with its parts shared. `Err` is out of memory.
     pub fn share(&self) -> Result<Ty, Mem>
         ensures { IfOk result (λ t. t ≡ self.now) }
     {
@@ -204,7 +204,7 @@ impl TyFields {
         }
     }
 
-    /// No fields, with room for so many. `Err` is want of memory.
+    /// No fields, with room for so many. `Err` is out of memory.
     pub fn with_capacity(alloc: Global, count: usize) -> Result<TyFields, Mem>
         ensures { IfOk result (λ f. f ≡ []) }
     {
@@ -215,7 +215,7 @@ impl TyFields {
     }
 
     /// One more field at the end, whose label is greater than the last one.
-    /// `Err` is want of memory, and the list stays as it was.
+    /// `Err` is out of memory, and the list stays as it was.
     pub fn push(&mut self, item: (Label, Ty)) -> Result<(), Mem>
         requires { MayFollow self.old item.0 }
         ensures ok { OnOk result (self.new ≡ self.old ++ item ∷ []) }

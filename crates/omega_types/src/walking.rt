@@ -20,7 +20,7 @@ pub trait TyChange {
     fn is_unchanged(&self, ty: &Ty, depth: u64) -> bool
         ensures { IsTrue result → walked_ty (variable_at self.now) depth ty.now ≡ ty.now };
 
-    /// What becomes of the variable with this index below so many binders. `Err` is want of memory.
+    /// What becomes of the variable with this index below so many binders. `Err` is out of memory.
     fn change_variable(&self, alloc: Global, index: u64, depth: u64) -> Result<Ty, Mem>
         ensures { IfOk result (λ t. t ≡ variable_at self.now depth index) };
 }
@@ -33,7 +33,7 @@ pub fn is_closed(ty: &Ty, depth: u64) -> bool
 }
 
 /// The type below `depth` binders with the change made in it. A part that stays as it is is shared.
-/// `Err` is want of memory, also where a number of binders would pass the last one.
+/// `Err` is out of memory, also where a number of binders would pass the last one.
 ///
 /// Pierce, "Types and Programming Languages", section 6.2, Shifting and substitution, of which the walk is the common part.
 #[cycle(walk)]

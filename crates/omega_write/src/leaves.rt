@@ -10,7 +10,7 @@ use itoa::Buffer;
 use omega_kinds::Label;
 
 /// Writes a label: a reserved one by its word, a name by its own bytes.
-/// `Err` comes only where the sink counted a fault, and a front of the text was written, not all of it.
+/// `Err` comes only where the sink counted a fault, and a prefix of the text was written, not all of it.
 pub fn write_label<K: Sink>(sink: &mut K, label: &Label) -> Result<(), WriteFault>
     ensures { Wrote (K.told sink.old) (K.told sink.new) (label_text label.now) result }
 {

@@ -1,7 +1,7 @@
 // Kinds, labels, types, terms and whole texts of System Fω, written to a sink with no memory.
 // Stands on fing_text, on omega_terms, whose definitions say how each is spelled, and on itoa (numbers in decimal).
 // Proved: each call, `write_omega` for whole texts, writes exactly the text, and fails only where the sink counted a
-// fault, a front of the text being written.
+// fault, a prefix of the text being written.
 #![tactic(auto)]
 
 mod example;

@@ -93,7 +93,7 @@ fn next(count: u64) -> u64
 }
 
 /// Writes a kind: `*` or `(> K K)`.
-/// `Err` comes only where the sink counted a fault, and a front of the text was written, not all of it.
+/// `Err` comes only where the sink counted a fault, and a prefix of the text was written, not all of it.
 #[cycle(trees)]
 pub fn write_kind<K: Sink>(sink: &mut K, kind: &Kind) -> Result<(), WriteFault>
     ensures { Wrote (K.told sink.old) (K.told sink.new) (kind_text (kind_tree kind.now)) result }
@@ -319,7 +319,7 @@ fn write_piece<K: Sink>(sink: &mut K, piece: &Piece<'_>) -> Result<(), WriteFaul
 }
 
 /// Writes a type with so many type variables in scope. Each variable is among them, and has a level below 2^64.
-/// `Err` comes only where the sink counted a fault, and a front of the text was written, not all of it.
+/// `Err` comes only where the sink counted a fault, and a prefix of the text was written, not all of it.
 pub fn write_ty<K: Sink>(sink: &mut K, types: u64, ty: &Ty) -> Result<(), WriteFault>
     requires { TyInScope types ty.now }
     ensures { Wrote (K.told sink.old) (K.told sink.new) (ty_text types ty.now) result }
@@ -329,7 +329,7 @@ pub fn write_ty<K: Sink>(sink: &mut K, types: u64, ty: &Ty) -> Result<(), WriteF
 
 /// Writes a term with so many type variables and so many term variables in scope. Each variable is among those of
 /// its sort, and has a level below 2^64.
-/// `Err` comes only where the sink counted a fault, and a front of the text was written, not all of it.
+/// `Err` comes only where the sink counted a fault, and a prefix of the text was written, not all of it.
 pub fn write_term<K: Sink>(
     sink: &mut K,
     types: u64,
@@ -343,7 +343,7 @@ pub fn write_term<K: Sink>(
 }
 
 /// Writes the whole text of a closed type and a closed term, in three lines: `omega 2`, the type and the term.
-/// `Err` comes only where the sink counted a fault, and a front of the text was written, not all of it.
+/// `Err` comes only where the sink counted a fault, and a prefix of the text was written, not all of it.
 pub fn write_omega<'x, K: Sink>(sink: &mut K, ty: &'x Ty, term: &'x Term) -> Result<(), WriteFault>
     requires ty { TyInScope 0 ty.now }
     requires term { TermInScope 0 0 term.now }

@@ -16,7 +16,7 @@ use std::alloc::Global;
 /// The signature with every quantifier inside in its order: variables are taken one after the other, at each turn the one
 /// with the least path at which it is rooted and on which no functor parameter mentions a variable that is not taken yet.
 /// The variables of a pure functor's parameter keep their order, since lifted types are applied to them in it. The signature
-/// is ordered explicit, and so is what is given, which is its own norm. `Err` is want of memory, also where an index would
+/// is ordered explicit, and so is what is given, which is its own norm. `Err` is out of memory, also where an index would
 /// pass the last number.
 ///
 /// Rossberg, Russo and Dreyer, "F-ing modules", section 6, Modules as first-class values; the order is this project's own.

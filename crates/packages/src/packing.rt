@@ -20,7 +20,7 @@ use std::alloc::Global;
 use type_normal::{NormalTy, as_normal, same};
 
 /// `pack S` as a type: the encoding of S with its quantifiers in their order, which has kind `*`. S is ordered explicit.
-/// `Err` is want of memory, also where an index would pass the last number.
+/// `Err` is out of memory, also where an index would pass the last number.
 ///
 /// Rossberg, Russo and Dreyer, "F-ing modules", section 6, Modules as first-class values; the order of quantifiers is this
 /// project's own.
@@ -38,7 +38,7 @@ pub fn pack_type(alloc: Global, abs: &Abs) -> Result<Kinded, Mem>
 }
 
 /// `pack X : S`, where `found` is the term of X and `target` what `norm` gives for S, by a match of X against it: its types,
-/// normal and of the kinds of `target`'s hidden types, and its coercion. The type is the encoding of `target`. `Err` is want
+/// normal and of the kinds of `target`'s hidden types, and its coercion. The type is the encoding of `target`. `Err` is out
 /// of memory, also where an index would pass the last number.
 #[tactic(auto, using(crate::proofs::PackSteps::value_steps))]
 pub fn pack_value(

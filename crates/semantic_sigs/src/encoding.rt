@@ -17,7 +17,7 @@ use std::alloc::Global;
 use type_normal::plain;
 
 /// The encoding of an abstract signature: a `some` for each hidden type, the outermost first, round that of its body.
-/// `Err` is want of memory, also where an index would pass the last number.
+/// `Err` is out of memory, also where an index would pass the last number.
 ///
 /// Rossberg, Russo and Dreyer, "F-ing modules", section 4, figure of the encoding; the labels round the results of
 /// functors are this project's own.
@@ -28,7 +28,7 @@ pub fn encode(alloc: Global, abs: &Abs) -> Result<Ty, Mem>
     quantify(alloc, Quantifier::Some, abs.kinds(), body)
 }
 
-/// The encoding of a signature, which is kept with it and shared. Takes one step. `Err` is want of memory.
+/// The encoding of a signature, which is kept with it and shared. Takes one step. `Err` is out of memory.
 pub fn encode_sig(sig: &Sig) -> Result<Ty, Mem>
     ensures { IfOk result (λ t. t ≡ enc sig.now) }
 {
@@ -36,7 +36,7 @@ pub fn encode_sig(sig: &Sig) -> Result<Ty, Mem>
 }
 
 /// The encoding of the signature that a node makes, from those that its parts keep. A signature part is encoded once,
-/// and its type shared. `Err` is want of memory, also where an index would pass the last number.
+/// and its type shared. `Err` is out of memory, also where an index would pass the last number.
 pub(crate) fn encode_node(alloc: Global, node: &SigNode) -> Result<Ty, Mem>
     ensures { IfOk result (λ t. t ≡ enc (sig_of node.now)) }
 {

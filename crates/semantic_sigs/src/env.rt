@@ -90,7 +90,7 @@ impl Env {
         }
     }
 
-    /// One more entry. `Err` is want of memory, and the environment stays as it was.
+    /// One more entry. `Err` is out of memory, and the environment stays as it was.
     pub fn push(&mut self, entry: Entry) -> Result<(), Mem>
         ensures ok { OnOk result (self.new ≡ entry_of entry ∷ self.old) }
         ensures err { OnErr result (self.new ≡ self.old) }
@@ -136,7 +136,7 @@ impl Env {
 
     /// The signature and the term of the last entry of the name, as they stand at the end of the environment; `None`
     /// exactly where no entry has the name. They are shifted once, past all variables that come after the entry.
-    /// `Err` is want of memory, also where an index would pass the last number.
+    /// `Err` is out of memory, also where an index would pass the last number.
     ///
     /// Rossberg, Russo and Dreyer, "F-ing modules", section 4, Elaboration, rule of paths.
     pub fn find(&self, alloc: Global, name: &Name) -> Result<Option<(Sig, Term)>, Mem>
@@ -155,7 +155,7 @@ impl Env {
     }
 
     /// The module that the last entry of the name is, at the place of the entry, so that its signature is not shifted;
-    /// `None` exactly where the last entry of the name is no module, or there is none. `Err` is want of memory.
+    /// `None` exactly where the last entry of the name is no module, or there is none. `Err` is out of memory.
     pub fn standing(&self, alloc: Global, name: &Name) -> Result<Option<Standing<'_>>, Mem>
         ensures { IfOk result (λ o. MatchOption o
             ((s : SigTree) (n : ℕ) → find_in self.now name.now ≡ Some (s, VarTerm n) → ⊥)
@@ -178,7 +178,7 @@ impl Env {
     }
 }
 
-// One more entry for the kinds and the places of an environment, at a place: what it hides. `Err` is want of memory,
+// One more entry for the kinds and the places of an environment, at a place: what it hides. `Err` is out of memory,
 // and both stay as they were.
 fn note_entry(
     kinds: &mut Vec<Kind>,

@@ -10,7 +10,7 @@ use omega_terms::{Term, TermFields, TermNode};
 use omega_types::{Ty, TyNode, shift};
 use std::alloc::Global;
 
-/// The term of a value part that holds a value. `Err` is want of memory.
+/// The term of a value part that holds a value. `Err` is out of memory.
 ///
 /// Rossberg, Russo and Dreyer, "F-ing modules", section 4, figure of the encoding.
 pub fn value_term(alloc: Global, value: Term) -> Result<Term, Mem>
@@ -19,7 +19,7 @@ pub fn value_term(alloc: Global, value: Term) -> Result<Term, Mem>
     one_field(alloc, Label::Val, value)
 }
 
-/// The term of a type part that shows a type of a kind: an identity at it. `Err` is want of memory, also where an index
+/// The term of a type part that shows a type of a kind: an identity at it. `Err` is out of memory, also where an index
 /// would pass the last number.
 ///
 /// Rossberg, Russo and Dreyer, "F-ing modules", section 4, figure of the encoding.

@@ -17,7 +17,7 @@ pub enum Item {
 }
 
 impl Item {
-    /// The same step, with its name shared. `Err` is want of memory.
+    /// The same step, with its name shared. `Err` is out of memory.
     pub fn share(&self) -> Result<Item, Mem>
         ensures { IfOk result (λ item. item ≡ self.now) }
     {
@@ -58,7 +58,7 @@ impl Path {
         }
     }
 
-    /// One more step at the end. `Err` is want of memory, and the path stays as it was.
+    /// One more step at the end. `Err` is out of memory, and the path stays as it was.
     pub fn push(&mut self, item: Item) -> Result<(), Mem>
         ensures ok { OnOk result (self.new ≡ self.old ++ item_of item ∷ []) }
         ensures err { OnErr result (self.new ≡ self.old) }

@@ -170,7 +170,7 @@ impl Model for Abs {
 
 impl Sig {
     /// The signature that a node makes, with its encoding, in time linear in the node's fields and quantifiers. `Err` is
-    /// want of memory, also where the signature or its encoding is too high or too large (`Extent::over`).
+    /// out of memory, also where the signature or its encoding is too high or too large (`Extent::over`).
     pub fn make(alloc: Global, node: SigNode) -> Result<Sig, Mem>
         ensures { IfOk result (λ s. s ≡ sig_of node) }
     {
@@ -219,7 +219,7 @@ impl Sig {
         &self.made.encoding
     }
 
-    /// The same signature, with its parts shared. `Err` is want of memory.
+    /// The same signature, with its parts shared. `Err` is out of memory.
     pub fn share(&self) -> Result<Sig, Mem>
         ensures { IfOk result (λ s. s ≡ self.now) }
     {
@@ -276,7 +276,7 @@ impl SigFields {
         }
     }
 
-    /// No fields, with room for so many. `Err` is want of memory.
+    /// No fields, with room for so many. `Err` is out of memory.
     pub fn with_capacity(alloc: Global, count: usize) -> Result<SigFields, Mem>
         ensures { IfOk result (λ f. f ≡ []) }
     {
@@ -287,7 +287,7 @@ impl SigFields {
     }
 
     /// One more field at the end, whose name is greater than the last one.
-    /// `Err` is want of memory, and the list stays as it was.
+    /// `Err` is out of memory, and the list stays as it was.
     pub fn push(&mut self, item: (Name, Sig)) -> Result<(), Mem>
         requires { MayFollow self.old item.0 }
         ensures ok { OnOk result (self.new ≡ self.old ++ item ∷ []) }
@@ -327,7 +327,7 @@ impl SigFields {
 }
 
 impl Abs {
-    /// The signature that hides types of these kinds, the first being the outermost, in a body. `Err` is want of memory,
+    /// The signature that hides types of these kinds, the first being the outermost, in a body. `Err` is out of memory,
     /// also for a signature that is too high or too large (`Extent::over`).
     pub fn make(alloc: Global, kinds: Kinds, body: Sig) -> Result<Abs, Mem>
         ensures { IfOk result (λ x. x ≡ Ex kinds body) }
@@ -375,7 +375,7 @@ impl Abs {
         self.node.extent
     }
 
-    /// The same signature, with its parts shared. `Err` is want of memory.
+    /// The same signature, with its parts shared. `Err` is out of memory.
     pub fn share(&self) -> Result<Abs, Mem>
         ensures { IfOk result (λ x. x ≡ self.now) }
     {

@@ -36,7 +36,7 @@ impl Witnesses {
         }
     }
 
-    /// One more type at the end. `Err` is want of memory, and the list stays as it was.
+    /// One more type at the end. `Err` is out of memory, and the list stays as it was.
     pub fn push(&mut self, ty: NormalTy) -> Result<(), Mem>
         ensures ok { OnOk result (self.new ≡ self.old ++ ty ∷ []) }
         ensures err { OnErr result (self.new ≡ self.old) }
@@ -59,7 +59,7 @@ impl Witnesses {
         self.list.get(i)
     }
 
-    /// The same types, with their parts shared. `Err` is want of memory.
+    /// The same types, with their parts shared. `Err` is out of memory.
     pub fn share(&self, alloc: Global) -> Result<Witnesses, Mem>
         ensures { IfOk result (λ w. w ≡ self.now) }
     {

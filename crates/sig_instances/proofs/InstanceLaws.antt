@@ -8,7 +8,7 @@ use Rattle.omega_types.specs.Binders.{extend, puts, NormalForms}
 use Rattle.omega_terms.specs.Term.{Term, TermRow}
 use Rattle.omega_terms.specs.Instance.{TyInstance, Instance, Instances}
 use Rattle.sig_laws.specs.Good.{NormalTerm}
-use Rattle.semantic_sigs.specs.Changes.{Head, ty_in, sunk, putting}
+use Rattle.semantic_sigs.specs.Changes.{Head, ty_in, putting}
 use Rattle.semantic_sigs.proofs.HeadLaws.{Good, good-under, in-normal, good-puts, good-vars}
 use Rattle.omega_terms.specs.Walk.{walked}
 use Rattle.sig_instances.specs.TermChanges.{term_in, fields_in}

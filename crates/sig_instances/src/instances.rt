@@ -50,7 +50,7 @@ fn is_closed(term: &Term, depth: u64) -> bool
 
 /// A term whose types are normal, with normal types of the right kinds put in for its innermost type variables, one for
 /// each, the first for the outermost; each type in the result is in normal form. The types stand outside of these
-/// variables. `Err` is want of memory, also where an index would pass the last number.
+/// variables. `Err` is out of memory, also where an index would pass the last number.
 ///
 /// Rossberg, Russo and Dreyer, "F-ing modules", section 7, Applicative functors: the hidden types of a pure module put
 /// into what comes after it.

@@ -1,4 +1,4 @@
--- What the code's refusals are seen as: plain refusals, and nothing for want of memory.
+-- What the code's refusals are seen as: plain refusals, and nothing when memory is out.
 use Rattle.std.specs.Prelude.{◌≡◌, Option, Some, None}
 use Rattle.sig_definitions.specs.Explicit.SigPath.{Item}
 use Rattle.sig_definitions.specs.Matching.MatchRefusal.{MatchRefusal, Why, within}
@@ -18,7 +18,7 @@ plain_refusal (refusal.NoRoot number path) = Some (MatchRefusal.NoRoot number pa
 plain_refusal (refusal.Clash variables path why) = Some (MatchRefusal.Clash variables path (plain_why why))
 plain_refusal refusal.Mem = None
 
--- what the code answers for want of memory
+-- what the code answers when memory is out
 abbrev pub want_of_memory : CodeRefusal
 want_of_memory = refusal.Mem
 

@@ -19,7 +19,7 @@ use std::alloc::Global;
 /// such. Where a hidden type of the right side is not found on the left along its least root path, `NoRoot` tells the first
 /// one. Where all are found and the sides do not agree at these types, the first place in the order of tests is told: by
 /// `Clash`; or, where parts that are matched in their turn have no match, by the refusal of that match, the way to them
-/// standing before its path. `Mem` is want of memory, also where an index would pass the last number.
+/// standing before its path. `Mem` is out of memory, also where an index would pass the last number.
 ///
 /// Rossberg, Russo and Dreyer, "F-ing modules", sections 4, Signature matching, and 5, Decidability; here through results
 /// of pure functors too.

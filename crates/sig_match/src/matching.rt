@@ -299,7 +299,7 @@ fn target_at(
     Ok(Some(target))
 }
 
-// The match, or none where it is refused; want of memory is no refusal.
+// The match, or none where it is refused; out of memory is no refusal.
 fn if_matched(outcome: Result<Matched, MatchRefusal>) -> Result<Option<Matched>, Mem>
     ensures { IfOk result (λ o. IfMatched outcome o) }
 {

@@ -14,7 +14,7 @@ pub struct Matched {
 /// Why two signatures do not match. `NoRoot`: the hidden type of this number, counted from 0, has no type on the left
 /// along its least root path; both are those of the match at the last functor's part or signature part on the way there,
 /// with which the path begins. `Clash`: the parts at the path do not agree; the types of the reason stand where so many
-/// type variables are in scope. `Mem` is want of memory.
+/// type variables are in scope. `Mem` is out of memory.
 #[derive(Drop)]
 pub enum MatchRefusal {
     NoRoot { index: u64, path: Path },

@@ -24,7 +24,7 @@ pub use variables::rooted;
 
 /// The least root path of each hidden type of an abstract signature, in their order, the outermost first; `None` exactly
 /// where a type has none. The paths lead into the body. The signature is well formed and its types are normal, in the
-/// context in which it stands; of any other, the answer is what the same search gives (`seek`). `Err` is want of memory,
+/// context in which it stands; of any other, the answer is what the same search gives (`seek`). `Err` is out of memory,
 /// also where an index would pass the last number. All are found in one walk over the body.
 ///
 /// Rossberg, Russo and Dreyer, "F-ing modules", section 5, explicit signatures; through results of pure functors here.

@@ -6,7 +6,7 @@ use omega_kinds::Mem;
 use omega_types::{Ty, TyNode, next_level};
 
 /// The index of the variable that a normal type is, applied to exactly the `count` innermost variables in order; as it is
-/// written outside these. `None` where the type is none. `Err` is want of memory.
+/// written outside these. `None` where the type is none. `Err` is out of memory.
 #[cycle(rooted)]
 pub fn rooted(ty: &Ty, count: u64) -> Result<Option<u64>, Mem>
     ensures { IfOk result (λ own. own ≡ rooted_of count ty.now) }

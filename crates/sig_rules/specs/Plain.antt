@@ -1,4 +1,4 @@
--- What the code's refusals are seen as: plain ones, and nothing for want of memory.
+-- What the code's refusals are seen as: plain ones, and nothing when memory is out.
 use Rattle.std.specs.Prelude.{Option, Some, None}
 use Rattle.omega_kinds.specs.View.{kind_tree}
 use Rattle.sig_definitions.specs.Signatures.Sig.{Sig, Abs, SigRow, NoField}
@@ -14,7 +14,7 @@ plain_why (refusal.KindDiffer k j) = Some (SigWhy.KindDiffer (kind_tree k) (kind
 plain_why refusal.NotStructure = Some SigWhy.NotStructure
 plain_why refusal.Mem = None
 
--- what the code answers for want of memory
+-- what the code answers when memory is out
 abbrev pub want_of_memory : SigRefusal
 want_of_memory = refusal.Mem
 

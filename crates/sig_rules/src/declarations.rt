@@ -45,7 +45,7 @@ fn expect_star(kind: &Kind) -> Result<(), SigRefusal>
     }
 }
 
-/// `type X = T`. `Err` is want of memory.
+/// `type X = T`. `Err` is out of memory.
 pub fn decl_is(alloc: Global, name: &Name, ty: &Kinded) -> Result<Abs, Mem>
     ensures { IfOk result (λ x. TypeGives name.now ty.now.ty (kind_tree ty.now.kind) x) }
 {
@@ -53,7 +53,7 @@ pub fn decl_is(alloc: Global, name: &Name, ty: &Kinded) -> Result<Abs, Mem>
     one_part(alloc, Kinds::new(alloc), name, part)
 }
 
-/// `type X : K`, which hides a type. `Err` is want of memory.
+/// `type X : K`, which hides a type. `Err` is out of memory.
 pub fn decl_of(alloc: Global, name: &Name, kind: &Kind) -> Result<Abs, Mem>
     ensures { IfOk result (λ x. AbstractGives name.now (kind_tree kind.now) x) }
 {
@@ -71,7 +71,7 @@ fn one_kind(alloc: Global, kind: &Kind) -> Result<Kinds, Mem>
     Ok(kinds)
 }
 
-/// `module X : S`. `Err` is want of memory.
+/// `module X : S`. `Err` is out of memory.
 pub fn decl_module(alloc: Global, name: &Name, sig: &Abs) -> Result<Abs, Mem>
     ensures { IfOk result (λ x. ModuleGives name.now sig.now x) }
 {
@@ -80,7 +80,7 @@ pub fn decl_module(alloc: Global, name: &Name, sig: &Abs) -> Result<Abs, Mem>
     one_part(alloc, kinds, name, body)
 }
 
-/// `signature X = S`. `Err` is want of memory.
+/// `signature X = S`. `Err` is out of memory.
 pub fn decl_meta(alloc: Global, name: &Name, sig: &Abs) -> Result<Abs, Mem>
     ensures { IfOk result (λ x. SignatureGives name.now sig.now x) }
 {
@@ -99,7 +99,7 @@ pub fn include(sig: &Abs) -> Result<Abs, SigRefusal>
     }
 }
 
-/// `fun (X : S1) -> S2`, S2 under the hidden types of S1. `Err` is want of memory.
+/// `fun (X : S1) -> S2`, S2 under the hidden types of S1. `Err` is out of memory.
 pub fn functor_sig(alloc: Global, param: &Abs, target: &Abs) -> Result<Abs, Mem>
     ensures { IfOk result (λ x. GenerativeGives param.now target.now x) }
 {

@@ -2,7 +2,7 @@
 // handed in, or the refusal of the first condition that fails. And sets of names, as of those declared before.
 // Stands on sig_judgments, whose definitions say what is given and what is refused, and on semantic_sigs, in whose handles it
 // works.
-// Proved: what a call gives is the conclusion of its rule, and each refusal is one of its rule; want of memory alone is free.
+// Proved: what a call gives is the conclusion of its rule, and each refusal is one of its rule; out of memory alone is free.
 #![tactic(auto)]
 
 mod declarations;

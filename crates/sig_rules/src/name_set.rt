@@ -45,7 +45,7 @@ impl NameSet {
         self.names.contains(name)
     }
 
-    /// The names, in their order. `Err` is want of memory, as for all calls below.
+    /// The names, in their order. `Err` is out of memory, as for all calls below.
     pub fn list(&self, alloc: Global) -> Result<Names, Mem>
         ensures { IfOk result (λ n. n ≡ self.now) }
     {

@@ -34,7 +34,7 @@ pub fn distinct(before: &NameSet, next: &Abs) -> Result<(), SigRefusal>
 }
 
 /// Declarations and those after them, which stand under the hidden types of the first. Both are structures that share no
-/// name, which holds of declarations whose names are distinct. `Err` is want of memory.
+/// name, which holds of declarations whose names are distinct. `Err` is out of memory.
 pub fn seq_decl(alloc: Global, first: &Abs, rest: &Abs) -> Result<Abs, Mem>
     ensures { IfOk result (λ x. (ks js : List KindTree) (fs gs : SigRow) → first.now ≡ Ex ks (Str fs) → rest.now ≡ Ex js (Str gs) → AreApart fs gs → DeclarationsGive first.now rest.now x) }
 {

@@ -17,7 +17,7 @@ reason_scoped n (ElabWhy.NotRecord t) = ty_scoped n t
 reason_scoped n (ElabWhy.Differ t u) = ty_scoped n t && ty_scoped n u
 reason_scoped n _ = true
 
--- want of memory has no line
+-- out of memory has no line
 abbrev pub given_scoped : ℕ → Option ElabWhy → Truth
 given_scoped n (Some why) = reason_scoped n why
 given_scoped n None = false

@@ -10,7 +10,7 @@ use omega_scopes::ty_in_scope;
 use semantic_sigs::Why;
 use type_normal::{NormalTy, plain};
 
-/// Whether the refusal has a line: it is not want of memory, and each variable of its types is among the type variables
+/// Whether the refusal has a line: it is not out of memory, and each variable of its types is among the type variables
 /// that it says are in scope, and has a level below 2^64. It may be false also where 2^64 variables or more are in scope
 /// below a binder of a type in it. Takes no memory.
 pub fn refusal_in_scope(refusal: &Refusal) -> bool

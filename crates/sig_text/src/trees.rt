@@ -28,7 +28,7 @@ enum Piece<'a> {
 
 /// Writes an abstract signature, `(ex (K ..) s)`, with so many type variables in scope. Each variable is among them and
 /// has a level below 2^64, and below each list of binders the number in scope is below 2^64.
-/// `Err` comes only where the sink counted a fault, and a front of the text was written, not all of it.
+/// `Err` comes only where the sink counted a fault, and a prefix of the text was written, not all of it.
 pub fn write_abs<K: Sink>(sink: &mut K, types: u64, abs: &Abs) -> Result<(), WriteFault>
     requires { AbsInScope types abs.now }
     ensures { Wrote (K.told sink.old) (K.told sink.new) (abs_text types abs.now) result }
@@ -37,7 +37,7 @@ pub fn write_abs<K: Sink>(sink: &mut K, types: u64, abs: &Abs) -> Result<(), Wri
 }
 
 /// Writes an effect and a closed signature on a line: what a program, or a module, elaborates to.
-/// `Err` comes only where the sink counted a fault, and a front of the text was written, not all of it.
+/// `Err` comes only where the sink counted a fault, and a prefix of the text was written, not all of it.
 pub fn write_elab<K: Sink>(sink: &mut K, effect: Effect, abs: &Abs) -> Result<(), WriteFault>
     requires { AbsInScope 0 abs.now }
     ensures { Wrote (K.told sink.old) (K.told sink.new) (elab_text effect abs.now) result }

@@ -18,7 +18,7 @@ use std::alloc::Global;
 /// The normal form of a type in which `arg`, of kind `kind`, is put for the variable `index`, and each greater index is
 /// lowered by one. `arg` stands in the context of the result. Each operator that `arg` brings to an argument is applied
 /// to it at once, at the kind of the argument, which is a part of `kind`: so the result is normal again.
-/// A part that mentions neither the variable nor a greater index is given back as it is. `Err` is want of memory.
+/// A part that mentions neither the variable nor a greater index is given back as it is. `Err` is out of memory.
 ///
 /// Keller and Altenkirch, "Hereditary substitutions for simple types, formalized" (2010).
 pub fn hsubst(
@@ -35,7 +35,7 @@ pub fn hsubst(
 }
 
 /// The hereditary substitution of any type for a variable of a kind, as the definitions have it.
-/// `Err` is want of memory.
+/// `Err` is out of memory.
 pub(crate) fn fill_whole(
     alloc: Global,
     body: &Ty,

@@ -36,7 +36,7 @@ impl TyChange for Lowering {
 
 /// The type with each free index less by `by`, an index below `by` becoming 0. Where it mentions no index below `by`, it
 /// is a type which, raised by `by` from 0, is the given one, and it is normal in the context without the `by` innermost
-/// variables. `Err` is want of memory.
+/// variables. `Err` is out of memory.
 pub fn lower(alloc: Global, ty: &NormalTy, by: u64) -> Result<NormalTy, Mem>
     ensures value { IfOk result (λ t. t ≡ lower by ty.now) }
     ensures raised { IfOk result (λ t. ((i : ℕ) → i < by → Mentions i ty.now → ⊥) → shift by 0 t ≡ ty.now) }
@@ -46,7 +46,7 @@ pub fn lower(alloc: Global, ty: &NormalTy, by: u64) -> Result<NormalTy, Mem>
 }
 
 /// The type with each free index that is at least `from` less by `by`, but no less than `from`.
-/// `Err` is want of memory.
+/// `Err` is out of memory.
 pub fn lower_from(alloc: Global, ty: &NormalTy, by: u64, from: u64) -> Result<NormalTy, Mem>
     ensures { IfOk result (λ t. t ≡ lower_from by from ty.now) }
 {

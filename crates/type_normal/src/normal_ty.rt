@@ -31,7 +31,7 @@ impl Model for NormalTy {
 }
 
 impl NormalTy {
-    /// The same type, with its parts shared. `Err` is want of memory.
+    /// The same type, with its parts shared. `Err` is out of memory.
     pub fn share(&self) -> Result<NormalTy, Mem>
         ensures { IfOk result (λ t. t ≡ self.now) }
     {
@@ -57,7 +57,7 @@ pub fn as_normal(ty: Ty) -> NormalTy
 }
 
 /// The type with `by` added to each free index that is at least `from`. It is normal in each context to which the shift
-/// takes one of the argument's. `Err` is want of memory, also where an index would pass the last number.
+/// takes one of the argument's. `Err` is out of memory, also where an index would pass the last number.
 pub fn raise(alloc: Global, ty: &NormalTy, by: u64, from: u64) -> Result<NormalTy, Mem>
     ensures value { IfOk result (λ t. t ≡ shift by from ty.now) }
     ensures normal { IfOk result (λ t. (ctx other : List KindTree) (k : KindTree) → Maps ctx other (bump by from) → Normal ctx ty.now k → Normal other t k) }

@@ -15,7 +15,7 @@ use omega_types::{Ty, TyFields, TyNode, share_context, shift, variable_kind};
 use std::alloc::Global;
 
 /// The normal form of a type of a kind in a context, which lists the kinds of the type variables, the innermost last:
-/// the one type that is beta-normal, eta-long and convertible to it. `Err` is want of memory.
+/// the one type that is beta-normal, eta-long and convertible to it. `Err` is out of memory.
 ///
 /// Keller and Altenkirch, "Hereditary substitutions for simple types, formalized" (2010).
 pub fn normal(alloc: Global, ctx: &[Kind], ty: &Ty, _kind: &Kind) -> Result<NormalTy, Mem>

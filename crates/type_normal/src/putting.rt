@@ -26,7 +26,7 @@ use std::alloc::Global;
 /// A type below `depth` binders, with normal types put in for the innermost variables outside these binders, one for
 /// each, the first for the outermost, whatever types they are. Where the types have the kinds of the variables in the
 /// context `ctx` outside of both, and the type is normal under both, it is the normal form of the substitution under the
-/// binders `inner`. `Err` is want of memory, also where an index would pass the last number.
+/// binders `inner`. `Err` is out of memory, also where an index would pass the last number.
 pub fn put_types(
     alloc: Global,
     ty: &NormalTy,

@@ -30,7 +30,7 @@ impl TyChange for Renumbering<'_> {
 
 /// The type below `depth` binders with a new index for each free variable from outside them that has one in `places`, a
 /// list that begins with the innermost variable's; each other variable keeps its index. The new indexes are those of
-/// outside the binders. `Err` is want of memory, also where an index would pass the last number.
+/// outside the binders. `Err` is out of memory, also where an index would pass the last number.
 ///
 /// Pierce, "Types and Programming Languages", section 6.2, Shifting and substitution, of which it is the general case.
 pub fn renumber(
