@@ -44,8 +44,10 @@ mutual
   ty-sound n Ty.Text w e = tt
   ty-sound n (Ty.Arrow a b) w e = two (ty_scoped n a) (ty_scoped n b) (ty-sound n a w) (ty-sound n b w) e
   ty-sound n (Ty.Fields row) w e = row-sound n row w e
+  ty-sound n (Ty.Sum row) w e = row-sound n row w e
   ty-sound n (Ty.All k b) w e = under (n + 1) (ty_scoped (n + 1) b) (ty-sound (n + 1) b) e
   ty-sound n (Ty.Ex k b) w e = under (n + 1) (ty_scoped (n + 1) b) (ty-sound (n + 1) b) e
+  ty-sound n (Ty.Mu b) w e = under (n + 1) (ty_scoped (n + 1) b) (ty-sound (n + 1) b) e
   ty-sound n (Ty.Lam k b) w e = under (n + 1) (ty_scoped (n + 1) b) (ty-sound (n + 1) b) e
   ty-sound n (Ty.Apply f a) w e = two (ty_scoped n f) (ty_scoped n a) (ty-sound n f w) (ty-sound n a w) e
 
@@ -61,8 +63,10 @@ mutual
   ty-complete n Ty.Text s h = refl
   ty-complete n (Ty.Arrow a b) s h = and_from (ty_scoped n a) (ty_scoped n b) (ty-complete n a s.0 (omega arith)) (ty-complete n b s.1 (omega arith))
   ty-complete n (Ty.Fields row) s h = row-complete n row s h
+  ty-complete n (Ty.Sum row) s h = row-complete n row s h
   ty-complete n (Ty.All k b) s h = under_true (n + 1) (ty_scoped (n + 1) b) (omega arith) (ty-complete (n + 1) b s (omega arith))
   ty-complete n (Ty.Ex k b) s h = under_true (n + 1) (ty_scoped (n + 1) b) (omega arith) (ty-complete (n + 1) b s (omega arith))
+  ty-complete n (Ty.Mu b) s h = under_true (n + 1) (ty_scoped (n + 1) b) (omega arith) (ty-complete (n + 1) b s (omega arith))
   ty-complete n (Ty.Lam k b) s h = under_true (n + 1) (ty_scoped (n + 1) b) (omega arith) (ty-complete (n + 1) b s (omega arith))
   ty-complete n (Ty.Apply f a) s h = and_from (ty_scoped n f) (ty_scoped n a) (ty-complete n f s.0 (omega arith)) (ty-complete n a s.1 (omega arith))
 

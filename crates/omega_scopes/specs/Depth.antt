@@ -11,8 +11,10 @@ abbrev mutual
   ty_depth Ty.Text = 0
   ty_depth (Ty.Arrow a b) = max (ty_depth a) (ty_depth b)
   ty_depth (Ty.Fields row) = row_depth row
+  ty_depth (Ty.Sum row) = row_depth row
   ty_depth (Ty.All k b) = ty_depth b + 1
   ty_depth (Ty.Ex k b) = ty_depth b + 1
+  ty_depth (Ty.Mu b) = ty_depth b + 1
   ty_depth (Ty.Lam k b) = ty_depth b + 1
   ty_depth (Ty.Apply f a) = max (ty_depth f) (ty_depth a)
 

@@ -15,8 +15,10 @@ abbrev mutual
   ty_scoped n Ty.Text = true
   ty_scoped n (Ty.Arrow a b) = ty_scoped n a && ty_scoped n b
   ty_scoped n (Ty.Fields row) = row_scoped n row
+  ty_scoped n (Ty.Sum row) = row_scoped n row
   ty_scoped n (Ty.All k b) = fits (n + 1) && ty_scoped (n + 1) b
   ty_scoped n (Ty.Ex k b) = fits (n + 1) && ty_scoped (n + 1) b
+  ty_scoped n (Ty.Mu b) = fits (n + 1) && ty_scoped (n + 1) b
   ty_scoped n (Ty.Lam k b) = fits (n + 1) && ty_scoped (n + 1) b
   ty_scoped n (Ty.Apply f a) = ty_scoped n f && ty_scoped n a
 

@@ -39,9 +39,10 @@ fn fits_ty(types: u64, ty: &Ty) -> bool
         TyNode::Var(index) => *index < types,
         TyNode::Int | TyNode::Bool | TyNode::Text => true,
         TyNode::Arrow(a, b) => fits_ty(types, a) && fits_ty(types, b),
-        TyNode::Fields(fields) => fits_ty_fields(types, fields),
+        TyNode::Fields(fields) | TyNode::Sum(fields) => fits_ty_fields(types, fields),
         TyNode::All(_, b) => fits_ty_body(types, b),
         TyNode::Ex(_, b) => fits_ty_body(types, b),
+        TyNode::Mu(b) => fits_ty_body(types, b),
         TyNode::Lam(_, b) => fits_ty_body(types, b),
         TyNode::Apply(f, a) => fits_ty(types, f) && fits_ty(types, a),
     }
