@@ -13,7 +13,7 @@ ghost use Rattle.sig_definitions.specs.Signatures.SigSubst.{rename_sig, rename_a
 ghost use Rattle.semantic_sigs.specs.Change.{change_of};
 ghost use Rattle.semantic_sigs.specs.Changes.{sig_in, abs_in, sig_row_in, sunk, sinks, ty_in, putting};
 ghost use Rattle.semantic_sigs.specs.Fields.{sig_row};
-ghost use Rattle.semantic_sigs.specs.Moved.{moved};
+ghost use Rattle.type_normal.specs.Moved.{moved};
 ghost use Rattle.semantic_sigs.specs.View.{kinds_of, body_of};
 
 use crate::heads::{Change, change_ty, sum};
@@ -41,22 +41,6 @@ pub fn instantiate_abs(alloc: Global, abs: &Abs, types: &[NormalTy]) -> Result<A
     ensures normal { IfOk result (λ x. (ctx ks : List KindTree) → NormalAbs (extend ctx ks) abs.now → NormalForms ctx types.now ks types.now → IsAbsAt ctx abs.now types.now x) }
 {
     changed_abs(alloc, abs, Change::Put(types), 0)
-}
-
-/// A type below `depth` binders, with normal types put in for the innermost variables outside these binders, one for
-/// each, the first for the outermost, whatever types they are. Where the types have the kinds of the variables in the
-/// context `ctx` outside of both, and the type is normal under both, it is the normal form of the substitution under the
-/// binders `inner`. `Err` is want of memory, also where an index would pass the last number.
-pub fn put_types(
-    alloc: Global,
-    ty: &NormalTy,
-    types: &[NormalTy],
-    depth: u64,
-) -> Result<NormalTy, Mem>
-    ensures value { IfOk result (λ t. t ≡ ty_in (sunk depth (putting types.now)) ty.now) }
-    ensures normal { IfOk result (λ t. (inner ctx ks : List KindTree) (k : KindTree) → length inner ≡ depth → NormalForms ctx types.now ks types.now → Normal (extend (extend ctx ks) inner) ty.now k → NormalForm (extend ctx inner) (substitute (unders inner (puts types.now Var)) ty.now) k t) }
-{
-    change_ty(alloc, ty, Change::Put(types), depth)
 }
 
 /// The signature with `by` added to each free index that is at least `from`. Its types are normal in each context to
