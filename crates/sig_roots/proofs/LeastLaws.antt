@@ -6,12 +6,12 @@ use Rattle.std.proofs.Math.Logic.{inl, inr}
 use Rattle.std.proofs.Math.Path.{refl, sym, subst}
 use Rattle.omega_kinds.specs.Kind.{Kind}
 use Rattle.omega_types.specs.Ty.{Ty, Row}
-use Rattle.omega_types.specs.Mentions.{Mentions, Mentions_row, m_var, m_from, m_to, m_fields, m_all, m_ex, m_lam, m_operator, m_arg, m_part, m_rest}
+use Rattle.omega_types.specs.Mentions.{Mentions, Mentions_row, m_var, m_from, m_to, m_fields, m_sum, m_all, m_ex, m_mu, m_lam, m_operator, m_arg, m_part, m_rest}
 use Rattle.omega_types.specs.Binders.{past}
 use Rattle.sig_definitions.specs.Signatures.Sig.{Sig, Abs, SigRow}
 use Rattle.sig_definitions.specs.Signatures.SigMentions.{MentionsSig, MentionsAbs, MentionsRow}
 use Rattle.sig_laws.proofs.Algebra.BinderLaws.{past-length}
-use Rattle.sig_laws.specs.Decide.{in_var, in_arrow, in_fields, in_all, in_ex, in_lam, in_apply, in_row, NoneUpTo}
+use Rattle.sig_laws.specs.Decide.{in_var, in_arrow, in_fields, in_sum, in_all, in_ex, in_mu, in_lam, in_apply, in_row, NoneUpTo}
 use Rattle.omega_types.specs.Bound.{bound_of}
 use Rattle.semantic_sigs.specs.Bound.{bound_sig, bound_abs}
 use Rattle.semantic_sigs.proofs.MentionSteps.{sig_mention-below, abs_mention-below}
@@ -89,8 +89,10 @@ mutual
       put x (inl m) = m_from m
       put x (inr m) = m_to m
   least-ty from (Ty.Fields row) = least-by (λ x. Mentions_row (from + x) row) (λ x. Mentions (from + x) (Ty.Fields row)) (least_row from row) (λ x m. m_fields m) (λ x m. in_fields m) (least-row from row)
+  least-ty from (Ty.Sum row) = least-by (λ x. Mentions_row (from + x) row) (λ x. Mentions (from + x) (Ty.Sum row)) (least_row from row) (λ x m. m_sum m) (λ x m. in_sum m) (least-row from row)
   least-ty from (Ty.All k b) = least-by (λ x. Mentions (suc from + x) b) (λ x. Mentions (from + x) (Ty.All k b)) (least_ty (suc from) b) (λ x m. m_all (into from x b m)) (λ x m. out from x b (in_all m)) (least-ty (suc from) b)
   least-ty from (Ty.Ex k b) = least-by (λ x. Mentions (suc from + x) b) (λ x. Mentions (from + x) (Ty.Ex k b)) (least_ty (suc from) b) (λ x m. m_ex (into from x b m)) (λ x m. out from x b (in_ex m)) (least-ty (suc from) b)
+  least-ty from (Ty.Mu b) = least-by (λ x. Mentions (suc from + x) b) (λ x. Mentions (from + x) (Ty.Mu b)) (least_ty (suc from) b) (λ x m. m_mu (into from x b m)) (λ x m. out from x b (in_mu m)) (least-ty (suc from) b)
   least-ty from (Ty.Lam k b) = least-by (λ x. Mentions (suc from + x) b) (λ x. Mentions (from + x) (Ty.Lam k b)) (least_ty (suc from) b) (λ x m. m_lam (into from x b m)) (λ x m. out from x b (in_lam m)) (least-ty (suc from) b)
   least-ty from (Ty.Apply f a) = least-by (λ x. Mentions (from + x) f ⊎ Mentions (from + x) a) (λ x. Mentions (from + x) (Ty.Apply f a)) (least_ty from (Ty.Apply f a)) put (λ x m. in_apply m) (least-either (λ x. Mentions (from + x) f) (λ x. Mentions (from + x) a) (least_ty from f) (least_ty from a) (least-ty from f) (least-ty from a))
     where

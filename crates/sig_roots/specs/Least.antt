@@ -17,8 +17,10 @@ abbrev mutual
   least_ty from Ty.Text = None
   least_ty from (Ty.Arrow a b) = lesser (least_ty from a) (least_ty from b)
   least_ty from (Ty.Fields row) = least_row from row
+  least_ty from (Ty.Sum row) = least_row from row
   least_ty from (Ty.All k b) = least_ty (suc from) b
   least_ty from (Ty.Ex k b) = least_ty (suc from) b
+  least_ty from (Ty.Mu b) = least_ty (suc from) b
   least_ty from (Ty.Lam k b) = least_ty (suc from) b
   least_ty from (Ty.Apply f a) = lesser (least_ty from f) (least_ty from a)
 

@@ -86,9 +86,10 @@ fn least_in_ty(ty: &Ty, from: u64) -> Option<u64>
         TyNode::Var(index) => outside(from, *index),
         TyNode::Int | TyNode::Bool | TyNode::Text => None,
         TyNode::Arrow(a, b) => lesser(least_in_ty(a, from), least_in_ty(b, from)),
-        TyNode::Fields(fields) => least_in_fields(fields, from),
+        TyNode::Fields(fields) | TyNode::Sum(fields) => least_in_fields(fields, from),
         TyNode::All(_, b) => least_in_body(b, from),
         TyNode::Ex(_, b) => least_in_body(b, from),
+        TyNode::Mu(b) => least_in_body(b, from),
         TyNode::Lam(_, b) => least_in_body(b, from),
         TyNode::Apply(f, a) => lesser(least_in_ty(f, from), least_in_ty(a, from)),
     }
@@ -105,7 +106,7 @@ fn least_in_body(body: &Ty, from: u64) -> Option<u64>
     least_in_ty(body, from + 1)
 }
 
-// The same for the parts of a record.
+// The same for the parts of a record or a sum.
 #[cycle(least_free)]
 fn least_in_fields(fields: &TyFields, from: u64) -> Option<u64>
     ensures { result ≡ least_row from (row fields.now) }

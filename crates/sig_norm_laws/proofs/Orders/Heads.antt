@@ -11,7 +11,7 @@ use Rattle.omega_types.specs.Conversion.{Conv}
 use Rattle.omega_types.specs.Conversion.Conv.{c_sym, c_trans}
 use Rattle.omega_types.specs.EtaLong.{eta}
 use Rattle.omega_types.specs.Normality.Neutral.{n_var}
-use Rattle.omega_types.specs.Mentions.{Mentions, Mentions_row, m_var, m_from, m_to, m_fields, m_all, m_ex, m_lam, m_operator, m_arg, m_part, m_rest}
+use Rattle.omega_types.specs.Mentions.{Mentions, Mentions_row, m_var, m_from, m_to, m_fields, m_sum, m_all, m_ex, m_mu, m_lam, m_operator, m_arg, m_part, m_rest}
 use Rattle.omega_types.specs.Binders.{extend, lam_over, arrow_over, applied}
 use Rattle.omega_types.proofs.Preservation.{conv-kinds}
 use Rattle.omega_types.proofs.Hereditary.{eta-normal}
@@ -27,8 +27,10 @@ mutual
   rename-mentions r (m_from m) = m_from (rename-mentions r m)
   rename-mentions r (m_to m) = m_to (rename-mentions r m)
   rename-mentions r (m_fields m) = m_fields (rename_row-mentions r m)
+  rename-mentions r (m_sum m) = m_sum (rename_row-mentions r m)
   rename-mentions r (m_all m) = m_all (rename-mentions (lift r) m)
   rename-mentions r (m_ex m) = m_ex (rename-mentions (lift r) m)
+  rename-mentions r (m_mu m) = m_mu (rename-mentions (lift r) m)
   rename-mentions r (m_lam m) = m_lam (rename-mentions (lift r) m)
   rename-mentions r (m_operator m) = m_operator (rename-mentions r m)
   rename-mentions r (m_arg m) = m_arg (rename-mentions r m)
