@@ -23,7 +23,7 @@ use Rattle.semantic_sigs.proofs.SigSteps.{map_sigs, name_follows-at}
 use Rattle.semantic_sigs.proofs.PartSteps.{row-at}
 use Rattle.packages.specs.First.{Places, is_untaken, blocks, barred, if_untaken, first, first_row, or_first}
 use Rattle.packages.specs.Normed.{in_order, functor_in_order, normed_sig, normed_abs, normed_row}
-use Rattle.semantic_sigs.specs.Moved.{moved}
+use Rattle.type_normal.specs.Moved.{moved}
 use Rattle.packages.specs.Turns.{turns, turn, untaken}
 use Rattle.packages.proofs.TurnLaws.{untaken-within}
 

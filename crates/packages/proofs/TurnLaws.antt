@@ -22,7 +22,7 @@ use Rattle.sig_explicit_laws.proofs.Positions.{own-below}
 use Rattle.sig_norm_laws.proofs.Orders.OrderExists.{LeastBelow, least_below}
 use Rattle.sig_norm_laws.proofs.Orders.Orders.{place-same, place-other, own-own, renumber-below, renumber-past}
 use Rattle.packages.specs.First.{Places, is_untaken, first}
-use Rattle.semantic_sigs.specs.Moved.{moved, or_stays, place_in}
+use Rattle.type_normal.specs.Moved.{moved, or_stays, place_in}
 use Rattle.packages.specs.Turns.{turns, turn, untaken}
 use Rattle.packages.specs.Normed.{order}
 use Rattle.packages.proofs.Taken.{Takes, Outcome, outcome}

@@ -5,7 +5,7 @@ use Rattle.omega_kinds.specs.declared.effect.Effect.TheVariants.{Pure, Impure}
 use Rattle.sig_definitions.specs.Signatures.Sig.{Sig, Abs, SigRow}
 use Rattle.sig_definitions.specs.Signatures.SigSubst.{rename_sig, rename_abs}
 use Rattle.packages.specs.First.{Places}
-use Rattle.semantic_sigs.specs.Moved.{moved}
+use Rattle.type_normal.specs.Moved.{moved}
 use Rattle.packages.specs.Turns.{turns, untaken}
 
 -- the order for a body

@@ -7,7 +7,7 @@ use Rattle.semantic_sigs.specs.Bound.{bound_sig, bound_abs, bound_sig_row}
 use Rattle.omega_types.specs.Ty.{Ty}
 use Rattle.semantic_sigs.specs.Changes.{Head, stands, tree, under_head, sunk, sinks, sig_in, abs_in, sig_row_in}
 use Rattle.semantic_sigs.specs.Fields.{SigPairs, sig_row, Rises, MayFollow}
-use Rattle.semantic_sigs.proofs.HeadSteps.{Keeps, sunk-below, sunk-still, under-keeps, head-unchanged}
+use Rattle.type_normal.proofs.HeadSteps.{Keeps, sunk-below, sunk-still, under-keeps, head-unchanged, sinks-sunk}
 
 pub sinks-keeps : (ks : List Kind) (n : ℕ) (h : ℕ → Head) → Keeps n h → Keeps (length ks + n) (sinks ks h)
 sinks-keeps [] n h k i lt = k i (omega arith)
@@ -35,10 +35,6 @@ pub abs-closed : (depth : ℕ) (h : ℕ → Head) (x : Abs) → bound_abs x ≤ 
 abs-closed depth h x le = abs-unchanged depth (sunk depth h) x (sunk-below depth h) le
 
 -- below the binders of a list
-pub sinks-sunk : (ks : List Kind) (depth : ℕ) (h : ℕ → Head) → sinks ks (sunk depth h) ≡ sunk (length ks + depth) h
-sinks-sunk [] depth h = ap (λ n. sunk n h) (omega arith)
-sinks-sunk (k ∷ ks) depth h = sinks-sunk ks (suc depth) h ∙ ap (λ n. sunk n h) (omega arith)
-
 pub sig-sinks : (ks : List Kind) (depth : ℕ) (h : ℕ → Head) (s : Sig) → sig_in (sinks ks (sunk depth h)) s ≡ sig_in (sunk (length ks + depth) h) s
 sig-sinks ks depth h s = ap (λ g. sig_in g s) (sinks-sunk ks depth h)
 

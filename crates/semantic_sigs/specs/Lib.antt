@@ -5,7 +5,6 @@ pub mod Height
 pub mod Bound
 pub mod View
 pub mod Falls
-pub mod Moved
 pub mod Changes
 pub mod Change
 pub mod Quantified

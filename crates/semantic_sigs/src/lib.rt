@@ -20,8 +20,7 @@ mod tree;
 mod witnesses;
 
 pub use changing::{
-    instantiate, instantiate_abs, lower_sig, put_types, raise_abs, raise_sig, renumber_abs,
-    renumber_sig,
+    instantiate, instantiate_abs, lower_sig, raise_abs, raise_sig, renumber_abs, renumber_sig,
 };
 pub use encoding::{encode, encode_sig};
 pub use env::{Entry, Env};
@@ -33,4 +32,5 @@ pub use parts::{field, find_field, part};
 pub use path::{Item, Path};
 pub use standing::Standing;
 pub use tree::{Abs, Sig, SigFields, SigNode};
+pub use type_normal::put_types;
 pub use witnesses::Witnesses;

@@ -6,7 +6,7 @@ use Rattle.omega_terms.specs.Bound.{type_bound, row_type_bound}
 use Rattle.omega_terms.proofs.Unchanged.{ap₃}
 use Rattle.omega_terms.specs.Walk.{walked, walked_row}
 use Rattle.semantic_sigs.specs.Changes.{Head, tree, ty_in, under_head, sunk}
-use Rattle.semantic_sigs.proofs.HeadSteps.{Keeps, sunk-below, under-keeps, head-unchanged}
+use Rattle.type_normal.proofs.HeadSteps.{Keeps, sunk-below, under-keeps, head-unchanged}
 use Rattle.sig_instances.specs.TermChanges.{term_in, fields_in}
 
 mutual

@@ -12,11 +12,10 @@ use Rattle.sig_definitions.specs.Signatures.Sig.{Sig, Abs, SigRow}
 use Rattle.sig_definitions.specs.Signatures.SigMentions.{MentionsSig, MentionsAbs, MentionsRow}
 use Rattle.sig_laws.proofs.Algebra.BinderLaws.{past-length}
 use Rattle.sig_laws.specs.Decide.{in_var, in_arrow, in_fields, in_sum, in_all, in_ex, in_mu, in_lam, in_apply, in_row, NoneUpTo}
-use Rattle.omega_types.specs.Bound.{bound_of}
 use Rattle.semantic_sigs.specs.Bound.{bound_sig, bound_abs}
 use Rattle.semantic_sigs.proofs.MentionSteps.{sig_mention-below, abs_mention-below}
-use Rattle.sig_roots.specs.Rooted.{outside}
-use Rattle.sig_roots.specs.Least.{lesser, least_ty, least_row, least_sig, least_abs, least_sig_row}
+use Rattle.type_normal.specs.Least.{outside, lesser, least_ty, least_row}
+use Rattle.sig_roots.specs.Least.{least_sig, least_abs, least_sig_row}
 use Rattle.sig_roots.specs.Seek.{is_open}
 
 -- the least number of a property, if there is one
@@ -161,6 +160,3 @@ least-closed_abs x from le = go (least_abs from x) (least-abs from x)
     go : (o : Option ℕ) → IsLeast (λ i. MentionsAbs (from + i) x) o → None ≡ o
     go None h = refl
     go (Some m) h = absurd (let lt = abs_mention-below (from + m) x h.0 in omega (arith, lt, le))
-
-pub least-closed_ty : (t : Ty) (from : ℕ) → bound_of t ≤ from → None ≡ least_ty (suc from) t
-least-closed_ty t from le = least-closed_sig (Sig.Val t) (suc from) (omega (arith, le))

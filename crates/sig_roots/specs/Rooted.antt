@@ -1,10 +1,7 @@
 -- Which variable a type is, applied to exactly the variables of so many binders in order and eta-long.
-use Rattle.std.specs.Prelude.{ℕ, zero, suc, ◌-◌, Option, Some, None, nat_le, nat_eq, if◌then◌else◌}
+use Rattle.std.specs.Prelude.{ℕ, zero, suc, Option, Some, None, nat_eq, if◌then◌else◌}
 use Rattle.omega_types.specs.Ty.{Ty}
-
--- an index as it is written outside so many binders
-abbrev pub outside : (count index : ℕ) → Option ℕ
-outside count index = if nat_le count index then Some (index - count) else None
+use Rattle.type_normal.specs.Least.{outside}
 
 -- goes on where the variable is the one that is wanted
 abbrev pub if_is : (wanted : ℕ) → (found rest : Option ℕ) → Option ℕ

@@ -1,6 +1,7 @@
 // Types that are a variable, applied to exactly the variables of some binders.
 ghost use Rattle.std.specs.Prelude.{◌≡◌, ◌+◌, ◌<◌, ◌^◌, IfOk};
-ghost use Rattle.sig_roots.specs.Rooted.{outside as outside_of, rooted as rooted_of, spine as spine_of};
+ghost use Rattle.sig_roots.specs.Rooted.{rooted as rooted_of, spine as spine_of};
+ghost use Rattle.type_normal.specs.Least.{outside as outside_of};
 
 use omega_kinds::Mem;
 use omega_types::{Ty, TyNode, next_level};
@@ -35,7 +36,7 @@ fn spine(ty: &Ty, next: u64, left: u64) -> Result<Option<u64>, Mem>
 }
 
 // An index as it is written outside `count` binders.
-pub(crate) fn outside(count: u64, index: u64) -> Option<u64>
+fn outside(count: u64, index: u64) -> Option<u64>
     ensures { result ≡ outside_of count index }
 {
     index.checked_sub(count)

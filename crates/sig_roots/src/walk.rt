@@ -7,13 +7,13 @@ ghost use Rattle.sig_match_laws.specs.RootSearch.{after};
 ghost use Rattle.sig_roots.specs.Rooted.{rooted as rooted_of};
 ghost use Rattle.sig_roots.specs.Seek.{seek, seek_abs, seek_row, behind, merged, is_open as is_open_of, unless_barred, ends};
 
-use crate::least::{least_in_sig, lesser};
+use crate::least::least_in_sig;
 use crate::variables::rooted;
 use omega_kinds::{Effect, Kinds, Mem};
 use omega_types::Ty;
 use semantic_sigs::{Abs, Item, Path, Sig, SigFields, SigNode};
 use std::alloc::Global;
-use type_normal::plain;
+use type_normal::{lesser, plain};
 
 // Where the walk stands: the steps that lead here, and the paths that are found so far, that of the last hidden type
 // first.
