@@ -157,7 +157,7 @@ put_type-under_both i a e = ap₂ (λ s w. sub_term s w e) (under-put i a) up-va
 pub put_type-under_two : (i : ℕ) (a : Ty) (e : Term) → sub_term (put i a) (up_term (up_term Term.Var)) e ≡ put_type e i a
 put_type-under_two i a e = ap (λ w. sub_term (put i a) w e) (ap up_term up-vars ∙ up-vars)
 
--- ---- the fields of a record
+-- ---- the parts of a row
 
 -- the pairs with each part changed
 abbrev pub map_terms : (Term → Term) → TermPairs → TermPairs

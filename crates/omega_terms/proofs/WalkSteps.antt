@@ -1,4 +1,4 @@
--- What a walk makes of the fields of a record.
+-- What a walk makes of a row.
 use Rattle.std.proofs.Common.{◌≡◌, ℕ, [], ◌∷◌, refl, ap}
 use Rattle.omega_types.specs.Ty.{Ty}
 use Rattle.omega_terms.specs.Term.{Term, TermRow}

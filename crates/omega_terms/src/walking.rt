@@ -140,7 +140,7 @@ fn walk_record<C: Change>(
 ) -> Result<Term, Mem>
     ensures { IfOk result (λ made. made ≡ walked (C.type_at change.now) (C.variable_at change.now) inner.types inner.terms (TermTree.Fields (term_row fields.now))) }
 {
-    let fields = walk_fields(alloc, fields, change, inner)?;
+    let fields = walk_row(alloc, fields, change, inner)?;
     Term::make(alloc, TermNode::Fields(fields))
 }
 
@@ -252,10 +252,10 @@ fn walk_fix<C: Change>(
     Term::make(alloc, TermNode::Fix(t, u, e))
 }
 
-// The fields of a record, each with the change made in it.
+// The terms of a row, each with the change made in it.
 #[cycle(walk)]
 #[tactic(auto, using(crate::proofs::WalkSteps::rows))]
-fn walk_fields<C: Change>(
+fn walk_row<C: Change>(
     alloc: Global,
     fields: &TermFields,
     change: &C,

@@ -40,9 +40,9 @@ decreases-walk_arith g l = 4 * (term_size l.a.now + term_size l.b.now) + 3
 abbrev pub decreases-walk_fix : goal.decreases-walk_fix
 decreases-walk_fix g l = 4 * term_size l.e.now + 3
 
-abbrev pub decreases-walk_fields : goal.decreases-walk_fields
-decreases-walk_fields g l = 4 * pairs_size l.fields.now + 2
+abbrev pub decreases-walk_row : goal.decreases-walk_row
+decreases-walk_row g l = 4 * pairs_size l.fields.now + 2
 
-abbrev pub invariant-walk_fields-loop-field : goal.invariant-walk_fields-loop-field
-invariant-walk_fields-loop-field g l =
+abbrev pub invariant-walk_row-loop-field : goal.invariant-walk_row-loop-field
+invariant-walk_row-loop-field g l =
     (l.walked ≡ map_terms (walked (g.C.Change.type_at l.change) (g.C.Change.variable_at l.change) l.inner.types l.inner.terms) (take l.field-index l.field-items)) × (pairs_size (drop l.field-index l.field-items) ≤ pairs_size l.field-items)
