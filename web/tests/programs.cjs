@@ -93,7 +93,7 @@ function tryPlainness() {
   expect("another command", [two.program, two.lines], [null, "$ ./fing check < a\nb"]);
   expect("an echo", commandsOf("$ echo 'val x = \"%\"' | ./fing emit\n")[0].program, {source: "val x = \"%\"\n", word: "emit"});
   for (const command of [
-    "echo 'a\\nb' | ./fing check", "printf 'a%s' | ./fing check", "printf 'a\\tb' | ./fing check", "echo 'omega 1' | ./fing verify",
+    "echo 'a\\nb' | ./fing check", "printf 'a%s' | ./fing check", "printf 'a\\tb' | ./fing check", "echo 'omega 2' | ./fing verify",
     "echo 'a' | head -c 1", "echo 'a' | ./fing emit | ./fing verify", "echo \"a\" | ./fing check", "echo 'a' 'b' | ./fing check",
   ]) expect(command, commandsOf(`$ ${command}\n`)[0].program, null);
   expect("a program alone", commandsOf("val x = 1\n"), null);
