@@ -6,7 +6,7 @@ ghost use Rattle.fing_lexer.specs.declared.lexer.LexRefusal.TheVariants.{Mem as 
 use crate::nest::Nest;
 use crate::scan::{Front, scan_front};
 use crate::token::{Token, What};
-use fing_text::Span;
+use fing_text::{SOURCE_LIMIT, Span};
 use omega_kinds::Mem;
 use std::alloc::{AllocFailed, Global};
 use thiserror::Error;
@@ -53,7 +53,7 @@ impl<T: Drop> From<AllocFailed<T>> for LexRefusal {
 
 // The token of a place.
 fn token_from(at: usize, len: usize, what: What) -> Token
-    requires { at + len ≤ 1048576 }
+    requires { at + len ≤ SOURCE_LIMIT }
     ensures { result ≡ token_at at len what }
 {
     Token {
@@ -65,14 +65,14 @@ fn token_from(at: usize, len: usize, what: What) -> Token
     }
 }
 
-/// The tokens of the source's bytes, of which there are at most 1,048,576, in their order.
+/// The tokens of the source's bytes, of which there are at most `SOURCE_LIMIT`, in their order.
 ///
 /// Blanks and comments stand between tokens, and at each other place the longest token is taken.
 /// An error says the first place that has no token, by its byte offset: `BadByte`, `BadText`, `Wide` where a number's
 /// digits say more than 9223372036854775807, `TooDeep` where the token's nest is above 1,000; `Wide` goes before
 /// `TooDeep` at one token. `Mem` is want of memory. Takes time and memory linear in the bytes.
 pub fn tokens(alloc: Global, bytes: &[u8]) -> Result<Vec<Token>, LexRefusal>
-    requires { length bytes.now ≤ 1048576 }
+    requires { length bytes.now ≤ SOURCE_LIMIT }
     ensures tokens { IfOk result (λ v. TokensOf bytes.now v.items) }
     ensures refused { IfErr result (λ e. (e ≡ WantOfMemory) ⊎ RefusalOf bytes.now e) }
 {
