@@ -1,4 +1,4 @@
--- What stands at the front of bytes, as the scans of the code see them.
+-- What stands at the start of bytes, as the scans of the code see them.
 use Rattle.std.proofs.Common.{◌≡◌, ℕ, zero, suc, ◌+◌, ◌<◌, ◌≤◌, ◌&&◌, Bool, true, false, cond, refl, sym, ◌∙◌, ap, subst, pos, neg_ℤ, List, [], ◌∷◌, length, take, drop, get_or, max, ◌-◌, take_all, length-drop, drop-drop, le-leb, ◌^◌, nat_abs, arith}
 use Rattle.std.proofs.lemmas.Bool.{lt-leb}
 use Rattle.std.specs.Prelude.{Some, None, nat_eq, nat_le, if◌then◌else◌}

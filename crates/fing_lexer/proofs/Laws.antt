@@ -41,7 +41,7 @@ found_in_none bytes n l p q = some_none (sym (ap (λ b. lexeme (take n b)) p) �
     empty zero = no_empty
     empty (suc n) = no_empty
 
--- what stands at the front of bytes
+-- what stands at the start of bytes
 pub stands_once : (bytes : List ℕ) (f g : Front) → Stands bytes f → Stands bytes g → f ≡ g
 stands_once bytes End End p q = refl
 stands_once bytes End (Skip n) p q = absurd (let z : skipped bytes ≡ 0 = ap skipped p ∙ skip_none in omega (arith, z, q.0, q.1))

@@ -42,7 +42,7 @@ no_more at nest (Found n w) ts e = by (is_in_range w) (nat_le (total (counted ne
 no_more at nest NoText ts e = absurd (let bad = not_bad e in cc)
 no_more at nest NoByte ts e = absurd (let bad = not_bad e in cc)
 
--- how a text goes on: to a place within it, and the tokens behind that place may be put behind those at the front
+-- how a text goes on: to a place within it, and the tokens behind that place may be put behind those at the start
 record On (bytes : List ℕ) (at n : ℕ) (add : List Token) : Type 0 where
   within : at + n ≤ length bytes
   sliced : (us : List Token) → Sliced bytes (at + n) us → Sliced bytes at (add ++ us)

@@ -1,4 +1,4 @@
--- What the steps of the lexer answer, by what stands at the front of the bytes.
+-- What the steps of the lexer answer, by what stands at the start of the bytes.
 use Rattle.std.specs.Prelude.{◌≡◌, ℕ, ◌<◌, ◌≤◌, List, [], ◌∷◌, true, false, Option, None, Some, length, take, nat_eq, if◌then◌else◌}
 use Rattle.std.specs.Char.{is_ascii_digit}
 use Rattle.std.specs.Str.{byte}
@@ -10,7 +10,7 @@ use Rattle.fing_lexer.specs.Tokens.{Stands, Skip, Found, NoText, NoByte, is_in_r
 use Rattle.fing_lexer.specs.declared.scan.Front.{Front}
 use Rattle.fing_lexer.specs.declared.scan.Front.TheVariants as is
 
--- a number out of range stands at the front
+-- a number out of range stands at the start
 pub record IsWide (bytes : List ℕ) : Type 0 where
   pub size : ℕ
   pub number : What
@@ -35,7 +35,7 @@ abbrev pub EndsText : List ℕ → Option (ℕ × List ℕ) → Type 0
 EndsText bytes (Some t) = EndsAt bytes t.0 t.1
 EndsText bytes None = (m : ℕ) → m ≤ length bytes → meaning (take m bytes) ≡ None
 
--- the byte of a text that is spelled at the front, and how many bytes spell it
+-- the byte of a text that is spelled at the start, and how many bytes spell it
 abbrev pub spelled : List ℕ → Option (ℕ × ℕ)
 spelled [] = None
 spelled (b ∷ []) = if is_plain b then Some (b, 1) else None

@@ -22,7 +22,7 @@ abbrev pub begins_with : ℕ → List ℕ → Bool
 begins_with c [] = false
 begins_with c (b ∷ bs) = nat_eq b c
 
--- How many bytes a blank or a comment at the front has, and 0 where there is neither.
+-- How many bytes a blank or a comment at the start has, and 0 where there is neither.
 -- A comment begins wherever `--` stands, so there no token is looked for.
 unfoldable pub skipped : List ℕ → ℕ
 skipped [] = 0
@@ -31,7 +31,7 @@ skipped (b ∷ bs) =
     else if nat_eq b (byte "-") then (if begins_with (byte "-") bs then line_length (b ∷ bs) else 0)
     else 0
 
--- the first n bytes are a token, and no longer front is one
+-- the first n bytes are a token, and no longer prefix is one
 pub record Longest (bytes : List ℕ) (n : ℕ) (w : What) : Type 0 where
   pub within : n ≤ length bytes
   pub is : lexeme (take n bytes) ≡ Some w

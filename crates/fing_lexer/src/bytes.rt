@@ -79,7 +79,7 @@ fn escaped(byte: u8) -> Option<u8>
     }
 }
 
-/// The byte of a text that is spelled at the front, and how many bytes spell it.
+/// The byte of a text that is spelled at the start, and how many bytes spell it.
 pub fn spelled(bytes: &[u8]) -> Option<(u8, usize)>
     ensures value { result ≡ steps.spelled bytes.now }
     ensures size { IfSome result (λ s. (0 < s.1) × (s.1 ≤ length bytes.now)) }
@@ -97,7 +97,7 @@ fn line_len(bytes: &[u8]) -> usize
     bytes.iter().take_while(|byte| **byte != b'\n').count()
 }
 
-/// How many bytes a blank or a comment at the front has, and 0 where there is neither.
+/// How many bytes a blank or a comment at the start has, and 0 where there is neither.
 #[tactic(auto, unfolding(crate::specs::Tokens::skipped))]
 pub fn skip_len(bytes: &[u8]) -> usize
     ensures { result ≡ whole.skipped bytes.now }
@@ -109,7 +109,7 @@ pub fn skip_len(bytes: &[u8]) -> usize
     }
 }
 
-/// How many bytes of a name stand at the front.
+/// How many bytes of a name stand at the start.
 pub fn name_len(bytes: &[u8]) -> usize
     ensures value { result ≡ prefix_len plain.is_name_byte bytes.now }
     ensures within { result ≤ length bytes.now }
@@ -117,7 +117,7 @@ pub fn name_len(bytes: &[u8]) -> usize
     bytes.iter().take_while(|byte| is_name_byte(**byte)).count()
 }
 
-/// How many digits stand at the front.
+/// How many digits stand at the start.
 pub fn digits_len(bytes: &[u8]) -> usize
     ensures value { result ≡ prefix_len char.is_ascii_digit bytes.now }
     ensures within { result ≤ length bytes.now }

@@ -70,7 +70,7 @@ fn token_from(at: usize, len: usize, what: What) -> Token
 /// Blanks and comments stand between tokens, and at each other place the longest token is taken.
 /// An error says the first place that has no token, by its byte offset: `BadByte`, `BadText`, `Wide` where a number's
 /// digits say more than 9223372036854775807, `TooDeep` where the token's nest is above 1,000; `Wide` goes before
-/// `TooDeep` at one token. `Mem` is want of memory. Takes time and memory linear in the bytes.
+/// `TooDeep` at one token. `Mem` is out of memory. Takes time and memory linear in the bytes.
 pub fn tokens(alloc: Global, bytes: &[u8]) -> Result<Vec<Token>, LexRefusal>
     requires { length bytes.now ≤ SOURCE_LIMIT }
     ensures tokens { IfOk result (λ v. TokensOf bytes.now v.items) }

@@ -114,7 +114,7 @@ impl Nest {
         self.total
     }
 
-    /// Goes in behind an opener; any other token changes nothing. `Err` is want of memory, and the stack stays as it was
+    /// Goes in behind an opener; any other token changes nothing. `Err` is out of memory, and the stack stays as it was
     /// then.
     pub fn open(&mut self, what: &What) -> Result<(), Mem>
         ensures ok { OnOk result (self.new ≡ plain.opened self.old what.now) }

@@ -1,4 +1,4 @@
-// What stands at the front of some bytes.
+// What stands at the start of some bytes.
 ghost use Rattle.std.specs.Prelude.{◌≡◌, ◌<◌, length, slice_index, true, false, IfOk};
 ghost use Rattle.std.specs.Char.{is_ascii_digit};
 ghost use Rattle.fing_lexer.specs.Lexeme as plain;
@@ -13,7 +13,7 @@ use crate::token::What;
 use omega_kinds::{Mem, Name, name_of};
 use std::alloc::Global;
 
-/// What can stand at the front of some bytes, of which there is at least one:
+/// What can stand at the start of some bytes, of which there is at least one:
 /// a blank or a comment, a token, a number out of range, a `"` that begins no text,
 /// or another byte that begins no token.
 #[derive(Drop)]
@@ -118,7 +118,7 @@ fn mark_front(bytes: &[u8]) -> Front
     }
 }
 
-/// What stands at the front of the bytes. `Err` is want of memory.
+/// What stands at the start of the bytes. `Err` is out of memory.
 pub fn scan_front(alloc: Global, bytes: &[u8]) -> Result<Front, Mem>
     requires { 0 < length bytes.now }
     ensures { IfOk result (λ f. StandsAs bytes.now f) }

@@ -20,7 +20,7 @@ ReasonInScope n _ = Unit {0}
 abbrev pub RefusalInScope : Refusal → Type 0
 RefusalInScope (Refuse at n why) = ReasonInScope n why
 
--- want of memory has no line
+-- out of memory has no line
 abbrev pub HasLine : Option Refusal → Type 0
 HasLine (Some refusal) = RefusalInScope refusal
 HasLine None = ⊥

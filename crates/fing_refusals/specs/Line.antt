@@ -73,7 +73,7 @@ front_text (Bytes first past) = codes "refused " then decimal first then codes "
 abbrev pub line : Refusal → List ℕ
 line (Refuse at n why) = front_text at then reason_text n why then codes "\n"
 
--- want of memory has no line
+-- out of memory has no line
 abbrev pub line_of : Option Refusal → List ℕ
 line_of (Some refusal) = line refusal
 line_of None = []

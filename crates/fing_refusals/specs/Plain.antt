@@ -1,4 +1,4 @@
--- What the code's refusals are seen as: plain refusals, and nothing for want of memory.
+-- What the code's refusals are seen as: plain refusals, and nothing when memory is out.
 use Rattle.std.specs.Prelude.{◌≡◌, ℕ, Option, Some, None, MatchOption}
 use Rattle.omega_kinds.specs.View.{kind_tree}
 use Rattle.sig_definitions.specs.Matching.MatchRefusal.{Why}
@@ -46,10 +46,10 @@ refused at n None = None
 abbrev pub plain_refusal : CodeRefusal → Option Refusal
 plain_refusal r = refused (place r.at) r.types (plain_reason r.why)
 
--- what the code answers for want of memory
+-- what the code answers when memory is out
 abbrev pub want_of_memory : CodeRefusal
 want_of_memory = record { at = record { from = 0; to = 0 }; types = 0; why = reason.Mem }
 
--- a refusal of the code is a plain one of which this holds, or what is answered for want of memory
+-- a refusal of the code is a plain one of which this holds, or what is answered when memory is out
 abbrev pub Says : CodeRefusal → (Refusal → Type 0) → Type 0
 Says e P = MatchOption (plain_refusal e) (e ≡ want_of_memory) P

@@ -52,7 +52,7 @@ pub enum ElabWhy {
 }
 
 /// A refusal: the place of the phrase in byte offsets, the number of type variables in scope where the types of the reason
-/// stand, and the reason. For want of memory the place is from 0 to 0, and the number is 0.
+/// stand, and the reason. For out of memory the place is from 0 to 0, and the number is 0.
 #[derive(Drop)]
 pub struct Refusal {
     pub at: Span,

@@ -16,10 +16,10 @@ use fing_text::{Sink, Span, WriteFault, put};
 use semantic_sigs::{Path, Why};
 use type_normal::NormalTy;
 
-/// Writes the line of a refusal, which is not want of memory: `refused F-T`, the reason and a line end, F and T being the
+/// Writes the line of a refusal, which is not out of memory: `refused F-T`, the reason and a line end, F and T being the
 /// byte offsets of the first byte of its place and of the byte behind its last. Its types are spelled with the levels of
 /// the variables in scope: each variable is among them and has a level below 2^64.
-/// `Err` comes only where the sink counted a fault, and a front of the line was written. Takes no memory.
+/// `Err` comes only where the sink counted a fault, and a prefix of the line was written. Takes no memory.
 pub fn write_line<K: Sink>(sink: &mut K, refusal: &Refusal) -> Result<(), WriteFault>
     requires { HasLine (plain_refusal refusal.now) }
     ensures { Wrote (K.told sink.old) (K.told sink.new) (line_of (plain_refusal refusal.now)) result }

@@ -25,7 +25,7 @@ use type_normal::NormalTy;
 /// The body of an abstract signature with normal types put in for the innermost variables, one for each, the first for
 /// the outermost, whatever types they are. Where they are one for each hidden type and of its kind, and stand as the
 /// signature in the context `ctx`, in which it is normal, it is the normal form of the substitution.
-/// `Err` is want of memory, also where an index would pass the last number.
+/// `Err` is out of memory, also where an index would pass the last number.
 ///
 /// Rossberg, Russo and Dreyer, "F-ing modules", section 4, Signature matching: a signature at types for its variables.
 pub fn instantiate(alloc: Global, abs: &Abs, types: &[NormalTy]) -> Result<Sig, Mem>
@@ -44,7 +44,7 @@ pub fn instantiate_abs(alloc: Global, abs: &Abs, types: &[NormalTy]) -> Result<A
 }
 
 /// The signature with `by` added to each free index that is at least `from`. Its types are normal in each context to
-/// which the shift takes one where the argument's are. `Err` is want of memory, also where an index would pass the last
+/// which the shift takes one where the argument's are. `Err` is out of memory, also where an index would pass the last
 /// number.
 pub fn raise_sig(alloc: Global, sig: &Sig, by: u64, from: u64) -> Result<Sig, Mem>
     ensures value { IfOk result (λ s. s ≡ rename_sig (bump by from) sig.now) }
@@ -63,7 +63,7 @@ pub fn raise_abs(alloc: Global, abs: &Abs, by: u64, from: u64) -> Result<Abs, Me
 
 /// The signature with each free index less by `by`, an index below `by` becoming 0. Where it mentions no index below
 /// `by`, it is a signature which, raised by `by` from 0, is the given one, and its types are normal in the context
-/// without the `by` innermost variables. `Err` is want of memory.
+/// without the `by` innermost variables. `Err` is out of memory.
 pub fn lower_sig(alloc: Global, sig: &Sig, by: u64) -> Result<Sig, Mem>
     ensures value { IfOk result (λ s. s ≡ rename_sig (λ i. i - by) sig.now) }
     ensures raised { IfOk result (λ s. ((i : ℕ) → i < by → MentionsSig i sig.now → ⊥) → rename_sig (bump by 0) s ≡ sig.now) }
@@ -73,7 +73,7 @@ pub fn lower_sig(alloc: Global, sig: &Sig, by: u64) -> Result<Sig, Mem>
 }
 
 /// The signature with a new index for each free variable that has one in `places`, a list that begins with the innermost
-/// variable's; each other index stays. `Err` is want of memory, also where an index would pass the last number.
+/// variable's; each other index stays. `Err` is out of memory, also where an index would pass the last number.
 pub fn renumber_sig(alloc: Global, sig: &Sig, places: &[Option<u64>]) -> Result<Sig, Mem>
     ensures { IfOk result (λ s. s ≡ rename_sig (moved places.now) sig.now) }
 {
