@@ -16,7 +16,7 @@ use Rattle.omega_types.proofs.KindsFound.{kind_in-sound, kind_in-complete}
 use Rattle.omega_types.proofs.Single.{shift-suc}
 use Rattle.type_normal.specs.Mentioned.{is_mentioned}
 use Rattle.type_normal.proofs.MentionedBelow.{mentioned-complete}
-use Rattle.type_normal.proofs.SinkSteps.{raised-back}
+use Rattle.type_normal.proofs.LiftedSteps.{raised-back}
 use Rattle.omega_terms.specs.declared.op.Op.{Op}
 use Rattle.omega_terms.specs.Typing.{At, HasPart, result_type}
 use Rattle.omega_checker.specs.Found.{and_then, if_kind, normal_at, put_normal, called, call_type, let_type, instantiated, inst_type, part_at, part_of, get_type, if_same, packed, pack_type, lowered, of_package, if_type, op_type, fix_type, more_type}
