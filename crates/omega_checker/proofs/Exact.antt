@@ -220,8 +220,10 @@ mutual
   missed r i Ty.Text h = refl
   missed r i (Ty.Arrow a b) h = ap₂ (λ x y. x || y) (missed r i a h) (missed r i b h)
   missed r i (Ty.Fields row) h = missed_row r i row h
+  missed r i (Ty.Sum row) h = missed_row r i row h
   missed r i (Ty.All k b) h = missed (lift r) (suc i) b (lift-misses r i h)
   missed r i (Ty.Ex k b) h = missed (lift r) (suc i) b (lift-misses r i h)
+  missed r i (Ty.Mu b) h = missed (lift r) (suc i) b (lift-misses r i h)
   missed r i (Ty.Lam k b) h = missed (lift r) (suc i) b (lift-misses r i h)
   missed r i (Ty.Apply a b) h = ap₂ (λ x y. x || y) (missed r i a h) (missed r i b h)
 

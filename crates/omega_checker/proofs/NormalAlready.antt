@@ -4,7 +4,7 @@ use Rattle.omega_kinds.specs.Kind.{Kind, kind_eq}
 use Rattle.omega_types.specs.Ty.{Ty, Row}
 use Rattle.omega_types.specs.KindIn.{is_star, are_distinct, is_fresh}
 use Rattle.omega_types.specs.Normality.{Normal, Normals, Neutral}
-use Rattle.omega_types.specs.Normality.Normal.{n_lam, n_int, n_bool, n_text, n_arrow, n_fields, n_all, n_ex, n_neutral}
+use Rattle.omega_types.specs.Normality.Normal.{n_lam, n_int, n_bool, n_text, n_arrow, n_fields, n_sum, n_all, n_ex, n_mu, n_neutral}
 use Rattle.omega_types.specs.Normality.Normals.{n_end, n_more}
 use Rattle.omega_types.specs.Normality.Neutral.{n_var, n_apply}
 use Rattle.omega_types.proofs.KindsFound.{lookup-found, found-lookup, fresh-sound, fresh-complete, kind_in-complete}
@@ -59,12 +59,19 @@ mutual
       let p = at_star-yes k (are_distinct r && are_normal ctx r) e in
       let q = both-true (are_distinct r) (are_normal ctx r) p.1 in
       subst (Normal ctx (Ty.Fields r)) p.0 (n_fields (normals-yes ctx r q.0 q.1))
+  normal-yes ctx (Ty.Sum r) k e =
+      let p = at_star-yes k (are_distinct r && are_normal ctx r) e in
+      let q = both-true (are_distinct r) (are_normal ctx r) p.1 in
+      subst (Normal ctx (Ty.Sum r)) p.0 (n_sum (normals-yes ctx r q.0 q.1))
   normal-yes ctx (Ty.All j b) k e =
       let p = at_star-yes k (is_normal (j ∷ ctx) b Kind.Star) e in
       subst (Normal ctx (Ty.All j b)) p.0 (n_all (normal-yes (j ∷ ctx) b Kind.Star p.1))
   normal-yes ctx (Ty.Ex j b) k e =
       let p = at_star-yes k (is_normal (j ∷ ctx) b Kind.Star) e in
       subst (Normal ctx (Ty.Ex j b)) p.0 (n_ex (normal-yes (j ∷ ctx) b Kind.Star p.1))
+  normal-yes ctx (Ty.Mu b) k e =
+      let p = at_star-yes k (is_normal (Kind.Star ∷ ctx) b Kind.Star) e in
+      subst (Normal ctx (Ty.Mu b)) p.0 (n_mu (normal-yes (Kind.Star ∷ ctx) b Kind.Star p.1))
   normal-yes ctx (Ty.Lam j b) k e =
       let p = at_arrow-yes k (λ i l. kind_eq j i && is_normal (j ∷ ctx) b l) e in
       let q = both-true (kind_eq j p.0) (is_normal (j ∷ ctx) b p.1) p.3 in
@@ -103,8 +110,10 @@ mutual
   yes-normal n_text = refl
   yes-normal (n_arrow a b) = rw (yes-normal a, yes-normal b) refl
   yes-normal (n_fields r) = rw (distinct-normals r, yes-normals r) refl
+  yes-normal (n_sum r) = rw (distinct-normals r, yes-normals r) refl
   yes-normal (n_all b) = yes-normal b
   yes-normal (n_ex b) = yes-normal b
+  yes-normal (n_mu b) = yes-normal b
   yes-normal {ctx} (n_neutral {t = t} n) = neutral-star ctx t (yes-neutral n)
 
   yes-normals : {ctx : List Kind} {r : Row} → Normals ctx r → are_normal ctx r ≡ true

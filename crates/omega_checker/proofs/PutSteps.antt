@@ -56,8 +56,10 @@ put-star A i a Ty.Bool = tt
 put-star A i a Ty.Text = tt
 put-star A i a (Ty.Arrow s t) = tt
 put-star A i a (Ty.Fields row) = tt
+put-star A i a (Ty.Sum row) = tt
 put-star A i a (Ty.All k b) = tt
 put-star A i a (Ty.Ex k b) = tt
+put-star A i a (Ty.Mu b) = tt
 put-star A i a (Ty.Lam k b) = tt
 put-star A i a (Ty.Apply f t) =
     subst AtStar (sym (applied (put_in Kind.Star A i a f) (tree (put_in Kind.Star A i a t)) (put-star A i a f))) tt

@@ -46,10 +46,12 @@ mutual
   same_ty-yes (Ty.Arrow a b) (Ty.Arrow c d) e =
       let p = both-true (same_ty a c) (same_ty b d) e in ap₂ Ty.Arrow (same_ty-yes a c p.0) (same_ty-yes b d p.1)
   same_ty-yes (Ty.Fields r) (Ty.Fields q) e = ap Ty.Fields (same_row-yes r q e)
+  same_ty-yes (Ty.Sum r) (Ty.Sum q) e = ap Ty.Sum (same_row-yes r q e)
   same_ty-yes (Ty.All j a) (Ty.All k b) e =
       let p = both-true (kind_eq j k) (same_ty a b) e in ap₂ Ty.All (kind_eq-yes j k p.0) (same_ty-yes a b p.1)
   same_ty-yes (Ty.Ex j a) (Ty.Ex k b) e =
       let p = both-true (kind_eq j k) (same_ty a b) e in ap₂ Ty.Ex (kind_eq-yes j k p.0) (same_ty-yes a b p.1)
+  same_ty-yes (Ty.Mu a) (Ty.Mu b) e = ap Ty.Mu (same_ty-yes a b e)
   same_ty-yes (Ty.Lam j a) (Ty.Lam k b) e =
       let p = both-true (kind_eq j k) (same_ty a b) e in ap₂ Ty.Lam (kind_eq-yes j k p.0) (same_ty-yes a b p.1)
   same_ty-yes (Ty.Apply a b) (Ty.Apply c d) e =
@@ -72,8 +74,10 @@ mutual
   same_ty-self Ty.Text = refl
   same_ty-self (Ty.Arrow a b) = true-both (same_ty a a) (same_ty b b) (same_ty-self a) (same_ty-self b)
   same_ty-self (Ty.Fields r) = same_row-self r
+  same_ty-self (Ty.Sum r) = same_row-self r
   same_ty-self (Ty.All k b) = true-both (kind_eq k k) (same_ty b b) (kind_eq-self k) (same_ty-self b)
   same_ty-self (Ty.Ex k b) = true-both (kind_eq k k) (same_ty b b) (kind_eq-self k) (same_ty-self b)
+  same_ty-self (Ty.Mu b) = same_ty-self b
   same_ty-self (Ty.Lam k b) = true-both (kind_eq k k) (same_ty b b) (kind_eq-self k) (same_ty-self b)
   same_ty-self (Ty.Apply f a) = true-both (same_ty f f) (same_ty a a) (same_ty-self f) (same_ty-self a)
 

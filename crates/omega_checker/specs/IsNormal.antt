@@ -30,8 +30,10 @@ abbrev mutual
   is_normal ctx Ty.Text k = at_star k true
   is_normal ctx (Ty.Arrow a b) k = at_star k (is_normal ctx a Kind.Star && is_normal ctx b Kind.Star)
   is_normal ctx (Ty.Fields row) k = at_star k (are_distinct row && are_normal ctx row)
+  is_normal ctx (Ty.Sum row) k = at_star k (are_distinct row && are_normal ctx row)
   is_normal ctx (Ty.All j b) k = at_star k (is_normal (j ∷ ctx) b Kind.Star)
   is_normal ctx (Ty.Ex j b) k = at_star k (is_normal (j ∷ ctx) b Kind.Star)
+  is_normal ctx (Ty.Mu b) k = at_star k (is_normal (Kind.Star ∷ ctx) b Kind.Star)
   is_normal ctx (Ty.Lam j b) k = at_arrow k (λ i l. kind_eq j i && is_normal (j ∷ ctx) b l)
   is_normal ctx (Ty.Apply f a) k = at_star k (is_star (with_arg (neutral_kind ctx f) (is_normal ctx a)))
 

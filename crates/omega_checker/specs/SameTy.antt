@@ -13,8 +13,10 @@ abbrev mutual
   same_ty Ty.Text Ty.Text = true
   same_ty (Ty.Arrow a b) (Ty.Arrow c d) = same_ty a c && same_ty b d
   same_ty (Ty.Fields r) (Ty.Fields q) = same_row r q
+  same_ty (Ty.Sum r) (Ty.Sum q) = same_row r q
   same_ty (Ty.All j a) (Ty.All k b) = kind_eq j k && same_ty a b
   same_ty (Ty.Ex j a) (Ty.Ex k b) = kind_eq j k && same_ty a b
+  same_ty (Ty.Mu a) (Ty.Mu b) = same_ty a b
   same_ty (Ty.Lam j a) (Ty.Lam k b) = kind_eq j k && same_ty a b
   same_ty (Ty.Apply a b) (Ty.Apply c d) = same_ty a c && same_ty b d
   same_ty _ _ = false

@@ -74,9 +74,10 @@ fn normal_type(ctx: &[Kind], inner: &mut Vec<Kind>, ty: &Ty) -> Result<bool, Mem
                 Ok(false)
             }
         }
-        TyNode::Fields(fields) => normal_fields(ctx, inner, fields),
+        TyNode::Fields(fields) | TyNode::Sum(fields) => normal_fields(ctx, inner, fields),
         TyNode::All(k, b) => normal_body(ctx, inner, b, k, &Kind::Star),
         TyNode::Ex(k, b) => normal_body(ctx, inner, b, k, &Kind::Star),
+        TyNode::Mu(b) => normal_body(ctx, inner, b, &Kind::Star, &Kind::Star),
         TyNode::Lam(_, _) => Ok(false),
         TyNode::Apply(f, a) => Ok(is_star(&applied_kind(ctx, inner, f, a)?)),
     }

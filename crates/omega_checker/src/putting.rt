@@ -45,12 +45,14 @@ fn puts(
             Ok(puts(alloc, a, c, at, depth, arg, kind)? && puts(alloc, b, d, at, depth, arg, kind)?)
         }
         (TyNode::Fields(a), TyNode::Fields(b), _) => puts_fields(alloc, a, b, at, depth, arg, kind),
+        (TyNode::Sum(a), TyNode::Sum(b), _) => puts_fields(alloc, a, b, at, depth, arg, kind),
         (TyNode::All(j, a), TyNode::All(k, b), _) => {
             Ok(same_kind(j, k) && puts_under(alloc, a, b, at, depth, arg, kind)?)
         }
         (TyNode::Ex(j, a), TyNode::Ex(k, b), _) => {
             Ok(same_kind(j, k) && puts_under(alloc, a, b, at, depth, arg, kind)?)
         }
+        (TyNode::Mu(a), TyNode::Mu(b), _) => puts_under(alloc, a, b, at, depth, arg, kind),
         (TyNode::Apply(a, b), TyNode::Apply(c, d), Kind::Star) => {
             Ok(puts(alloc, a, c, at, depth, arg, kind)? && puts(alloc, b, d, at, depth, arg, kind)?)
         }
@@ -102,7 +104,7 @@ fn puts_under(
     )
 }
 
-// The same for the fields of records.
+// The same for the fields of records or sums.
 #[cycle(puts)]
 fn puts_fields(
     alloc: Global,
