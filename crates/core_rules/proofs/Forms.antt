@@ -19,8 +19,10 @@ arrow-node node.Bool h = tt
 arrow-node node.Text h = tt
 arrow-node (node.Arrow a b) h = absurd (h a b refl)
 arrow-node (node.Fields f) h = tt
+arrow-node (node.Sum f) h = tt
 arrow-node (node.All k b) h = tt
 arrow-node (node.Ex k b) h = tt
+arrow-node (node.Mu b) h = tt
 arrow-node (node.Lam k b) h = tt
 arrow-node (node.Apply a b) h = tt
 
@@ -34,8 +36,10 @@ all-node node.Bool h = tt
 all-node node.Text h = tt
 all-node (node.Arrow a b) h = tt
 all-node (node.Fields f) h = tt
+all-node (node.Sum f) h = tt
 all-node (node.All k b) h = absurd (h k b refl)
 all-node (node.Ex k b) h = tt
+all-node (node.Mu b) h = tt
 all-node (node.Lam k b) h = tt
 all-node (node.Apply a b) h = tt
 
@@ -49,8 +53,10 @@ record-node node.Bool h = tt
 record-node node.Text h = tt
 record-node (node.Arrow a b) h = tt
 record-node (node.Fields f) h = absurd (h f refl)
+record-node (node.Sum f) h = tt
 record-node (node.All k b) h = tt
 record-node (node.Ex k b) h = tt
+record-node (node.Mu b) h = tt
 record-node (node.Lam k b) h = tt
 record-node (node.Apply a b) h = tt
 
