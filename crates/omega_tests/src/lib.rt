@@ -14,8 +14,6 @@ mod reading;
 #[cfg(test)]
 mod scopes;
 #[cfg(test)]
-mod sums;
-#[cfg(test)]
 mod terms;
 #[cfg(test)]
 mod texts;
