@@ -1,5 +1,5 @@
 -- Records in label order that are built of the parts of a variable, by their labels.
-use Rattle.std.proofs.Common.{◌≡◌, ◌≢◌, ◌↔◌, ◌⊎◌, zero, [], ◌∷◌, true, ◌&&◌, refl, sym, ◌∙◌, subst}
+use Rattle.std.proofs.Common.{◌≡◌, ◌≢◌, ◌⊎◌, zero, [], ◌∷◌, true, ◌&&◌, refl, sym, ◌∙◌, subst}
 use Rattle.std.proofs.Math.Logic.{inl, inr}
 use Rattle.std.proofs.lemmas.Bool.{and_from}
 use Rattle.std.specs.Ordering.{is_eq}
@@ -116,7 +116,7 @@ first_tested x xs y f p q h =
     let s : is_eq (label_cmp x.0 y.0) ≡ true = subst (λ l. is_eq (label_cmp x.0 l) ≡ true) p (label-self x.0) in
     let t : are_parts (row (x ∷ xs)) (TermRow.More y.0 (Term.Get (Term.Var zero) y.0) f) ≡ true =
     and_from (is_eq (label_cmp x.0 y.0) && is_eq (label_cmp x.0 y.0)) (are_parts (row xs) f)
-        (and_from (is_eq (label_cmp x.0 y.0)) (is_eq (label_cmp x.0 y.0)) s s) h in
+    (and_from (is_eq (label_cmp x.0 y.0)) (is_eq (label_cmp x.0 y.0)) s s) h in
     subst (λ e. are_parts (row (x ∷ xs)) (TermRow.More y.0 e f) ≡ true) (sym q) t
 
 tested : (xs : Pairs) (fs : TermPairs) → Rises xs → Rises fs → AreOwnParts (term_row fs) → SameLabels (row xs) (term_row fs) →
@@ -127,7 +127,7 @@ tested (x ∷ xs) [] r s o h = let q = (h x.0).0 (x.1, HasPart.here) in elim q.1
 tested (x ∷ xs) (y ∷ ys) r s o h =
     let e = first_same x xs y ys r s h in
     first_tested x xs y (term_row ys) e (o y.0 y.1 HasField.here)
-        (tested xs ys (rises_on x xs r) (rises_on y ys s) (later_own y ys s o) (later_same x xs y ys r s h e))
+    (tested xs ys (rises_on x xs r) (rises_on y ys s) (later_own y ys s o) (later_same x xs y ys r s h e))
 
 pub parts_are_tested : PartsAreTested
 parts_are_tested xs fs r s = (λ h. own_parts (row xs) (term_row fs) (are_parts-yes (row xs) (term_row fs) h), λ p. tested xs fs r s p.0 p.1)

@@ -39,7 +39,7 @@ comes_back {v = v} (Flat.parts {r = r}) h i =
     let w = rebuilt (arg_typed h) i (itself v).like in
     let p = parts_reach w.values w.parts in
     let e : put_arg v (Term.Fields (parts_of (Term.Var zero) r)) ≡ Term.Fields (parts_of (Term.Fields w.row) r) =
-        ap Term.Fields (sub_parts Ty.Var (first_term v Term.Var) (Term.Var zero) r) ∙ ap (λ y. Term.Fields (parts_of y r)) w.is in
+    ap Term.Fields (sub_parts Ty.Var (first_term v Term.Var) (Term.Var zero) r) ∙ ap (λ y. Term.Fields (parts_of y r)) w.is in
     let q = subst (λ x. Reaches (Term.Fields (parts_of (Term.Fields w.row) r)) p.0 x) (sym w.is) (record_reaches p.1) in
     (suc p.0, Reaches.step (Step.call_lam i) (subst (λ x. Reaches x p.0 v) (sym e) q))
 

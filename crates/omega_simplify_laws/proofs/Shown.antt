@@ -52,8 +52,8 @@ mutual
   shown_record (AreValues.more {l = l} v AreValues.end) (AreLike.more p AreLike.end k) = shown_one l _ _ (shown_like v p)
   shown_record (AreValues.more {l = l} v (AreValues.more {l = m} u w)) (AreLike.more p (AreLike.more x q j) k) =
       shown_more l m _ _ _ _ _ _
-          (λ i. [] then label_text l then codes " = " then shown_like v p i then
-              codes ", " then label_text m then codes " = " then shown_like u x i then shown_fields_like (codes ", ") w q i)
+      (λ i. [] then label_text l then codes " = " then shown_like v p i then
+      codes ", " then label_text m then codes " = " then shown_like u x i then shown_fields_like (codes ", ") w q i)
 
   shown_fields_like : {n : ℕ} {f g : TermRow} (mark : List ℕ) → AreValues f → AreLike n f g → shown_fields mark f ≡ shown_fields mark g
   shown_fields_like mark AreValues.end AreLike.end = refl

@@ -97,7 +97,7 @@ fix_follows : {n i j : ℕ} {t u : Ty} {e g v d : Term} → Like i (Term.Fix t u
     Follows n (put_fix v (Term.Fix t u e) e) (Term.Call g d)
 fix_follows (Like.fix p) v q =
     Follows.steps (Step.call_fix (value_like v q))
-        (sub_like Ty.Var (first_term _ (first_term _ Term.Var)) (first_term _ (first_term _ Term.Var)) (two_like (λ k. at_any k v q) (λ k. Like.fix p)) p)
+    (sub_like Ty.Var (first_term _ (first_term _ Term.Var)) (first_term _ (first_term _ Term.Var)) (two_like (λ k. at_any k v q) (λ k. Like.fix p)) p)
 
 ty_lam_follows : {n i : ℕ} {k : Kind} {e g : Term} (t : Ty) → Like i (Term.TyLam k e) g → Follows n (put_ty t e) (Term.Inst g t)
 ty_lam_follows t (Like.ty_lam p) = Follows.steps Step.inst_ty_lam (sub_like (single t) Term.Var Term.Var same_terms p)
@@ -145,9 +145,9 @@ drop_lam_follows (GivesBack.whole p) v q ty l =
 drop_lam_follows {v = x} {d = d} (GivesBack.parts {k = i} {r = r} {b = b} p) v q ty l =
     let w = rebuilt (arg_typed ty) v q in
     let a : Like i (put_arg x b) (put_arg d (Term.Fields (parts_of (Term.Var zero) r))) = sub_like Ty.Var (first_term x Term.Var)
-        (first_term d Term.Var) (first_like (λ k. at_any k v q)) p in
+    (first_term d Term.Var) (first_like (λ k. at_any k v q)) p in
     let e : put_arg d (Term.Fields (parts_of (Term.Var zero) r)) ≡ Term.Fields (parts_of (Term.Fields w.row) r) = ap Term.Fields
-        (sub_parts Ty.Var (first_term d Term.Var) (Term.Var zero) r) ∙ ap (λ y. Term.Fields (parts_of y r)) w.is in
+    (sub_parts Ty.Var (first_term d Term.Var) (Term.Var zero) r) ∙ ap (λ y. Term.Fields (parts_of y r)) w.is in
     Follows.stays (subst (λ y. Like i (put_arg x b) y) (sym w.is) (like_record w.values w.parts a e)) (omega arith)
 
 no_fix : {i : ℕ} {t u : Ty} {e : Term} → GivesBack i (Term.Fix t u e) → ⊥
