@@ -3,7 +3,7 @@ ghost use Rattle.std.specs.Prelude.{◌≡◌};
 ghost use Rattle.omega_types.specs.Fields.{row};
 ghost use Rattle.omega_terms.specs.Fields.{term_row};
 ghost use Rattle.omega_terms.specs.Term.{Term as TermTree};
-ghost use Rattle.omega_simplify_laws.specs.Simplified.{is_flat, are_parts, is_part};
+ghost use Rattle.omega_simplify_laws.specs.Simplified.{is_argument, is_part, are_parts, is_flat};
 
 use omega_kinds::{Label, compare};
 use omega_terms::{Term, TermFields, TermNode};

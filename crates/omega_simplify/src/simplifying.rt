@@ -81,6 +81,7 @@ fn simpler_call(alloc: Global, f: &Term, a: &Term) -> Result<Option<Term>, Mem>
 }
 
 // What becomes of a call whose parts become these.
+#[tactic(auto, using(crate::proofs::PartSteps::parts))]
 fn call_of(
     alloc: Global,
     f: &Term,
@@ -174,6 +175,7 @@ fn simpler_package(alloc: Global, t: &Ty, e: &Term, u: &Ty) -> Result<Option<Ter
 // An opened package.
 #[cycle(simpler)]
 #[inline(never)]
+#[tactic(auto, using(crate::proofs::PartSteps::parts))]
 fn simpler_opened(alloc: Global, p: &Term, e: &Term) -> Result<Option<Term>, Mem>
     ensures { IfOk result (λ new. unwrap_or new (TermTree.Unpack p.now e.now) ≡ simplified (TermTree.Unpack p.now e.now)) }
 {
@@ -190,6 +192,7 @@ fn simpler_opened(alloc: Global, p: &Term, e: &Term) -> Result<Option<Term>, Mem
 // A choice.
 #[cycle(simpler)]
 #[inline(never)]
+#[tactic(auto, using(crate::proofs::PartSteps::parts))]
 fn simpler_choice(alloc: Global, a: &Term, b: &Term, c: &Term) -> Result<Option<Term>, Mem>
     ensures { IfOk result (λ new. unwrap_or new (TermTree.If a.now b.now c.now) ≡ simplified (TermTree.If a.now b.now c.now)) }
 {
@@ -208,6 +211,7 @@ fn simpler_choice(alloc: Global, a: &Term, b: &Term, c: &Term) -> Result<Option<
 // A computation.
 #[cycle(simpler)]
 #[inline(never)]
+#[tactic(auto, using(crate::proofs::PartSteps::parts))]
 fn simpler_arith(alloc: Global, op: Op, a: &Term, b: &Term) -> Result<Option<Term>, Mem>
     ensures { IfOk result (λ new. unwrap_or new (TermTree.Arith op a.now b.now) ≡ simplified (TermTree.Arith op a.now b.now)) }
 {
@@ -235,6 +239,7 @@ fn simpler_fix(alloc: Global, t: &Ty, u: &Ty, e: &Term) -> Result<Option<Term>, 
 
 // The fields of a record, if one of them becomes another.
 #[cycle(simpler)]
+#[tactic(auto, using(crate::proofs::RowSteps::rows))]
 fn simpler_row(alloc: Global, fields: &TermFields) -> Result<Option<TermFields>, Mem>
     ensures { IfOk result (λ new. term_row (unwrap_or new fields.now) ≡ simplified_row (term_row fields.now)) }
 {
@@ -242,8 +247,11 @@ fn simpler_row(alloc: Global, fields: &TermFields) -> Result<Option<TermFields>,
     let mut stays = true;
     for field in fields.items() {
         let part = simpler(alloc, &field.1)?;
-        stays &= part.is_none();
+        stays = stays && part.is_none();
         row.push((field.0.share()?, new_or_shared(part, &field.1)?))?;
     }
-    Ok(if stays { None } else { Some(row) })
+    if stays {
+        return Ok(None);
+    }
+    Ok(Some(row))
 }
