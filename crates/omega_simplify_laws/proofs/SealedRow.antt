@@ -32,6 +32,9 @@ parts_value = IsValue.fields parts_values
 five_at : HasField (TermRow.More t the_type (TermRow.More x the_five TermRow.End)) x the_five
 five_at = HasField.there x_not_t HasField.here
 
+five_taken : Step (Term.Get the_parts x) the_five
+five_taken = Step.get_fields parts_values five_at
+
 -- a step at the record out of which the hidden part is taken
 at_hidden : {e d : Term} {l : Label} {a u : _} {f : Term} → IsValue f → Step e d →
     Step (Term.Pack a (Term.Call f (Term.Get e l)) u) (Term.Pack a (Term.Call f (Term.Get d l)) u)
@@ -65,7 +68,7 @@ sealed_row = record {
       (Reaches.step (at_hidden IsValue.lam (at_arg IsValue.lam (Step.call_lam parts_value)))
       (Reaches.step (at_record IsValue.lam IsValue.lam (FieldStep.here (at_arg IsValue.lam (Step.get_fields parts_values HasField.here))))
       (Reaches.step (at_record IsValue.lam IsValue.lam (FieldStep.here (Step.call_lam type_value)))
-      (Reaches.step (at_record IsValue.lam IsValue.lam (FieldStep.there type_value (FieldStep.here (at_arg IsValue.lam (Step.get_fields parts_values five_at)))))
+      (Reaches.step (at_record IsValue.lam IsValue.lam (FieldStep.there type_value (FieldStep.here (at_arg IsValue.lam five_taken))))
       (Reaches.step (at_record IsValue.lam IsValue.lam (FieldStep.there type_value (FieldStep.here (Step.call_lam five_value))))
       (Reaches.step (at_hidden IsValue.lam (Step.call_lam parts_value))
       (Reaches.step (Step.pack_body (at_arg IsValue.lam (Step.get_fields both_values HasField.here)))

@@ -46,4 +46,6 @@ decreases-simpler_row l = 4 * pairs_size l.fields.now + 2
 
 abbrev pub invariant-simpler_row-loop-field : goal.invariant-simpler_row-loop-field
 invariant-simpler_row-loop-field l =
-    (l.row ≡ map_terms simplified (take l.field-index l.field-items)) × (l.stays ≡ true → l.row ≡ same_terms (take l.field-index l.field-items)) × (pairs_size (drop l.field-index l.field-items) ≤ pairs_size l.field-items)
+    (l.row ≡ map_terms simplified (take l.field-index l.field-items))
+    × (l.stays ≡ true → l.row ≡ same_terms (take l.field-index l.field-items))
+    × (pairs_size (drop l.field-index l.field-items) ≤ pairs_size l.field-items)
