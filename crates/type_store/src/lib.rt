@@ -1,0 +1,14 @@
+// Normal types as numbered nodes: one number for each type.
+// A node holds the outermost form of a type with the numbers of its parts, and stands in a set that keeps its order.
+// Stands on omega_kinds, omega_types and type_normal.
+// Proved: a store is a list of distinct types, and a number is a place in it; `put` puts a type there once, gives two
+// types one number if and only if they are the same, and leaves all earlier numbers as they were.
+#![tactic(auto)]
+
+mod node;
+mod store;
+#[cfg(test)]
+mod tests;
+
+pub use node::{Form, Node};
+pub use store::Store;
