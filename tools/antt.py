@@ -3,13 +3,14 @@
 A file is lines. An item (a definition, a data type, a record, a lemma) begins on a line at the margin, or inside of a `mutual`
 block two blanks from it, and goes on to the next one. What an item says is not understood: its words are read off."""
 import functools
+import itertools
 import pathlib
 import re
 
 TOP = pathlib.Path(__file__).resolve().parent.parent
 CRATES = TOP / "crates"
 HOLE = "◌"
-SORTS = {"abbrev", "unfoldable", "data", "record", "pub"}
+MODIFIERS = {"abbrev", "unfoldable", "data", "record", "pub"}
 BLOCKS = {"mutual", "abbrev mutual", "unfoldable mutual"}
 WORD = re.compile(r'"(?:\\.|[^"\\])*"|[^\s(){}\[\],;."]+|\.(?:\s+|$)|[(){}\[\],;.]')
 USE = re.compile(r"\s*(?:ghost )?(?:pub )?use (?P<path>\S+?)(?:\.\{(?P<names>[^}]*)\}| as (?P<alias>[^\s;]+))?;?\s*$")
@@ -57,9 +58,9 @@ class Item:
             return found
         for line in self.lines[1:]:
             line = bare(line)
-            begins = re.match(rf" {{{self.margin + 2}}}([^\s:(][^:(]*?) : (.*)$", line)
+            begins = re.match(rf" {{{self.margin + 2}}}([^\s:(][^:(]*?) :(?: (.*))?$", line)
             if begins and not begins[1].startswith("deriving"):
-                found.extend([name, begins[2]] for name in begins[1].split())
+                found.extend([name, begins[2] or ""] for name in begins[1].split())
             elif found and indent(line) > self.margin + 2:
                 found[-1][1] += "\n" + line
         return [tuple(constructor) for constructor in found]
@@ -88,10 +89,6 @@ class File:
 
     def __repr__(self):
         return str(self.path.relative_to(CRATES))
-
-    @property
-    def crate(self):
-        return self.path.relative_to(CRATES).parts[0]
 
     @functools.cached_property
     def head(self):
@@ -126,10 +123,9 @@ class File:
 
     def begun(self, text, number, margin, block_sort):
         """The item that begins on a line, if one does."""
-        rest = text.split()
-        sort = block_sort
-        while rest and rest[0] in SORTS:
-            sort = rest.pop(0) if rest[0] != "pub" else rest.pop(0) and sort
+        modifiers = list(itertools.takewhile(MODIFIERS.__contains__, text.split()))
+        rest = text.split()[len(modifiers) :]
+        sort = next((word for word in modifiers if word != "pub"), block_sort)
         if len(rest) < 2 or not (sort in ("data", "record") or rest[1] == ":"):
             return None
         return Item(rest[0].rstrip(":"), sort, number, margin)
