@@ -2,7 +2,7 @@
 """Puts the playground together: assemble.py [--check] [--module PACKED] [--page PAGE]
 
 The page is page/page.html with the file, or the value, that each mark {{..}} names put in its place. So it holds the
-files of page/ and vendor/, docs/errors.md, the programs of examples/ and of docs/tour.md, the grammar of
+files of page/ and vendor/, docs/errors.md, the programs and units of examples/ and of docs/tour.md, the grammar of
 editors/textmate, and the packed WebAssembly module PACKED (dist/fing.wasm.gz). It is a function of these files alone.
 It is written to PAGE (docs/playground/index.html); with --check the file PAGE is compared with it, byte for byte.
 Exit status 0 only where the page was written, or is the same."""
@@ -52,10 +52,12 @@ def programs():
     sources = {path.stem: path.read_text() for path in sorted((TOP / "examples").glob("*.fing"))}
     first = [name for name in tour_examples(tour) if name in sources]
     rest = [name for name in sources if name not in first]
+    units = sorted((TOP / "examples/units").glob("*.fing"))
     groups = [
         ("Examples, in the order of the tour", [{"name": name, "source": sources[name]} for name in first]),
         ("Shown in the tour", shown_programs(tour)),
         ("More examples", [{"name": name, "source": sources[name]} for name in rest]),
+        ("Units", [{"name": f"units/{path.stem}", "source": path.read_text(), "command": "link"} for path in units]),
     ]
     return [{"group": group, "programs": of_group} for group, of_group in groups if of_group]
 

@@ -11,7 +11,7 @@ function writtenBy(writer, quoted) {
 
 // The program that a command gives to `fing`, and the word for what it asks; or null for any other command.
 function programIn(command) {
-  const plain = /^(echo|printf) '([^']*)' \| \.\/fing (check|emit|run)$/.exec(command);
+  const plain = /^(echo|printf) '([^']*)' \| \.\/fing (check|emit|link|run)$/.exec(command);
   const source = plain && writtenBy(plain[1], plain[2]);
   return source === null ? null : {source, word: plain[3]};
 }

@@ -94,7 +94,8 @@ const ask = askerOf({start, tell, limit: LIMIT, grace: GRACE});
 
 function wordsNow() {
   const budget = $("budget").value.trim();
-  return state.command === "run" ? ["run", "--budget", budget] : [state.command];
+  if (state.command === "run") return ["run", "--budget", budget];
+  return state.command === "emit" && $("simplify").checked ? ["emit", "--simplify"] : [state.command];
 }
 
 // Asks about what is typed, unless the answer is known.
@@ -130,7 +131,7 @@ function show({words, source}, answer) {
   const refusal = answer.status === 1 ? refusalOf(answer.reply) : null;
   const place = refusal && placeOf(refusal, source, pieceAt, tokenPlace);
   const verdict = verdictOf({...answer, words}, place && lineAndColumn(source, place.from));
-  if (place) markPlace(place, noteOf(refusal, source, place));
+  if (place) markPlace(place, noteOf(refusal, source, place, words[0] === "link" ? "text of units" : "program"));
   setVerdict(verdict);
   showReply(answer.reply);
   for (const line of document.querySelectorAll("[data-reading]")) {
@@ -215,6 +216,7 @@ function choose(command) {
   }
   $("panel").setAttribute("aria-labelledby", selectedTab().id);
   $("steps").hidden = command !== "run";
+  $("simpler").hidden = command !== "emit";
   question();
 }
 
@@ -245,6 +247,12 @@ function programOf(name) {
   return PROGRAMS.flatMap(({programs}) => programs).find(it => it.name === name);
 }
 
+// Loads a program of the list. A text of units is shown in the tab of `link`, and another program in another tab.
+function loadProgram({source, name, command}, notice) {
+  if ((command === "link") !== (state.command === "link")) choose(command ?? "check");
+  load(source, name, notice);
+}
+
 function load(source, name, notice = "") {
   editor.setValue(source);
   editor.clearHistory();
@@ -257,15 +265,18 @@ function load(source, name, notice = "") {
 async function loadLink() {
   const fields = await fieldsOf(location.hash).catch(() => null);
   if (fields?.budget) $("budget").value = fields.budget;
+  if (fields?.simplify) $("simplify").checked = true;
   if (fields?.command) choose(fields.command);
   const {name, source, notice} = loadedBy(fields, {names, first: FIRST, draft: draft.read()});
   if (notice) history.replaceState(null, "", exampleFragment(name));
-  load(source ?? programOf(name).source, name, notice);
+  if (source === undefined) loadProgram(programOf(name), notice);
+  else load(source, name, notice);
 }
 
 // Puts the link of what is shown into the address.
 async function setLink() {
-  const fragment = await fragmentOf({source: editor.getValue(), command: state.command, budget: $("budget").value.trim()});
+  const shown = {command: state.command, budget: $("budget").value.trim(), simplify: $("simplify").checked};
+  const fragment = await fragmentOf({source: editor.getValue(), ...shown});
   history.replaceState(null, "", fragment);
 }
 
@@ -316,6 +327,7 @@ editor.on("change", (_, {origin}) => {
   askSoon();
 });
 $("budget").addEventListener("input", askSoon);
+$("simplify").addEventListener("change", question);
 $("go").addEventListener("click", showPlace);
 $("copy").addEventListener("click", copyLink);
 $("what").addEventListener("click", showAbout);
@@ -326,7 +338,8 @@ $("theme").addEventListener("change", () => {
 $("programs").addEventListener("change", () => {
   const program = programOf($("programs").value);
   history.replaceState(null, "", program ? exampleFragment(program.name) : "#");
-  load(program ? program.source : draft.read() ?? "", program?.name ?? DRAFT);
+  if (program) loadProgram(program);
+  else load(draft.read() ?? "", DRAFT);
 });
 for (const tab of tabs) {
   tab.addEventListener("click", () => choose(tab.dataset.command));

@@ -55,12 +55,12 @@ function lineAndColumn(source, index) {
 
 const LONGEST = 40; // characters of a token that a note shows
 
-// What the note below a refused place says.
-function noteOf({words, token}, source, {from, to}) {
+// What the note below a refused place says; `what` the source should be.
+function noteOf({words, token}, source, {from, to}, what = "program") {
   if (token === undefined) return words;
-  if (from === to) return `${words}: the program ends too soon`;
+  if (from === to) return `${words}: the ${what} ends too soon`;
   const text = source.slice(from, to);
-  return `${words}: no program goes on with \`${text.length > LONGEST ? text.slice(0, LONGEST) + "…" : text}\` here`;
+  return `${words}: no ${what} goes on with \`${text.length > LONGEST ? text.slice(0, LONGEST) + "…" : text}\` here`;
 }
 
 const UNDECIDED = "The program is neither accepted nor refused.";

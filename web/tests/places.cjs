@@ -71,6 +71,8 @@ async function tryNotes(fing) {
   await tryNote(fing, `val "${"a".repeat(1000)}"`, `Syntax 1: no program goes on with \`"${"a".repeat(39)}…\` here`);
   await tryNote(fing, "val x = y", "Unbound y");
   await tryNote(fing, "val x = 1;", "BadByte 9");
+  const units = noteOf(refusalOf("refused Syntax 0\n"), "val x = 1", {from: 0, to: 3}, "text of units");
+  expect("a note on units", units, "Syntax 0: no text of units goes on with `val` here");
 }
 
 // The reasons of refusals: those of the definition of lines, and those of a source without tokens or without a tree.
@@ -116,6 +118,8 @@ async function tryLinks() {
     const fragment = await fragmentOf({source, command: "run", budget: "77"});
     expect("a link", await fieldsOf(fragment), {command: "run", budget: "77", source});
   }
+  const simpler = await fragmentOf({source: "val x = 1", command: "emit", simplify: true});
+  expect("a link to a simplified term", await fieldsOf(simpler), {command: "emit", simplify: true, source: "val x = 1"});
   const broken = await fieldsOf("#show=run&program=abc").catch(() => "refused");
   expect("a link that is cut off", broken, "refused");
 }

@@ -4,8 +4,8 @@ const {TOP, read, workerOf, expect} = require("./fing.cjs");
 
 const LOOP = "val f = fix g (x : Int) : Int => g x val y = f 1";
 
-function examples() {
-  return fs.readdirSync(path.join(TOP, "examples")).filter(it => it.endsWith(".fing")).map(it => it.slice(0, -5)).sort();
+function examples(folder = "examples") {
+  return fs.readdirSync(path.join(TOP, folder)).filter(it => it.endsWith(".fing")).map(it => it.slice(0, -5)).sort();
 }
 
 // Each example as tools/check-examples has it: an accepted one has a stored value, and its term is well typed.
@@ -20,6 +20,14 @@ async function tryExamples(fing) {
     const term = await fing(["emit"], source);
     if (isRefused) expect(`${name} emit`, term, {status: 1, reply: check});
     else expect(`${name} verify`, await fing(["verify"], term.reply), {status: 0, reply: "well typed\n"});
+  }
+}
+
+// The texts of units.
+async function tryUnits(fing) {
+  for (const name of examples("examples/units")) {
+    const link = read(`examples/units/${name}.link`), status = link.startsWith("refused ") ? 1 : 0;
+    expect(`${name} link`, await fing(["link"], read(`examples/units/${name}.fing`)), {status, reply: link});
   }
 }
 
@@ -76,8 +84,10 @@ async function tryMemory() {
 
 // The same bytes and status as a native program.
 async function compare(fing, program) {
-  const all = [["check"], ["emit"], ["run", "--budget", "20000"]];
-  const sources = [...examples().map(it => read(`examples/${it}.fing`)), LOOP, "val x = 1 / 0", "val x = \"é\"", "", "val"];
+  const all = [["check"], ["emit"], ["emit", "--simplify"], ["link"], ["run", "--budget", "20000"]];
+  const programs = examples().map(it => read(`examples/${it}.fing`));
+  const units = examples("examples/units").map(it => read(`examples/units/${it}.fing`));
+  const sources = [...programs, ...units, LOOP, "val x = 1 / 0", "val x = \"é\"", "", "val"];
   for (const source of sources) {
     for (const words of all) {
       const ran = spawnSync(program, words, {input: source, maxBuffer: 1 << 29});
@@ -93,6 +103,7 @@ async function compare(fing, program) {
 module.exports = async function replies(program) {
   const {fing, stop} = workerOf();
   await tryExamples(fing);
+  await tryUnits(fing);
   await tryStatuses(fing);
   await tryDepth(fing);
   await trySize(fing);
