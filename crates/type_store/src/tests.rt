@@ -57,8 +57,15 @@ fn one_number_for_each_type(rt: HostRuntime) -> Result<(), Fail> {
 // A record or a sum of one field `a` of type `int`.
 fn of_one(alloc: Global, is_sum: bool) -> Result<Ty, Mem> {
     let mut fields = TyFields::new(alloc);
-    fields.push((Label::Name(name_of(alloc, b"a")?), leaf(alloc, TyNode::Int)?))?;
-    let node = if is_sum { TyNode::Sum(fields) } else { TyNode::Fields(fields) };
+    fields.push((
+        Label::Name(name_of(alloc, b"a")?),
+        leaf(alloc, TyNode::Int)?,
+    ))?;
+    let node = if is_sum {
+        TyNode::Sum(fields)
+    } else {
+        TyNode::Fields(fields)
+    };
     Ty::make(alloc, node)
 }
 
