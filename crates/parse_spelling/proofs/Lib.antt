@@ -1,0 +1,3 @@
+pub mod Theorems
+pub mod Tokens
+pub mod Trees

@@ -1,0 +1,64 @@
+-- The theorems.
+use Rattle.std.specs.Prelude.{◌≡◌, ◌≤◌, ◌^◌, ℕ, List, false, Some}
+use Rattle.omega_kinds.specs.declared.effect.Effect.{Effect}
+use Rattle.omega_types.specs.Ty.{Ty}
+use Rattle.omega_types.specs.Height.{height}
+use Rattle.omega_terms.specs.declared.version.Version.{Version}
+use Rattle.omega_terms.specs.Term.{Term}
+use Rattle.omega_terms.specs.Height.{term_height}
+use Rattle.omega_terms.specs.InScope.{TyInScope, TermInScope}
+use Rattle.omega_terms.specs.OmegaText.{version_text}
+use Rattle.omega_spelling.specs.Omega.{TextIn, omega_at}
+use Rattle.omega_spelling.specs.Refusals.{is_too_deep}
+use Rattle.sig_definitions.specs.Signatures.Sig.{Abs, made}
+use Rattle.sig_definitions.specs.Signatures.Encoding.{enc_abs}
+use Rattle.fing_lexer.specs.declared.token.Token.{Token}
+use Rattle.fing_lexer.specs.Tokens.{TokensOf}
+use Rattle.fing_syntax.specs.Phrase.{Binds as Program}
+use Rattle.fing_syntax.specs.Units.{UnitTree}
+use Rattle.parse_grammar.specs.Grammar.{Class, Binds, Units}
+use Rattle.parse_grammar.specs.Meaning.{Value}
+use Rattle.parse_grammar.specs.Tree.{Phrase}
+use Rattle.elab_judgments.specs.Judgments.Program.{ProgramMeans}
+use Rattle.elab_spelling.specs.Phrases.{BindsSpelled}
+use Rattle.parse_spelling.specs.Tokens.{TokensSpelled}
+use Rattle.parse_spelling.specs.Values.{ValueSpelled, UnitsSpelled}
+
+-- the names, numbers and texts of the tokens of bytes have a spelling
+abbrev pub TokensAreSpelled : Type 0
+TokensAreSpelled = (bytes : List ℕ) (tokens : List Token) → TokensOf bytes tokens → TokensSpelled tokens
+
+-- what a phrase of such tokens gives has names, numbers and texts that have one
+abbrev pub PhrasesAreSpelled : Type 0
+PhrasesAreSpelled = (n : Class) (tokens : List Token) (v : Value n) → TokensSpelled tokens → Phrase n tokens v → ValueSpelled n v
+
+-- so has a program, and so have units
+abbrev pub ProgramsAreSpelled : Type 0
+ProgramsAreSpelled = (bytes : List ℕ) (tokens : List Token) (program : Program) → TokensOf bytes tokens → Phrase Binds tokens program → BindsSpelled program
+
+abbrev pub UnitsAreSpelled : Type 0
+UnitsAreSpelled = (bytes : List ℕ) (tokens : List Token) (units : List UnitTree) → TokensOf bytes tokens → Phrase Units tokens units → UnitsSpelled units
+
+-- the bytes spell a program whose whole term is this one, of this signature
+pub record Compiles (bytes : List ℕ) (x : Abs) (whole : Term) : Type 0 where
+  pub tokens : List Token
+  pub lexed : TokensOf bytes tokens
+  pub program : Program
+  pub tree : Phrase Binds tokens program
+  pub effect : Effect
+  pub types : List Ty
+  pub term : Term
+  pub derived : ProgramMeans program (made effect x types term) whole
+
+-- the whole term of a program and the encoding of its signature have their variables in scope where they are not too high
+abbrev pub SourcesInScope : Type 0
+SourcesInScope = (bytes : List ℕ) (x : Abs) (whole : Term) → Compiles bytes x whole → height (enc_abs x) ≤ 2 ^ 64 → term_height whole ≤ 2 ^ 63 → TyInScope 0 (enc_abs x) × TermInScope 0 0 whole
+
+-- in scope they have a text in each version
+abbrev pub SourcesHaveText : Type 0
+SourcesHaveText = (v : Version) (bytes : List ℕ) (x : Abs) (whole : Term) → Compiles bytes x whole → TyInScope 0 (enc_abs x) → TermInScope 0 0 whole → TextIn v (version_text v (enc_abs x) whole) (enc_abs x) whole
+
+-- which gives them again where no more than 4,000 parentheses are open
+abbrev pub SourcesReadBack : Type 0
+SourcesReadBack = (v : Version) (bytes : List ℕ) (x : Abs) (whole : Term) → Compiles bytes x whole → TyInScope 0 (enc_abs x) → TermInScope 0 0 whole
+    → is_too_deep (version_text v (enc_abs x) whole) ≡ false → omega_at (version_text v (enc_abs x) whole) ≡ Some (enc_abs x, whole)
