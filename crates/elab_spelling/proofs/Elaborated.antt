@@ -25,25 +25,34 @@ use Rattle.sig_premise_laws.proofs.Environments.{body-ok, good-module, good-fiel
 use Rattle.fing_syntax.specs.Phrase.{TyEx, TyExs, FieldTyExs, Exp, OpExps, Args, FieldExps, SigEx, Decl, Decls, Mod, Bind, Binds}
 use Rattle.fing_syntax.specs.Place.{name_of}
 use Rattle.core_judgments.specs.TypeRules.{BaseGives, FieldTy, RecordTypeGives, ArrowGives, AllGives, OperatorGives, AppliedGives}
-use Rattle.core_judgments.specs.ExpRules.{LiteralGives, FieldExp, RecordGives, FunctionGives, TypeFunctionGives, CallGives, InstanceGives, GetGives, IfGives, OperationGives, FixGives}
-use Rattle.sig_judgments.specs.SigRules.{ValueGives, TypeGives, AbstractGives, ModuleGives, SignatureGives, IncludeGives, DeclarationsGive, GenerativeGives as GenerativeSigGives}
-use Rattle.module_judgments.specs.ModRules.{NamedGives, GenerativeGives, PartsGive, IncludeGives as IncludeModule, SealGives, ValueGives as ValueModule, TypeGives as TypeModule, SignatureGives as SignatureModule}
+use Rattle.core_judgments.specs.ExpRules.{LiteralGives, FieldExp, RecordGives, FunctionGives, TypeFunctionGives, CallGives, InstanceGives, GetGives, IfGives}
+use Rattle.core_judgments.specs.ExpRules.{OperationGives, FixGives}
+use Rattle.sig_judgments.specs.SigRules.{ValueGives, TypeGives, AbstractGives, ModuleGives, SignatureGives, IncludeGives, DeclarationsGive}
+use Rattle.sig_judgments.specs.SigRules.{GenerativeGives as GenerativeSigGives}
+use Rattle.module_judgments.specs.ModRules.{NamedGives, GenerativeGives, PartsGive, IncludeGives as IncludeModule, SealGives, ValueGives as ValueModule}
+use Rattle.module_judgments.specs.ModRules.{TypeGives as TypeModule, SignatureGives as SignatureModule}
 use Rattle.functor_judgments.specs.PureFunctor.{PureFunctorGives}
 use Rattle.package_judgments.specs.Package.{PackTypeGives, PackGives, UnpackGives}
 use Rattle.elab_judgments.specs.Operators.{omega_op, include_name, with_type}
-use Rattle.elab_judgments.specs.Judgments.Meaning.{TyMeans, ArgTysMean, FieldTysMean, ExpMeans, OpsMean, ArgsMean, FieldExpsMean, SigMeans, DeclMeans, DeclsMean, ModMeans, BindMeans, BindsMean}
-use Rattle.elab_laws.proofs.FieldLaws.{FreshAll, fresh_all-end, fresh_all-insert, NoFields, no_fields-end, no_fields-joined, with_names-no_fields, apart-rename, rise-with_name, rise-with_names}
+use Rattle.elab_judgments.specs.Judgments.Meaning.{TyMeans, ArgTysMean, FieldTysMean, ExpMeans, OpsMean, ArgsMean, FieldExpsMean, SigMeans, DeclMeans}
+use Rattle.elab_judgments.specs.Judgments.Meaning.{DeclsMean, ModMeans, BindMeans, BindsMean}
+use Rattle.elab_laws.proofs.FieldLaws.{FreshAll, fresh_all-end, fresh_all-insert, NoFields, no_fields-end, no_fields-joined, with_names-no_fields, apart-rename}
+use Rattle.elab_laws.proofs.FieldLaws.{rise-with_name, rise-with_names}
 use Rattle.elab_laws.proofs.Kept.{type_ok, sig_ok, decl_ok, mod_ok, bind_ok, norm_ok}
 use Rattle.elab_spelling.specs.Legible.{TyLegible, RowLegible, TypesLegible, TermLegible, TermRowLegible}
 use Rattle.elab_spelling.specs.Signatures.{NameSpelled, NamesSpelled, AbsLegible, FieldsLegible, ModuleLegible, EnvLegible}
-use Rattle.elab_spelling.specs.Phrases.{ModSpelled, BindSpelled, BindsSpelled, SigExSpelled, DeclSpelled, DeclsSpelled, TyExSpelled, TyExsSpelled, FieldTyExsSpelled, ExpSpelled, OpExpsSpelled, ArgsSpelled, FieldExpsSpelled}
+use Rattle.elab_spelling.specs.Phrases.{ModSpelled, BindSpelled, BindsSpelled, SigExSpelled, DeclSpelled, DeclsSpelled, TyExSpelled, TyExsSpelled}
+use Rattle.elab_spelling.specs.Phrases.{FieldTyExsSpelled, ExpSpelled, OpExpsSpelled, ArgsSpelled, FieldExpsSpelled}
 use Rattle.elab_spelling.proofs.Types.{eta-legible, instantiate-legible}
 use Rattle.elab_spelling.proofs.Forms.{form-legible}
 use Rattle.elab_spelling.proofs.Terms.{packs-legible, one_field-legible, type_term-legible}
 use Rattle.elab_spelling.proofs.Signatures.{rename_fields-legible, norm-legible, enc_abs-legible}
 use Rattle.elab_spelling.proofs.Matching.{match-legible}
-use Rattle.elab_spelling.proofs.Fields.{FreshTermAll, fresh_term_all-end, fresh_term_all-insert, insert_part-legible, insert_term-legible, part-legible, merge-legible, with_name-spelled, with_names-spelled, follow-none}
-use Rattle.elab_spelling.proofs.Rules.{type_vars-legible, named_fields-legible, found-legible, result_type-legible, type_path-legible, value_path-legible, sig_path-legible, lift-legible, lifted_types-legible, refined-legible, packed-legible, projected-legible, functor-legible, applied-module-legible, sequence-legible, field_lets-legible, collected-legible}
+use Rattle.elab_spelling.proofs.Fields.{FreshTermAll, fresh_term_all-end, fresh_term_all-insert, insert_part-legible, insert_term-legible, part-legible}
+use Rattle.elab_spelling.proofs.Fields.{merge-legible, with_name-spelled, with_names-spelled, follow-none}
+use Rattle.elab_spelling.proofs.Rules.{type_vars-legible, named_fields-legible, found-legible, result_type-legible, type_path-legible, value_path-legible}
+use Rattle.elab_spelling.proofs.Rules.{sig_path-legible, lift-legible, lifted_types-legible, refined-legible, packed-legible, projected-legible}
+use Rattle.elab_spelling.proofs.Rules.{functor-legible, applied-module-legible, sequence-legible, field_lets-legible, collected-legible}
 
 -- environments for what follows
 
@@ -53,8 +62,10 @@ in-module g ks x s w r = good-module g ks x s w (body-ok r)
 module-body : {ctx ks : List Kind} (f : Effect) {s : Sig} (ts : List Ty) (e : Term) → OkModule ctx (made f (Abs.Ex ks s) ts e) → OkSig (extend ctx ks) s
 module-body f ts e h = (abs-body h.0.0, h.0.1)
 
-after-include : (g : Env) (ks : List Kind) (fs : SigRow) → OkEnv g → OkSig (extend (kinds g) ks) (Sig.Str fs) → OkEnv (named_fields (with_module g ks include_name (Sig.Str fs)) fs)
-after-include g ks fs w r = good-fields (with_module g ks include_name (Sig.Str fs)) fs (good-module g ks include_name (Sig.Str fs) w r) (subst (λ ctx. OkRow ctx fs) (sym (kinds-type_vars g ks)) (structure-row r))
+after-include : (g : Env) (ks : List Kind) (fs : SigRow) → OkEnv g → OkSig (extend (kinds g) ks) (Sig.Str fs)
+    → OkEnv (named_fields (with_module g ks include_name (Sig.Str fs)) fs)
+after-include g ks fs w r = good-fields (with_module g ks include_name (Sig.Str fs)) fs (good-module g ks include_name (Sig.Str fs) w r)
+    (subst (λ ctx. OkRow ctx fs) (sym (kinds-type_vars g ks)) (structure-row r))
 
 param-ok : {ctx ks : List Kind} {f : Effect} {s : Sig} {y : Abs} → OkSig ctx (Sig.Fun f ks s y) → OkRight ctx (Abs.Ex ks s)
 param-ok w = ((left-functor w.0).0, w.1.0)
@@ -66,11 +77,13 @@ module _ (v : Version) where
   abbrev pub GoodTermRow : List Name → Row → TermRow → Type 0
   GoodTermRow names row es = GoodRow names row × (TermRowLegible v None es × FreshTermAll names es)
 
-  one-field : (names : List Name) (x : Name) (t : Ty) (row : Row) → IsNew x names → NameSpelled x → TyLegible v t → GoodRow (x ∷ names) row → GoodRow names (insert_part (Label.Name x) t row)
+  one-field : (names : List Name) (x : Name) (t : Ty) (row : Row) → IsNew x names → NameSpelled x → TyLegible v t → GoodRow (x ∷ names) row
+      → GoodRow names (insert_part (Label.Name x) t row)
   one-field names x t row n s h g = (insert_part-legible v None (Label.Name x) t row refl s h g.1.0 g.0, fresh_all-insert names x t row n g.1.1)
 
   -- a matched module: what is found, and what it is matched against
-  found-match : (g : Env) (x : Name) {s : Sig} {y : Abs} {e f : Term} {ts : List Ty} → OkEnv g → EnvLegible v g → find g x ≡ Some (s, e) → OkRight (kinds g) y → AbsLegible v y → Match (kinds g) s y ts f → TermLegible v e × (TypesLegible v ts × TermLegible v f)
+  found-match : (g : Env) (x : Name) {s : Sig} {y : Abs} {e f : Term} {ts : List Ty} → OkEnv g → EnvLegible v g → find g x ≡ Some (s, e)
+      → OkRight (kinds g) y → AbsLegible v y → Match (kinds g) s y ts f → TermLegible v e × (TypesLegible v ts × TermLegible v f)
   found-match g x {s = s} {e = e} w l p r h m = let o = found-legible v g x l p in (o.1, match-legible v (find-good g x w (s, e) p) r m o.0 h)
 
   -- declarations give a legible signature of fields of names that are new
@@ -80,9 +93,11 @@ module _ (v : Version) where
   good-abs : {names : List Name} {x : Abs} → GoodDecls names x → AbsLegible v x
   good-abs (good_decls h n) = h
 
-  joined-decls : {names : List Name} (ks : List Kind) {js : List Kind} (fs : SigRow) {gs : SigRow} → AreNew fs names → FieldsLegible v None fs → GoodDecls (with_names fs names) (Abs.Ex js (Sig.Str gs)) → GoodDecls names (Abs.Ex (ks ++ js) (Sig.Str (merge (raise_sig_row js fs) gs)))
+  joined-decls : {names : List Name} (ks : List Kind) {js : List Kind} (fs : SigRow) {gs : SigRow} → AreNew fs names → FieldsLegible v None fs
+      → GoodDecls (with_names fs names) (Abs.Ex js (Sig.Str gs)) → GoodDecls names (Abs.Ex (ks ++ js) (Sig.Str (merge (raise_sig_row js fs) gs)))
   joined-decls {names} ks {js} fs {gs} a h (good_decls g n) =
-      good_decls (merge-legible v None (raise_sig_row js fs) gs (apart-rename (past js) fs gs (with_names-no_fields fs names gs n).0) (rename_fields-legible v (past js) None fs h) g) (no_fields-joined (past js) names fs gs a n)
+      good_decls (merge-legible v None (raise_sig_row js fs) gs (apart-rename (past js) fs gs (with_names-no_fields fs names gs n).0)
+      (rename_fields-legible v (past js) None fs h) g) (no_fields-joined (past js) names fs gs a n)
 
   mutual
     pub ty-legible : (g : Env) {a : TyEx} {t : Ty} {k : Kind} → OkEnv g → EnvLegible v g → TyExSpelled a → TyMeans g a t k → TyLegible v t
@@ -97,11 +112,13 @@ module _ (v : Version) where
     ty-legible g w l s (TyMeans.ty_lam {a = a} {k = k} b OperatorGives.operator) = ty-legible (with_type g k (name_of a)) (tt, (tt, w)) l s.1 b
     ty-legible g w l s (TyMeans.ty_pack a (PackTypeGives.pack_type {y = y} n)) = enc_abs-legible v y (norm-legible v n (sig-legible g w l s a))
 
-    pub arg_tys-legible : (g : Env) {rest : TyExs} {t u : Ty} {k j : Kind} → OkEnv g → EnvLegible v g → TyExsSpelled rest → TyLegible v t → ArgTysMean g t k rest u j → TyLegible v u
+    pub arg_tys-legible : (g : Env) {rest : TyExs} {t u : Ty} {k j : Kind} → OkEnv g → EnvLegible v g → TyExsSpelled rest → TyLegible v t
+        → ArgTysMean g t k rest u j → TyLegible v u
     arg_tys-legible g w l s h ArgTysMean.no_args = h
     arg_tys-legible g w l s h (ArgTysMean.next_arg a (AppliedGives.applied n) r) = arg_tys-legible g w l s.1 (form-legible v n (h, ty-legible g w l s.0 a)) r
 
-    pub field_tys-legible : (g : Env) {names : List Name} {a : FieldTyExs} {parts : List FieldTy} {row : Row} → OkEnv g → EnvLegible v g → FieldTyExsSpelled a → FieldTysMean g names a parts → RecordTypeGives names parts row → GoodRow names row
+    pub field_tys-legible : (g : Env) {names : List Name} {a : FieldTyExs} {parts : List FieldTy} {row : Row} → OkEnv g → EnvLegible v g
+        → FieldTyExsSpelled a → FieldTysMean g names a parts → RecordTypeGives names parts row → GoodRow names row
     field_tys-legible g {names} w l s FieldTysMean.no_field_tys RecordTypeGives.no_fields = (tt, fresh_all-end names)
     field_tys-legible g {names} w l s (FieldTysMean.next_field_ty {x = x} {t = t} m a f) (RecordTypeGives.next_field {row = row} n r) =
         one-field names (name_of x) t row n s.0 (ty-legible g w l s.1 a) (field_tys-legible g w l s.2 f r)
@@ -139,18 +156,22 @@ module _ (v : Version) where
         let u = enc_abs-legible v z h in
         (u, packs-legible v q o.1.0 (o.1.1, o.0) u)
 
-    pub ops-legible : (g : Env) {rest : OpExps} {t u : Ty} {d e : Term} → OkEnv g → EnvLegible v g → OpExpsSpelled rest → TyLegible v t × TermLegible v d → OpsMean g t d rest u e → TyLegible v u × TermLegible v e
+    pub ops-legible : (g : Env) {rest : OpExps} {t u : Ty} {d e : Term} → OkEnv g → EnvLegible v g → OpExpsSpelled rest → TyLegible v t × TermLegible v d
+        → OpsMean g t d rest u e → TyLegible v u × TermLegible v e
     ops-legible g w l s h OpsMean.no_ops = h
-    ops-legible g w l s h (OpsMean.next_op {o = o} b OperationGives.operation r) = ops-legible g w l s.1 (result_type-legible v (omega_op o), (h.1, (exp-legible g w l s.0 b).1)) r
+    ops-legible g w l s h (OpsMean.next_op {o = o} b OperationGives.operation r) =
+        ops-legible g w l s.1 (result_type-legible v (omega_op o), (h.1, (exp-legible g w l s.0 b).1)) r
 
-    pub args-legible : (g : Env) {rest : Args} {t u : Ty} {d e : Term} → OkEnv g → EnvLegible v g → ArgsSpelled rest → TyLegible v t × TermLegible v d → ArgsMean g t d rest u e → TyLegible v u × TermLegible v e
+    pub args-legible : (g : Env) {rest : Args} {t u : Ty} {d e : Term} → OkEnv g → EnvLegible v g → ArgsSpelled rest → TyLegible v t × TermLegible v d
+        → ArgsMean g t d rest u e → TyLegible v u × TermLegible v e
     args-legible g w l s h ArgsMean.no_arg = h
     args-legible g w l s h (ArgsMean.next_value b CallGives.call r) = args-legible g w l s.1 (h.0.1, (h.1, (exp-legible g w l s.0 b).1)) r
     args-legible g w l s h (ArgsMean.next_type a (InstanceGives.instance {u = u} {t = t} n) r) =
         let i = ty-legible g w l s.0 a in
         args-legible g w l s.1 (form-legible v n (instantiate-legible v u t h.0 i), (h.1, i)) r
 
-    pub field_exps-legible : (g : Env) {names : List Name} {a : FieldExps} {parts : List FieldExp} {row : Row} {es : TermRow} → OkEnv g → EnvLegible v g → FieldExpsSpelled a → FieldExpsMean g names a parts → RecordGives names parts row es → GoodTermRow names row es
+    pub field_exps-legible : (g : Env) {names : List Name} {a : FieldExps} {parts : List FieldExp} {row : Row} {es : TermRow} → OkEnv g → EnvLegible v g
+        → FieldExpsSpelled a → FieldExpsMean g names a parts → RecordGives names parts row es → GoodTermRow names row es
     field_exps-legible g {names} w l s FieldExpsMean.no_field_exps RecordGives.no_fields = ((tt, fresh_all-end names), (tt, fresh_term_all-end names))
     field_exps-legible g {names} w l s (FieldExpsMean.next_field_exp {x = x} {t = t} {e = e} m a f) (RecordGives.next_field {row = row} {es = es} n r) =
         let h = exp-legible g w l s.1 a in
@@ -167,7 +188,8 @@ module _ (v : Version) where
         (h, sig-legible (with_module g ks (name_of x) q) (in-module g ks (name_of x) q w (sig_ok g _ _ w a)) (h, type_vars-legible v g ks l) s.2 b)
     sig-legible g w l s (SigMeans.sig_applicative {x = x} {ks = ks} {s = q} a b f) =
         let h = sig-legible g w l s.1 a in
-        lift-legible v h (sig-legible (with_module g ks (name_of x) q) (in-module g ks (name_of x) q w (sig_ok g _ _ w a)) (h, type_vars-legible v g ks l) s.2 b) f
+        lift-legible v h (sig-legible (with_module g ks (name_of x) q) (in-module g ks (name_of x) q w (sig_ok g _ _ w a))
+        (h, type_vars-legible v g ks l) s.2 b) f
     sig-legible g w l s (SigMeans.sig_refine a b r) = refined-legible v (sig-legible g w l s.0 a) (ty-legible g w l s.2 b) r
 
     pub decl-legible : (g : Env) {a : Decl} {x : Abs} → OkEnv g → EnvLegible v g → DeclSpelled a → DeclMeans g a x → AbsLegible v x
@@ -178,12 +200,14 @@ module _ (v : Version) where
     decl-legible g w l s (DeclMeans.decl_signature a SignatureGives.signature) = (refl, s.0, sig-legible g w l s.1 a, tt)
     decl-legible g w l s (DeclMeans.decl_include a IncludeGives.include) = sig-legible g w l s a
 
-    pub decls-legible : (g : Env) {names : List Name} {a : Decls} {x : Abs} → OkEnv g → EnvLegible v g → DeclsSpelled a → DeclsMean g names a x → GoodDecls names x
+    pub decls-legible : (g : Env) {names : List Name} {a : Decls} {x : Abs} → OkEnv g → EnvLegible v g → DeclsSpelled a → DeclsMean g names a x
+        → GoodDecls names x
     decls-legible g {names} w l s DeclsMean.no_decls = good_decls tt (no_fields-end names)
     decls-legible g {names} w l s (DeclsMean.next_decl {ks = ks} {fs = fs} d n r DeclarationsGive.declarations) =
         let h = decl-legible g w l s.0 d in
         let inner = good-type_fields g ks fs w (structure-row (body-ok (decl_ok g _ _ w d))) in
-        joined-decls ks fs n h (decls-legible (named_fields (type_vars g ks) fs) inner (named_fields-legible v None (type_vars g ks) fs (type_vars-legible v g ks l) h) s.1 r)
+        joined-decls ks fs n h (decls-legible (named_fields (type_vars g ks) fs) inner
+        (named_fields-legible v None (type_vars g ks) fs (type_vars-legible v g ks l) h) s.1 r)
 
     pub mod-legible : (g : Env) {a : Mod} {m : Module} → OkEnv g → EnvLegible v g → ModSpelled a → ModMeans g a m → ModuleLegible v m
     mod-legible g w l s (ModMeans.mod_name {x = x} (NamedGives.named p)) = let o = found-legible v g (name_of x) l p in (o.0, tt, o.1)
@@ -207,23 +231,29 @@ module _ (v : Version) where
         (h, c.1.0, (c.1.1, c.0))
     mod-legible g w l s (ModMeans.mod_unpack e a n UnpackGives.unpack) = (norm-legible v n (sig-legible g w l s.1 a), tt, (exp-legible g w l s.0 e).1)
 
-    pub bind-legible : (g : Env) {a : Bind} {x : Name} {m : Module} → OkEnv g → EnvLegible v g → BindSpelled a → BindMeans g a x m → NameSpelled x × ModuleLegible v m
-    bind-legible g w l s (BindMeans.bind_val {e = e} a ValueModule.value) = let h = exp-legible g w l s.1 a in (s.0, (h.0, tt, one_field-legible v Label.Val e tt h.1))
+    pub bind-legible : (g : Env) {a : Bind} {x : Name} {m : Module} → OkEnv g → EnvLegible v g → BindSpelled a → BindMeans g a x m
+        → NameSpelled x × ModuleLegible v m
+    bind-legible g w l s (BindMeans.bind_val {e = e} a ValueModule.value) =
+        let h = exp-legible g w l s.1 a in
+        (s.0, (h.0, tt, one_field-legible v Label.Val e tt h.1))
     bind-legible g w l s (BindMeans.bind_ty {t = t} {k = k} a TypeModule.type) = let h = ty-legible g w l s.1 a in (s.0, (h, tt, type_term-legible v t k h))
     bind-legible g w l s (BindMeans.bind_signature {y = y} a SignatureModule.signature) =
         let h = sig-legible g w l s.1 a in
         (s.0, (h, tt, one_field-legible v Label.Sig (Term.Lam (enc_abs y) (Term.Var 0)) tt (enc_abs-legible v y h, tt)))
     bind-legible g w l s (BindMeans.bind_module m) = (s.0, mod-legible g w l s.1 m)
 
-    pub binds-legible : (g : Env) {names : List Name} {a : Binds} {m : Module} → OkEnv g → EnvLegible v g → NamesRise names → NamesSpelled names → BindsSpelled a → BindsMean g names a m → ModuleLegible v m
+    pub binds-legible : (g : Env) {names : List Name} {a : Binds} {m : Module} → OkEnv g → EnvLegible v g → NamesRise names → NamesSpelled names
+        → BindsSpelled a → BindsMean g names a m → ModuleLegible v m
     binds-legible g {names} w l o n s (BindsMean.no_binds c) = let p = collected-legible v None l (follow-none names) o n c in (p.0, tt, p.1)
     binds-legible g {names} w l o n s (BindsMean.next_bind {x = x} {f = f} {ks = ks} {s = q} {ts = ts} {e = e} b r z) =
         let h = bind-legible g w l s.0 b in
         let inner = good-module g ks x q w (module-body f ts e (bind_ok g _ x _ w b)) in
-        sequence-legible v h.1 (binds-legible (with_module g ks x q) inner (h.1.0, type_vars-legible v g ks l) (rise-with_name x names o) (with_name-spelled x names h.0 n) s.1 r) z
+        sequence-legible v h.1 (binds-legible (with_module g ks x q) inner (h.1.0, type_vars-legible v g ks l) (rise-with_name x names o)
+        (with_name-spelled x names h.0 n) s.1 r) z
     binds-legible g {names} w l o n s (BindsMean.next_include {f = f} {ks = ks} {fs = fs} {ts = ts} {e = e} m r (IncludeModule.include {d = d} z)) =
         let h = mod-legible g w l s.0 m in
         let inner = after-include g ks fs w (module-body f ts e (mod_ok g _ _ w m)) in
         let legible = named_fields-legible v None (with_module g ks include_name (Sig.Str fs)) fs (h.0, type_vars-legible v g ks l) h.0 in
-        let i = binds-legible (named_fields (with_module g ks include_name (Sig.Str fs)) fs) inner legible (rise-with_names fs names o) (with_names-spelled v None fs names h.0 n) s.1 r in
+        let i = binds-legible (named_fields (with_module g ks include_name (Sig.Str fs)) fs) inner legible (rise-with_names fs names o)
+        (with_names-spelled v None fs names h.0 n) s.1 r in
         sequence-legible v h (i.0, i.1, field_lets-legible v None 0 fs d h.0 i.2) z

@@ -53,28 +53,38 @@ pub fresh_term_all-end : (names : List Name) → FreshTermAll names TermRow.End
 fresh_term_all-end [] = tt
 fresh_term_all-end (l ∷ ls) = (tt, fresh_term_all-end ls)
 
-pub fresh_term_all-insert : (names : List Name) (x : Name) (e : Term) (row : TermRow) → IsNew x names → FreshTermAll names row → FreshTermAll names (insert_term (Label.Name x) e row)
+pub fresh_term_all-insert : (names : List Name) (x : Name) (e : Term) (row : TermRow) → IsNew x names → FreshTermAll names row
+    → FreshTermAll names (insert_term (Label.Name x) e row)
 fresh_term_all-insert [] x e row n f = tt
-fresh_term_all-insert (l ∷ ls) x e row n f = (fresh_term-insert (Label.Name l) (Label.Name x) e row (name-differs (not-sym n.0)) f.0, fresh_term_all-insert ls x e row n.1 f.1)
+fresh_term_all-insert (l ∷ ls) x e row n f = (
+  fresh_term-insert (Label.Name l) (Label.Name x) e row
+      (name-differs (not-sym n.0)) f.0,
+  fresh_term_all-insert ls x e row n.1 f.1,
+)
 
 -- sets of names
 
 pub with_name-spelled : (l : Name) (names : List Name) → NameSpelled l → NamesSpelled names → NamesSpelled (with_name l names)
 with_name-spelled l [] h g = (h, tt)
-with_name-spelled l (m ∷ ms) h g = pick NamesSpelled (same_name l m) (λ e. g) (λ e. pick NamesSpelled (name_before l m) (λ d. (h, g)) (λ d. (g.0, with_name-spelled l ms h g.1)))
+with_name-spelled l (m ∷ ms) h g = pick NamesSpelled (same_name l m) (λ e. g)
+    (λ e. pick NamesSpelled (name_before l m) (λ d. (h, g)) (λ d. (g.0, with_name-spelled l ms h g.1)))
 
 module _ (v : Version) where
   -- record types and record terms
 
-  pub insert_part-legible : (last : Option Label) (l : Label) (t : Ty) (row : Row) → follows last l ≡ true → LabelSpelled l → TyLegible v t → Fresh l row → RowLegible v last row → RowLegible v last (insert_part l t row)
+  pub insert_part-legible : (last : Option Label) (l : Label) (t : Ty) (row : Row) → follows last l ≡ true → LabelSpelled l → TyLegible v t → Fresh l row
+      → RowLegible v last row → RowLegible v last (insert_part l t row)
   insert_part-legible last l t Row.End f s h n g = (f, s, h, tt)
   insert_part-legible last l t (Row.More m u rest) f s h n g =
-      pick (RowLegible v last) (label_before l m) (λ e. (f, s, h, (e, g.1, g.2, g.3))) (λ e. (g.0, g.1, g.2, insert_part-legible (Some m) l t rest (later l m n.0 e) s h n.1 g.3))
+      pick (RowLegible v last) (label_before l m) (λ e. (f, s, h, (e, g.1, g.2, g.3)))
+      (λ e. (g.0, g.1, g.2, insert_part-legible (Some m) l t rest (later l m n.0 e) s h n.1 g.3))
 
-  pub insert_term-legible : (last : Option Label) (l : Label) (e : Term) (row : TermRow) → follows last l ≡ true → LabelSpelled l → TermLegible v e → FreshTerm l row → TermRowLegible v last row → TermRowLegible v last (insert_term l e row)
+  pub insert_term-legible : (last : Option Label) (l : Label) (e : Term) (row : TermRow) → follows last l ≡ true → LabelSpelled l → TermLegible v e
+      → FreshTerm l row → TermRowLegible v last row → TermRowLegible v last (insert_term l e row)
   insert_term-legible last l e TermRow.End f s h n g = (f, s, h, tt)
   insert_term-legible last l e (TermRow.More m u rest) f s h n g =
-      pick (TermRowLegible v last) (label_before l m) (λ q. (f, s, h, (q, g.1, g.2, g.3))) (λ q. (g.0, g.1, g.2, insert_term-legible (Some m) l e rest (later l m n.0 q) s h n.1 g.3))
+      pick (TermRowLegible v last) (label_before l m) (λ q. (f, s, h, (q, g.1, g.2, g.3)))
+      (λ q. (g.0, g.1, g.2, insert_term-legible (Some m) l e rest (later l m n.0 q) s h n.1 g.3))
 
   pub part-legible : {row : Row} {l : Label} {t : Ty} (last : Option Label) → RowLegible v last row → HasPart row l t → LabelSpelled l × TyLegible v t
   part-legible last h HasPart.here = (h.1, h.2)
@@ -82,7 +92,8 @@ module _ (v : Version) where
 
   -- structures
 
-  insert_field-legible : (last : Option Label) (l : Name) (s : Sig) (fs : SigRow) → follows last (Label.Name l) ≡ true → NameSpelled l → SigLegible v s → NoField l fs → FieldsLegible v last fs → FieldsLegible v last (insert_field l s fs)
+  insert_field-legible : (last : Option Label) (l : Name) (s : Sig) (fs : SigRow) → follows last (Label.Name l) ≡ true → NameSpelled l → SigLegible v s
+      → NoField l fs → FieldsLegible v last fs → FieldsLegible v last (insert_field l s fs)
   insert_field-legible last l s SigRow.End f a h n g = (f, a, h, tt)
   insert_field-legible last l s (SigRow.More m t rest) f a h n g =
       pick (FieldsLegible v last) (name_before l m) (λ e. (f, a, h, (e, g.1, g.2, g.3)))
@@ -98,12 +109,15 @@ module _ (v : Version) where
   none-again l SigRow.End h = tt
   none-again l (SigRow.More m s rest) h = ((λ e. before-differs (Label.Name l) (Label.Name m) h.0 (λ i. Label.Name (e i))), none-later l m rest h.0 h.3)
 
-  pub merge-legible : (last : Option Label) (fs gs : SigRow) → Apart fs gs → FieldsLegible v last fs → FieldsLegible v None gs → FieldsLegible v None (merge fs gs)
+  pub merge-legible : (last : Option Label) (fs gs : SigRow) → Apart fs gs → FieldsLegible v last fs → FieldsLegible v None gs
+      → FieldsLegible v None (merge fs gs)
   merge-legible last SigRow.End gs a h g = g
   merge-legible last (SigRow.More l s fs) gs a h g =
-      insert_field-legible None l s (merge fs gs) refl h.1 h.2 (merge-none l fs gs (none-again l fs h.3) a.0) (merge-legible (Some (Label.Name l)) fs gs a.1 h.3 g)
+      insert_field-legible None l s (merge fs gs) refl h.1 h.2 (merge-none l fs gs (none-again l fs h.3) a.0)
+      (merge-legible (Some (Label.Name l)) fs gs a.1 h.3 g)
 
-  pub with_names-spelled : (last : Option Label) (fs : SigRow) (names : List Name) → FieldsLegible v last fs → NamesSpelled names → NamesSpelled (with_names fs names)
+  pub with_names-spelled : (last : Option Label) (fs : SigRow) (names : List Name) → FieldsLegible v last fs → NamesSpelled names
+      → NamesSpelled (with_names fs names)
   with_names-spelled last SigRow.End names h g = g
   with_names-spelled last (SigRow.More l s fs) names h g = with_names-spelled (Some (Label.Name l)) fs (with_name l names) h.3 (with_name-spelled l names h.1 g)
 

@@ -22,6 +22,11 @@ module _ (v : Version) where
   forms-legible (NormalForms.next f fs) h = (form-legible f h.0, forms-legible fs h.1)
 
   -- a type from outside that is convertible to a legible one
-  pub outside-legible : {ctx : List Kind} (ks : List Kind) {t u n : Ty} {k : Kind} → Conv (extend ctx ks) (raise ks u) t k → NormalForm ctx u k n → TyLegible v t → TyLegible v n
+  pub outside-legible : {ctx : List Kind} (ks : List Kind) {t u n : Ty} {k : Kind} → Conv (extend ctx ks) (raise ks u) t k → NormalForm ctx u k n
+      → TyLegible v t → TyLegible v n
   outside-legible {ctx} ks {n = n} c f h =
-      legible-renamed v (past ks) n (form-legible (normal-rename (past ks) (past-maps ctx ks) f.0, c_trans (c_sym c) (conv-rename (past ks) (past-maps ctx ks) f.1)) h)
+      legible-renamed v (past ks) n (form-legible (
+        normal-rename (past ks) (past-maps ctx ks) f.0,
+        c_trans (c_sym c)
+            (conv-rename (past ks) (past-maps ctx ks) f.1),
+      ) h)

@@ -31,10 +31,13 @@ use Rattle.module_judgments.specs.Sequence.{Seq, field_lets, Collected}
 use Rattle.module_judgments.specs.ModRules.{ApplyGives}
 use Rattle.elab_spelling.specs.Legible.{TyLegible, TypesLegible, TermLegible, TermRowLegible}
 use Rattle.elab_spelling.specs.Signatures.{NamesSpelled, SigLegible, AbsLegible, FieldsLegible, ModuleLegible, EnvLegible}
-use Rattle.elab_spelling.proofs.Types.{rename-legible, substitute-legible, front-legible, puts-legible, unders-legible, eta-legible, vars-legible, applied-legible, lam_over-legible}
+use Rattle.elab_spelling.proofs.Types.{rename-legible, substitute-legible, front-legible, puts-legible, unders-legible, eta-legible, vars-legible}
+use Rattle.elab_spelling.proofs.Types.{applied-legible, lam_over-legible}
 use Rattle.elab_spelling.proofs.Forms.{forms-legible, outside-legible}
-use Rattle.elab_spelling.proofs.Terms.{ren_term-legible, instance-legible, ty_lam_over-legible, insts-legible, packs-legible, opens-legible, one_field-legible, type_term-legible, result_label-spelled}
-use Rattle.elab_spelling.proofs.Signatures.{rename_sig-legible, substitute_sig-legible, sig_at-legible, abs_at-legible, form_sig-legible, form_abs-legible, outside_abs-legible, field-legible, enc-legible, enc_abs-legible}
+use Rattle.elab_spelling.proofs.Terms.{ren_term-legible, instance-legible, ty_lam_over-legible, insts-legible, packs-legible, opens-legible, one_field-legible}
+use Rattle.elab_spelling.proofs.Terms.{type_term-legible, result_label-spelled}
+use Rattle.elab_spelling.proofs.Signatures.{rename_sig-legible, substitute_sig-legible, sig_at-legible, abs_at-legible, form_sig-legible, form_abs-legible}
+use Rattle.elab_spelling.proofs.Signatures.{outside_abs-legible, field-legible, enc-legible, enc_abs-legible}
 use Rattle.elab_spelling.proofs.Matching.{append-legible}
 use Rattle.elab_spelling.proofs.Fields.{Follow, follow-rise}
 
@@ -62,16 +65,19 @@ module _ (v : Version) where
   past_term-legible None h = tt
   past_term-legible (Some o) h = (h.0, ren_term-legible v same_index suc o.1 h.1)
 
-  either-legible : (b : Bool) (o : Sig × Term) (p : Option (Sig × Term)) → SigLegible v o.0 × TermLegible v o.1 → FoundLegible p → FoundLegible (cond b (Some o) p)
+  either-legible : (b : Bool) (o : Sig × Term) (p : Option (Sig × Term)) → SigLegible v o.0 × TermLegible v o.1 → FoundLegible p
+      → FoundLegible (cond b (Some o) p)
   either-legible true o p h g = h
   either-legible false o p h g = g
 
   find-legible : (g : Env) (x : Name) → EnvLegible v g → FoundLegible (find g x)
   find-legible [] x h = tt
   find-legible (TypeVar k ∷ g) x h = past_type-legible (find g x) (find-legible g x h)
-  find-legible (Named y s ∷ g) x h = either-legible (same_name x y) (s, Term.Var zero) (past_term (find g x)) (h.0, tt) (past_term-legible (find g x) (find-legible g x h.1))
+  find-legible (Named y s ∷ g) x h = either-legible (same_name x y) (s, Term.Var zero) (past_term (find g x)) (h.0, tt)
+      (past_term-legible (find g x) (find-legible g x h.1))
   find-legible (Value y t ∷ g) x h =
-      either-legible (same_name x y) (Sig.Val t, one_field Label.Val (Term.Var zero)) (past_term (find g x)) (h.0, one_field-legible v Label.Val (Term.Var zero) tt tt) (past_term-legible (find g x) (find-legible g x h.1))
+      either-legible (same_name x y) (Sig.Val t, one_field Label.Val (Term.Var zero)) (past_term (find g x))
+      (h.0, one_field-legible v Label.Val (Term.Var zero) tt tt) (past_term-legible (find g x) (find-legible g x h.1))
   find-legible (TypeParam y ∷ g) x h =
       let k = first_kind g in
       let e = eta-legible v k (Ty.Var zero) tt in
@@ -113,16 +119,22 @@ module _ (v : Version) where
 
   pub lift-legible : {ctx ks : List Kind} {s : Sig} {x y : Abs} → SigLegible v s → AbsLegible v x → Lift ctx ks s x y → AbsLegible v y
   lift-legible {ks = ks} {s = s} {x = Abs.Ex bs r} h g (lift f) =
-      form_abs-legible v f (rename_sig-legible v (lifts ks (past bs)) s h, substitute_sig-legible v (lifting ks bs) r (puts-legible v (map (applied ks) (own_vars bs)) (λ i. Ty.Var (lifts ks (past bs) i)) (applied_all-legible ks bs) (λ i. tt)) g)
+      form_abs-legible v f (
+        rename_sig-legible v (lifts ks (past bs)) s h,
+        substitute_sig-legible v (lifting ks bs) r
+            (puts-legible v (map (applied ks) (own_vars bs)) (λ i. Ty.Var (lifts ks (past bs) i)) (applied_all-legible ks bs) (λ i. tt)) g,
+      )
 
   pub lifted_types-legible : (ks : List Kind) (ts : List Ty) → TypesLegible v ts → TypesLegible v (lifted_types ks ts)
   lifted_types-legible ks [] h = tt
   lifted_types-legible ks (t ∷ ts) h = (lam_over-legible v ks t h.0, lifted_types-legible ks ts h.1)
 
-  pub refined-legible : {ctx : List Kind} {x y : Abs} {names : List Name} {u : Ty} {k : Kind} → AbsLegible v x → TyLegible v u → Refined ctx x names u k y → AbsLegible v y
+  pub refined-legible : {ctx : List Kind} {x y : Abs} {names : List Name} {u : Ty} {k : Kind} → AbsLegible v x → TyLegible v u → Refined ctx x names u k y
+      → AbsLegible v y
   refined-legible h g (Refined.refined before after {s = s} {u = u} e l f) =
       let p = front-legible v (raise before u) Ty.Var (rename-legible v (past before) u g) (λ i. tt) in
-      form_sig-legible v f (substitute_sig-legible v (unders after (front (raise before u) Ty.Var)) s (unders-legible v after (front (raise before u) Ty.Var) p) h)
+      form_sig-legible v f (substitute_sig-legible v (unders after (front (raise before u) Ty.Var)) s
+      (unders-legible v after (front (raise before u) Ty.Var) p) h)
 
   -- modules
 
@@ -137,10 +149,14 @@ module _ (v : Version) where
       let packed = packs-legible v q (vars-legible v ks) (tt, p.0) (rename-legible v (past ks) (enc_abs (Abs.Ex ks s)) (enc_abs-legible v (Abs.Ex ks s) p.1)) in
       (p.1, tt, opens-legible v ks e (enc_abs (Abs.Ex ks (Sig.Str fs))) d h.2 (enc_abs-legible v (Abs.Ex ks (Sig.Str fs)) h.0) packed)
 
-  pub functor-legible : (ks : List Kind) (s : Sig) (f : Effect) (e : Term) → SigLegible v s → TermLegible v e → TermLegible v (ty_lam_over ks (Term.Lam (enc s) (one_field (result_label f) e)))
-  functor-legible ks s f e h g = ty_lam_over-legible v ks (Term.Lam (enc s) (one_field (result_label f) e)) (enc-legible v s h, one_field-legible v (result_label f) e (result_label-spelled v f) g)
+  pub functor-legible : (ks : List Kind) (s : Sig) (f : Effect) (e : Term) → SigLegible v s → TermLegible v e
+      → TermLegible v (ty_lam_over ks (Term.Lam (enc s) (one_field (result_label f) e)))
+  functor-legible ks s f e h g = ty_lam_over-legible v ks (Term.Lam (enc s) (one_field (result_label f) e))
+      (enc-legible v s h, one_field-legible v (result_label f) e (result_label-spelled v f) g)
 
-  pub applied-module-legible : {ctx ks : List Kind} {f : Effect} {s : Sig} {y : Abs} {ts : List Ty} {c d e : Term} {m : Module} → SigLegible v (Sig.Fun f ks s y) → TermLegible v d → TypesLegible v ts → TermLegible v c → TermLegible v e → ApplyGives ctx (Sig.Fun f ks s y) d ts c e m → ModuleLegible v m
+  pub applied-module-legible : {ctx ks : List Kind} {f : Effect} {s : Sig} {y : Abs} {ts : List Ty} {c d e : Term} {m : Module}
+      → SigLegible v (Sig.Fun f ks s y) → TermLegible v d → TypesLegible v ts → TermLegible v c → TermLegible v e
+      → ApplyGives ctx (Sig.Fun f ks s y) d ts c e m → ModuleLegible v m
   applied-module-legible h p q r i (ApplyGives.apply {f = f} {y = y} {ts = ts} {d = d} n) =
       (form_abs-legible v n (abs_at-legible v ts (λ i. i) y q h.1), tt, ((insts-legible v d ts p q, (r, i)), result_label-spelled v f))
 
@@ -159,14 +175,17 @@ module _ (v : Version) where
       )
   sequence-legible h g (Seq.some_impure {ks = ks} {js = js} {s = s} {t = t} {p = p} {q = q} {r = r} j a b c) =
       let both = Abs.Ex (ks ++ js) t in
-      let packed = packs-legible v c (vars-legible v ks) (ren_term-legible v same_index _ q (packed-legible g b)) (rename-legible v (past ks) (enc_abs both) (enc_abs-legible v both g.0)) in
+      let packed = packs-legible v c (vars-legible v ks) (ren_term-legible v same_index _ q (packed-legible g b))
+      (rename-legible v (past ks) (enc_abs both) (enc_abs-legible v both g.0)) in
       (g.0, tt, opens-legible v ks p (enc_abs (Abs.Ex ks s)) r (packed-legible h a) (enc_abs-legible v (Abs.Ex ks s) h.0) packed)
 
-  pub field_lets-legible : (last : Option Label) (i : ℕ) (fs : SigRow) (e : Term) → FieldsLegible v last fs → TermLegible v e → TermLegible v (field_lets i fs e)
+  pub field_lets-legible : (last : Option Label) (i : ℕ) (fs : SigRow) (e : Term) → FieldsLegible v last fs → TermLegible v e
+      → TermLegible v (field_lets i fs e)
   field_lets-legible last i SigRow.End e h g = g
   field_lets-legible last i (SigRow.More l s rest) e h g = ((enc-legible v s h.2, field_lets-legible (Some (Label.Name l)) (suc i) rest e h.3 g), (tt, h.1))
 
-  pub collected-legible : {g : Env} {names : List Name} {fs : SigRow} {es : TermRow} (last : Option Label) → EnvLegible v g → Follow last names → NamesRise names → NamesSpelled names → Collected g names fs es → FieldsLegible v last fs × TermRowLegible v last es
+  pub collected-legible : {g : Env} {names : List Name} {fs : SigRow} {es : TermRow} (last : Option Label) → EnvLegible v g → Follow last names
+      → NamesRise names → NamesSpelled names → Collected g names fs es → FieldsLegible v last fs × TermRowLegible v last es
   collected-legible last h f r n Collected.none = (tt, tt)
   collected-legible {g} last h f r n (Collected.next {l = l} {names = names} p c) =
       let o = found-legible g l h p in

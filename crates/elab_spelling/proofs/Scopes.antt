@@ -51,14 +51,24 @@ length-shift (t ∷ ts) = ap suc (length-shift ts)
 
 mutual
   -- a fixed point binds two variables at once, so the variables in scope are fewer than twice the height
-  pub term-scope : {ctx : List Kind} {vars : List Ty} {e : Term} {t : Ty} (n m : ℕ) → n ≡ length ctx → m ≡ length vars → n + term_height e ≤ 2 ^ 63 → m + 2 * term_height e ≤ 2 ^ 64 → HasType ctx vars e t → TermInScope n m e
+  pub term-scope : {ctx : List Kind} {vars : List Ty} {e : Term} {t : Ty} (n m : ℕ) → n ≡ length ctx → m ≡ length vars → n + term_height e ≤ 2 ^ 63
+      → m + 2 * term_height e ≤ 2 ^ 64 → HasType ctx vars e t → TermInScope n m e
   term-scope n m p q h g (HasType.var {n = i} x) = let b = var-below x in index-scope m i (omega (arith, b, q)) (omega (arith, g))
   term-scope n m p q h g HasType.int = tt
   term-scope n m p q h g HasType.bool = tt
   term-scope n m p q h g HasType.text = tt
-  term-scope {vars = vars} n m p q h g (HasType.lam k e) = (ty-scope n p (omega (arith, h)) k, term-scope n (m + 1) p (more m (length vars) q) (omega (arith, h)) (omega (arith, g)) e)
-  term-scope n m p q h g (HasType.call f a) = (term-scope n m p q (omega (arith, h)) (omega (arith, g)) f, term-scope n m p q (omega (arith, h)) (omega (arith, g)) a)
-  term-scope {ctx} {vars} n m p q h g (HasType.ty_lam e) = term-scope (n + 1) m (more n (length ctx) p) (q ∙ sym (length-shift vars)) (omega (arith, h)) (omega (arith, g)) e
+  term-scope {vars = vars} n m p q h g (HasType.lam k e) = (
+    ty-scope n p (omega (arith, h)) k,
+    term-scope n (m + 1) p (more m (length vars) q)
+        (omega (arith, h)) (omega (arith, g)) e,
+  )
+  term-scope n m p q h g (HasType.call f a) = (
+    term-scope n m p q (omega (arith, h)) (omega (arith, g)) f,
+    term-scope n m p q (omega (arith, h))
+        (omega (arith, g)) a,
+  )
+  term-scope {ctx} {vars} n m p q h g (HasType.ty_lam e) = term-scope (n + 1) m (more n (length ctx) p) (q ∙ sym (length-shift vars)) (omega (arith, h))
+      (omega (arith, g)) e
   term-scope n m p q h g (HasType.inst e k) = (term-scope n m p q (omega (arith, h)) (omega (arith, g)) e, ty-scope n p (omega (arith, h)) k)
   term-scope n m p q h g (HasType.fields row) = term_row-scope n m p q (omega (arith, h)) (omega (arith, g)) row
   term-scope n m p q h g (HasType.get e l) = term-scope n m p q (omega (arith, h)) (omega (arith, g)) e
@@ -68,16 +78,29 @@ mutual
     term-scope n m p q (omega (arith, h)) (omega (arith, g)) e,
     term-scope (n + 1) (m + 1) (more n (length ctx) p) (more m (length (shift_all vars)) (q ∙ sym (length-shift vars))) (omega (arith, h)) (omega (arith, g)) d,
   )
-  term-scope n m p q h g (HasType.if_ a b c) =
-      (term-scope n m p q (omega (arith, h)) (omega (arith, g)) a, term-scope n m p q (omega (arith, h)) (omega (arith, g)) b, term-scope n m p q (omega (arith, h)) (omega (arith, g)) c)
-  term-scope n m p q h g (HasType.arith a b) = (term-scope n m p q (omega (arith, h)) (omega (arith, g)) a, term-scope n m p q (omega (arith, h)) (omega (arith, g)) b)
+  term-scope n m p q h g (HasType.if_ a b c) = (
+    term-scope n m p q (omega (arith, h)) (omega (arith, g)) a,
+    term-scope n m p q (omega (arith, h)) (omega (arith, g)) b,
+    term-scope n m p q
+        (omega (arith, h)) (omega (arith, g)) c,
+  )
+  term-scope n m p q h g (HasType.arith a b) = (
+    term-scope n m p q (omega (arith, h)) (omega (arith, g)) a,
+    term-scope n m p q (omega (arith, h))
+        (omega (arith, g)) b,
+  )
   term-scope {vars = vars} n m p q h g (HasType.fix k l e) =
       (ty-scope n p (omega (arith, h)) k, ty-scope n p (omega (arith, h)) l, term-scope n (m + 2) p (omega (arith, q)) (omega (arith, h)) (omega (arith, g)) e)
   term-scope n m p q h g (HasType.conv e c) = term-scope n m p q h g e
 
-  term_row-scope : {ctx : List Kind} {vars : List Ty} {fields : TermRow} {row : Row} (n m : ℕ) → n ≡ length ctx → m ≡ length vars → n + row_height fields ≤ 2 ^ 63 → m + 2 * row_height fields ≤ 2 ^ 64 → FieldsHave ctx vars fields row → TermRowInScope n m fields
+  term_row-scope : {ctx : List Kind} {vars : List Ty} {fields : TermRow} {row : Row} (n m : ℕ) → n ≡ length ctx → m ≡ length vars
+      → n + row_height fields ≤ 2 ^ 63 → m + 2 * row_height fields ≤ 2 ^ 64 → FieldsHave ctx vars fields row → TermRowInScope n m fields
   term_row-scope n m p q h g FieldsHave.end = tt
-  term_row-scope n m p q h g (FieldsHave.more e f rest) = (term-scope n m p q (omega (arith, h)) (omega (arith, g)) e, term_row-scope n m p q (omega (arith, h)) (omega (arith, g)) rest)
+  term_row-scope n m p q h g (FieldsHave.more e f rest) = (
+    term-scope n m p q (omega (arith, h)) (omega (arith, g)) e,
+    term_row-scope n m p q
+        (omega (arith, h)) (omega (arith, g)) rest,
+  )
 
 pub closed-type : {t : Ty} {k : Kind} → HasKind [] t k → height t ≤ 2 ^ 64 → TyInScope 0 t
 closed-type h g = ty-scope 0 refl (omega (arith, g)) h

@@ -12,7 +12,8 @@ use Rattle.omega_terms.specs.declared.version.Version.{Version}
 use Rattle.omega_terms.specs.Coercions.{result_label}
 use Rattle.sig_definitions.specs.Signatures.Sig.{Sig, Abs, SigRow, HasField}
 use Rattle.sig_definitions.specs.Signatures.SigSubst.{rename_sig, rename_abs, rename_sig_row, substitute_sig, substitute_abs, substitute_sig_row, raise_abs}
-use Rattle.sig_definitions.specs.Signatures.Alike.{AlikeSig, AlikeAbs, AlikeRow, ConvBetween, ConvSig, ConvAbs, NormalSigForm, NormalAbsForm, NormalSig, NormalAbs, NormalSigRow}
+use Rattle.sig_definitions.specs.Signatures.Alike.{AlikeSig, AlikeAbs, AlikeRow, ConvBetween, ConvSig, ConvAbs, NormalSigForm, NormalAbsForm, NormalSig}
+use Rattle.sig_definitions.specs.Signatures.Alike.{NormalAbs, NormalSigRow}
 use Rattle.sig_definitions.specs.Signatures.Encoding.{enc, enc_abs, enc_row, one_part}
 use Rattle.sig_definitions.specs.QuantifierOrder.{NormSig, Norm, NormRow, renumber}
 use Rattle.sig_laws.specs.NormalSig.{normal_sig, normal_abs, normal_sig_row}
@@ -20,7 +21,8 @@ use Rattle.sig_laws.proofs.Algebra.AlikeLaws.{form-conv_sig, form-conv_abs, form
 use Rattle.sig_laws.proofs.Formed.WellFormedLaws.{conv_abs-rename}
 use Rattle.elab_spelling.specs.Legible.{TyLegible, RowLegible, TypesLegible}
 use Rattle.elab_spelling.specs.Signatures.{NameSpelled, SigLegible, AbsLegible, FieldsLegible}
-use Rattle.elab_spelling.proofs.Types.{AllLegible, rename-legible, legible-renamed, substitute-legible, unders-legible, puts-legible, normal-legible, all_over-legible, ex_over-legible}
+use Rattle.elab_spelling.proofs.Types.{AllLegible, rename-legible, legible-renamed, substitute-legible, unders-legible, puts-legible, normal-legible}
+use Rattle.elab_spelling.proofs.Types.{all_over-legible, ex_over-legible}
 use Rattle.elab_spelling.proofs.Forms.{form-legible}
 use Rattle.elab_spelling.proofs.Terms.{result_label-spelled}
 
@@ -61,14 +63,22 @@ module _ (v : Version) where
     substitute_sig-legible f (Sig.Typ t k) a h = substitute-legible v f t a h
     substitute_sig-legible f (Sig.Meta x) a h = substitute_abs-legible f x a h
     substitute_sig-legible f (Sig.Str fs) a h = substitute_fields-legible f None fs a h
-    substitute_sig-legible f (Sig.Fun e ks s x) a h = let b = unders-legible v ks f a in (substitute_sig-legible (unders ks f) s b h.0, substitute_abs-legible (unders ks f) x b h.1)
+    substitute_sig-legible f (Sig.Fun e ks s x) a h = let b = unders-legible v ks f a in
+        (substitute_sig-legible (unders ks f) s b h.0, substitute_abs-legible (unders ks f) x b h.1)
 
     pub substitute_abs-legible : (f : ℕ → Ty) (x : Abs) → AllLegible v f → AbsLegible v x → AbsLegible v (substitute_abs f x)
     substitute_abs-legible f (Abs.Ex ks s) a h = substitute_sig-legible (unders ks f) s (unders-legible v ks f a) h
 
-    substitute_fields-legible : (f : ℕ → Ty) (last : Option Label) (fs : SigRow) → AllLegible v f → FieldsLegible v last fs → FieldsLegible v last (substitute_sig_row f fs)
+    substitute_fields-legible : (f : ℕ → Ty) (last : Option Label) (fs : SigRow) → AllLegible v f → FieldsLegible v last fs
+        → FieldsLegible v last (substitute_sig_row f fs)
     substitute_fields-legible f last SigRow.End a h = tt
-    substitute_fields-legible f last (SigRow.More l s rest) a h = (h.0, h.1, substitute_sig-legible f s a h.2, substitute_fields-legible f (Some (Label.Name l)) rest a h.3)
+    substitute_fields-legible f last (SigRow.More l s rest) a h = (
+      h.0,
+      h.1,
+      substitute_sig-legible f s a h.2,
+      substitute_fields-legible f
+          (Some (Label.Name l)) rest a h.3,
+    )
 
   -- at types for the variables of binders, the other variables being renamed
   pub sig_at-legible : (ts : List Ty) (r : ℕ → ℕ) (s : Sig) → TypesLegible v ts → SigLegible v s → SigLegible v (substitute_sig (puts ts (λ i. Ty.Var (r i))) s)
@@ -104,7 +114,8 @@ module _ (v : Version) where
     conv_abs-legible : {ctx : List Kind} {x n : Abs} → ConvAbs ctx x n → NormalAbs ctx n → AbsLegible v x → AbsLegible v n
     conv_abs-legible (AlikeAbs.ex c) n h = conv_sig-legible c n h
 
-    conv_fields-legible : {ctx : List Kind} {fs ns : SigRow} (last : Option Label) → AlikeRow ConvBetween ctx fs ns → NormalSigRow ctx ns → FieldsLegible v last fs → FieldsLegible v last ns
+    conv_fields-legible : {ctx : List Kind} {fs ns : SigRow} (last : Option Label) → AlikeRow ConvBetween ctx fs ns → NormalSigRow ctx ns
+        → FieldsLegible v last fs → FieldsLegible v last ns
     conv_fields-legible last AlikeRow.end n h = tt
     conv_fields-legible last (AlikeRow.more {l = l} c d) n h = (h.0, h.1, conv_sig-legible c n.0 h.2, conv_fields-legible (Some (Label.Name l)) d n.1 h.3)
 
@@ -115,7 +126,8 @@ module _ (v : Version) where
   form_abs-legible f h = conv_abs-legible (form-conv_abs f) (form_abs-normal f) h
 
   -- a signature from outside that is convertible to a legible one
-  pub outside_abs-legible : {ctx : List Kind} (ks : List Kind) {x y n : Abs} → ConvAbs (extend ctx ks) (raise_abs ks y) x → NormalAbsForm ctx y n → AbsLegible v x → AbsLegible v n
+  pub outside_abs-legible : {ctx : List Kind} (ks : List Kind) {x y n : Abs} → ConvAbs (extend ctx ks) (raise_abs ks y) x → NormalAbsForm ctx y n
+      → AbsLegible v x → AbsLegible v n
   outside_abs-legible {ctx} ks {n = n} c f h =
       let d = conv_abs-trans (conv_abs-sym c) (conv_abs-rename (past ks) (past-maps ctx ks) (form-conv_abs f)) in
       legible-renamed_abs (past ks) n (conv_abs-legible d (normal_abs-rename (past ks) (past-maps ctx ks) n (form_abs-normal f)) h)
@@ -139,7 +151,8 @@ module _ (v : Version) where
     enc-legible (Sig.Typ t k) h = let u = rename-legible v suc t h in (refl, tt, ((tt, u), (tt, u)), tt)
     enc-legible (Sig.Meta x) h = let e = enc_abs-legible x h in (refl, tt, (e, e), tt)
     enc-legible (Sig.Str fs) h = enc_row-legible None fs h
-    enc-legible (Sig.Fun f ks s x) h = all_over-legible v ks (Ty.Arrow (enc s) (one_part (result_label f) (enc_abs x))) (enc-legible s h.0, (refl, result_label-spelled v f, enc_abs-legible x h.1, tt))
+    enc-legible (Sig.Fun f ks s x) h = all_over-legible v ks (Ty.Arrow (enc s) (one_part (result_label f) (enc_abs x)))
+        (enc-legible s h.0, (refl, result_label-spelled v f, enc_abs-legible x h.1, tt))
 
     pub enc_abs-legible : (x : Abs) → AbsLegible v x → TyLegible v (enc_abs x)
     enc_abs-legible (Abs.Ex ks s) h = ex_over-legible v ks (enc s) (enc-legible s h)

@@ -82,12 +82,27 @@ module _ (v : Version) where
     spelled-term n m (Term.Inst e t) h = let p = spelled-term n m e h.0 in let q = spelled-ty n t h.1 in ((p.0, q.0), (p.1, q.1))
     spelled-term n m (Term.Fields row) h = spelled-term_row n m None row h
     spelled-term n m (Term.Get e l) h = let p = spelled-term n m e h.0 in ((p.0, h.1), p.1)
-    spelled-term n m (Term.Pack t e u) h = let p = spelled-ty n t h.0 in let q = spelled-term n m e h.1 in let r = spelled-ty n u h.2 in ((p.0, q.0, r.0), (p.1, q.1, r.1))
+    spelled-term n m (Term.Pack t e u) h =
+        let p = spelled-ty n t h.0 in
+        let q = spelled-term n m e h.1 in
+        let r = spelled-ty n u h.2 in
+        ((p.0, q.0, r.0), (p.1, q.1, r.1))
     spelled-term n m (Term.Unpack p e) h = let a = spelled-term n m p h.0 in let q = spelled-term (n + 1) (m + 1) e h.1 in ((a.0, q.0), (a.1, q.1))
-    spelled-term n m (Term.If a b c) h = let p = spelled-term n m a h.0 in let q = spelled-term n m b h.1 in let r = spelled-term n m c h.2 in ((p.0, q.0, r.0), (p.1, q.1, r.1))
+    spelled-term n m (Term.If a b c) h =
+        let p = spelled-term n m a h.0 in
+        let q = spelled-term n m b h.1 in
+        let r = spelled-term n m c h.2 in
+        ((p.0, q.0, r.0), (p.1, q.1, r.1))
     spelled-term n m (Term.Arith o a b) h = let p = spelled-term n m a h.0 in let q = spelled-term n m b h.1 in ((p.0, q.0), (p.1, q.1))
-    spelled-term n m (Term.Fix t u e) h = let p = spelled-ty n t h.0 in let q = spelled-ty n u h.1 in let r = spelled-term n (m + 2) e h.2 in ((p.0, q.0, r.0), (p.1, q.1, r.1))
+    spelled-term n m (Term.Fix t u e) h =
+        let p = spelled-ty n t h.0 in
+        let q = spelled-ty n u h.1 in
+        let r = spelled-term n (m + 2) e h.2 in
+        ((p.0, q.0, r.0), (p.1, q.1, r.1))
 
     spelled-term_row : (n m : ℕ) (last : Option Label) (row : TermRow) → TermRowSpelled v n m last row → TermRowLegible v last row × TermRowInScope n m row
     spelled-term_row n m last TermRow.End h = (tt, tt)
-    spelled-term_row n m last (TermRow.More l e rest) h = let p = spelled-term n m e h.2 in let q = spelled-term_row n m (Some l) rest h.3 in ((h.0, h.1, p.0, q.0), (p.1, q.1))
+    spelled-term_row n m last (TermRow.More l e rest) h =
+        let p = spelled-term n m e h.2 in
+        let q = spelled-term_row n m (Some l) rest h.3 in
+        ((h.0, h.1, p.0, q.0), (p.1, q.1))

@@ -62,7 +62,8 @@ module _ (v : Version) where
     instance-legible f (Instance.arith a b) h = (instance-legible f a h.0, instance-legible f b h.1)
     instance-legible f (Instance.fix t u e) h = (ty_instance-legible f t h.0, ty_instance-legible f u h.1, instance-legible f e h.2)
 
-    instances-legible : {from to : List Kind} {s : ℕ → Ty} {row other : TermRow} (last : Option Label) → AllLegible v s → Instances from to s row other → TermRowLegible v last row → TermRowLegible v last other
+    instances-legible : {from to : List Kind} {s : ℕ → Ty} {row other : TermRow} (last : Option Label) → AllLegible v s → Instances from to s row other
+        → TermRowLegible v last row → TermRowLegible v last other
     instances-legible last f Instances.end h = tt
     instances-legible last f (Instances.more {l = l} e rest) h = (h.0, h.1, instance-legible f e h.2, instances-legible (Some l) f rest h.3)
 
@@ -76,7 +77,8 @@ module _ (v : Version) where
   insts-legible e [] h g = h
   insts-legible e (t ∷ ts) h g = insts-legible (Term.Inst e t) ts (h, g.0) g.1
 
-  pub packs-legible : {ctx : List Kind} {ts : List Ty} {e d : Term} {u : Ty} → Packs ctx ts e u d → TypesLegible v ts → TermLegible v e → TyLegible v u → TermLegible v d
+  pub packs-legible : {ctx : List Kind} {ts : List Ty} {e d : Term} {u : Ty} → Packs ctx ts e u d → TypesLegible v ts → TermLegible v e → TyLegible v u
+      → TermLegible v d
   packs-legible Packs.none g h f = h
   packs-legible (Packs.next {t = t} {body = body} n p) g h f = (g.0, packs-legible p g.1 h (form-legible v n (instantiate-legible v body t f g.0)), f)
 
@@ -84,7 +86,8 @@ module _ (v : Version) where
   opens_after-legible [] e h = h
   opens_after-legible (k ∷ ks) e h = (tt, opens_after-legible ks e h)
 
-  pub opens-legible : (ks : List Kind) (e : Term) (u : Ty) (body : Term) → TermLegible v e → TyLegible v u → TermLegible v body → TermLegible v (opens ks e u body)
+  pub opens-legible : (ks : List Kind) (e : Term) (u : Ty) (body : Term) → TermLegible v e → TyLegible v u → TermLegible v body
+      → TermLegible v (opens ks e u body)
   opens-legible [] e u body h f g = ((f, g), h)
   opens-legible (k ∷ ks) e u body h f g = (h, opens_after-legible ks body g)
 
@@ -107,7 +110,8 @@ module _ (v : Version) where
   coerced-legible last (TermRow.More l e rest) h = (h.0, h.1, (h.2, (tt, h.1)), coerced-legible (Some l) rest h.3)
 
   pub functor_part-legible : (from : Ty) (left right : Effect) (ks : List Kind) (param : Ty) (ts : List Ty) (f g : Term)
-      → TyLegible v from → TyLegible v param → TypesLegible v ts → TermLegible v f → TermLegible v g → TermLegible v (functor_part from left right ks param ts f g)
+      → TyLegible v from → TyLegible v param → TypesLegible v ts → TermLegible v f → TermLegible v g → TermLegible v
+      (functor_part from left right ks param ts f g)
   functor_part-legible from left right ks param ts f g a b c h i =
       let result = Term.Get (Term.Call (insts (Term.Var 1) ts) (Term.Call f (Term.Var 0))) (result_label left) in
       let made : TermLegible v result = ((insts-legible (Term.Var 1) ts tt c, (h, tt)), result_label-spelled left) in

@@ -8,7 +8,9 @@ use Rattle.sig_definitions.specs.Signatures.Sig.{made}
 use Rattle.sig_definitions.specs.Signatures.Encoding.{enc_abs}
 use Rattle.elab_judgments.specs.Judgments.Program.{program}
 use Rattle.elab_laws.proofs.TypedClaims.{whole_is_typed}
-use Rattle.elab_spelling.specs.Claims.{TypesAreSpelled, TermsAreSpelled, ClosedTypesInScope, ClosedTermsInScope, EncodingsAreLegible, MatchesAreLegible, TypesMeanLegible, ExpsMeanLegible, SigsMeanLegible, ModsMeanLegible, ProgramsMeanLegible, ProgramsHaveText, ProgramsReadBack}
+use Rattle.elab_spelling.specs.Claims.{TypesAreSpelled, TermsAreSpelled, ClosedTypesInScope, ClosedTermsInScope, EncodingsAreLegible, MatchesAreLegible}
+use Rattle.elab_spelling.specs.Claims.{TypesMeanLegible, ExpsMeanLegible, SigsMeanLegible, ModsMeanLegible, ProgramsMeanLegible, ProgramsHaveText}
+use Rattle.elab_spelling.specs.Claims.{ProgramsReadBack}
 use Rattle.elab_spelling.proofs.Splitting.{ty-spelled, spelled-ty, term-spelled, spelled-term}
 use Rattle.elab_spelling.proofs.Scopes.{closed-type, closed-term}
 use Rattle.elab_spelling.proofs.Signatures.{enc_abs-legible}

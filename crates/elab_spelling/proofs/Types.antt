@@ -6,7 +6,8 @@ use Rattle.omega_types.specs.Ty.{Ty, Row, lift}
 use Rattle.omega_types.specs.Substitution.{rename, rename_row, under, substitute, substitute_row, single, instantiate}
 use Rattle.omega_types.specs.EtaLong.{eta}
 use Rattle.omega_types.specs.Index.{Slot, taken, kept, slot}
-use Rattle.omega_types.specs.Normaliser.{Args, Part, stuck, whole, tree, apply_part, fill_part, put_in, put_in_row, args, hsubst, kind_at, beta, normal, normal_row}
+use Rattle.omega_types.specs.Normaliser.{Args, Part, stuck, whole, tree, apply_part, fill_part, put_in, put_in_row, args, hsubst, kind_at, beta, normal}
+use Rattle.omega_types.specs.Normaliser.{normal_row}
 use Rattle.omega_types.specs.Binders.{past, all_over, ex_over, lam_over, applied, vars, front, puts, unders}
 use Rattle.omega_terms.specs.declared.version.Version.{Version}
 use Rattle.elab_spelling.specs.Legible.{TyLegible, RowLegible, TypesLegible}
@@ -151,19 +152,38 @@ module _ (v : Version) where
     put_in-keeps k A i a Ty.Int f h g = tt
     put_in-keeps k A i a Ty.Bool f h g = tt
     put_in-keeps k A i a Ty.Text f h g = tt
-    put_in-keeps k A i a (Ty.Arrow s t) f h g = (tree-legible (put_in k A i a s) (put_in-keeps k A i a s f h g.0), tree-legible (put_in k A i a t) (put_in-keeps k A i a t f h g.1))
+    put_in-keeps k A i a (Ty.Arrow s t) f h g = (
+      tree-legible (put_in k A i a s) (put_in-keeps k A i a s f h g.0),
+      tree-legible (put_in k A i a t)
+          (put_in-keeps k A i a t f h g.1),
+    )
     put_in-keeps k A i a (Ty.Fields row) f h g = put_in_row-legible k A i a None row f h g
     put_in-keeps k A i a (Ty.Sum row) f h g = (g.0, put_in_row-legible k A i a None row f h g.1)
-    put_in-keeps k A i a (Ty.All l b) f h g = tree-legible (put_in k A (suc i) (rename suc a) b) (put_in-keeps k A (suc i) (rename suc a) b f (rename-legible suc a h) g)
-    put_in-keeps k A i a (Ty.Ex l b) f h g = tree-legible (put_in k A (suc i) (rename suc a) b) (put_in-keeps k A (suc i) (rename suc a) b f (rename-legible suc a h) g)
-    put_in-keeps k A i a (Ty.Mu b) f h g = (g.0, tree-legible (put_in k A (suc i) (rename suc a) b) (put_in-keeps k A (suc i) (rename suc a) b f (rename-legible suc a h) g.1))
-    put_in-keeps k A i a (Ty.Lam l b) f h g = tree-legible (put_in k A (suc i) (rename suc a) b) (put_in-keeps k A (suc i) (rename suc a) b f (rename-legible suc a h) g)
+    put_in-keeps k A i a (Ty.All l b) f h g = tree-legible (put_in k A (suc i) (rename suc a) b)
+        (put_in-keeps k A (suc i) (rename suc a) b f (rename-legible suc a h) g)
+    put_in-keeps k A i a (Ty.Ex l b) f h g = tree-legible (put_in k A (suc i) (rename suc a) b)
+        (put_in-keeps k A (suc i) (rename suc a) b f (rename-legible suc a h) g)
+    put_in-keeps k A i a (Ty.Mu b) f h g = (
+      g.0,
+      tree-legible (put_in k A (suc i) (rename suc a) b)
+          (put_in-keeps k A (suc i) (rename suc a) b f (rename-legible suc a h) g.1),
+    )
+    put_in-keeps k A i a (Ty.Lam l b) f h g = tree-legible (put_in k A (suc i) (rename suc a) b)
+        (put_in-keeps k A (suc i) (rename suc a) b f (rename-legible suc a h) g)
     put_in-keeps k A i a (Ty.Apply s t) f h g =
-        apply_part-keeps (put_in k A i a s) (tree (put_in k A i a t)) (put_in-keeps k A i a s f h g.0) (tree-legible (put_in k A i a t) (put_in-keeps k A i a t f h g.1))
+        apply_part-keeps (put_in k A i a s) (tree (put_in k A i a t)) (put_in-keeps k A i a s f h g.0)
+        (tree-legible (put_in k A i a t) (put_in-keeps k A i a t f h g.1))
 
-    put_in_row-legible : (k : Kind) (A : Args k) (i : ℕ) (a : Ty) (last : Option Label) (row : Row) → ArgsKeep k A → TyLegible v a → RowLegible v last row → RowLegible v last (put_in_row k A i a row)
+    put_in_row-legible : (k : Kind) (A : Args k) (i : ℕ) (a : Ty) (last : Option Label) (row : Row) → ArgsKeep k A → TyLegible v a → RowLegible v last row
+        → RowLegible v last (put_in_row k A i a row)
     put_in_row-legible k A i a last Row.End f h g = tt
-    put_in_row-legible k A i a last (Row.More l t rest) f h g = (g.0, g.1, tree-legible (put_in k A i a t) (put_in-keeps k A i a t f h g.2), put_in_row-legible k A i a (Some l) rest f h g.3)
+    put_in_row-legible k A i a last (Row.More l t rest) f h g = (
+      g.0,
+      g.1,
+      tree-legible (put_in k A i a t)
+          (put_in-keeps k A i a t f h g.2),
+      put_in_row-legible k A i a (Some l) rest f h g.3,
+    )
 
   args-keep : (k : Kind) → ArgsKeep k (args k)
   args-keep Kind.Star = tt

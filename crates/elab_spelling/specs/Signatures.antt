@@ -31,7 +31,8 @@ abbrev mutual
   -- fields after the last label
   pub FieldsLegible : Version → Option Label → SigRow → Type 0
   FieldsLegible v last SigRow.End = Unit {0}
-  FieldsLegible v last (SigRow.More l s rest) = (follows last (Label.Name l) ≡ true) × NameSpelled l × SigLegible v s × FieldsLegible v (Some (Label.Name l)) rest
+  FieldsLegible v last (SigRow.More l s rest) = (follows last (Label.Name l) ≡ true) × NameSpelled l × SigLegible v s × FieldsLegible v
+      (Some (Label.Name l)) rest
 
 abbrev pub ModuleLegible : Version → Module → Type 0
 ModuleLegible v (made f x ts e) = AbsLegible v x × TypesLegible v ts × TermLegible v e

@@ -9,7 +9,8 @@ use Rattle.sig_definitions.specs.Signatures.Encoding.{enc_abs}
 use Rattle.elab_laws.proofs.TypedClaims.{whole_is_typed}
 use Rattle.elab_spelling.proofs.Scopes.{closed-type, closed-term}
 use Rattle.elab_spelling.proofs.Theorems.{types_are_spelled, terms_are_spelled, encodings_are_legible, programs_mean_legible}
-use Rattle.parse_spelling.specs.Claims.{TokensAreSpelled, PhrasesAreSpelled, ProgramsAreSpelled, UnitsAreSpelled, SourcesInScope, SourcesHaveText, SourcesReadBack}
+use Rattle.parse_spelling.specs.Claims.{TokensAreSpelled, PhrasesAreSpelled, ProgramsAreSpelled, UnitsAreSpelled, SourcesInScope, SourcesHaveText}
+use Rattle.parse_spelling.specs.Claims.{SourcesReadBack}
 use Rattle.parse_spelling.proofs.Tokens.{tokens-spelled}
 use Rattle.parse_spelling.proofs.Trees.{phrase-spelled}
 
@@ -41,4 +42,5 @@ sources_have_text v bytes x whole c t e =
     }
 
 pub sources_read_back : SourcesReadBack
-sources_read_back v bytes x whole c t e shallow = omega-again (version_text v (enc_abs x) whole) (enc_abs x) whole (v, sources_have_text v bytes x whole c t e) shallow
+sources_read_back v bytes x whole c t e shallow = omega-again (version_text v (enc_abs x) whole) (enc_abs x) whole
+    (v, sources_have_text v bytes x whole c t e) shallow

@@ -1,5 +1,6 @@
 -- The tokens of bytes have names, numbers and texts that have a spelling.
-use Rattle.std.specs.Prelude.{◌≡◌, ℕ, ◌<◌, ◌≤◌, List, [], ◌∷◌, ◌++◌, map, take, Bool, true, false, not, ◌&&◌, ◌||◌, ◌==◌, nat_eq, nat_le, nat_lt, nat_abs, if◌then◌else◌, Option, Some, None, ℤ, pos, negsuc, neg_ℤ}
+use Rattle.std.specs.Prelude.{◌≡◌, ℕ, ◌<◌, ◌≤◌, List, [], ◌∷◌, ◌++◌, map, take, Bool, true, false, not, ◌&&◌, ◌||◌, ◌==◌, nat_eq, nat_le, nat_lt, nat_abs}
+use Rattle.std.specs.Prelude.{if◌then◌else◌, Option, Some, None, ℤ, pos, negsuc, neg_ℤ}
 use Rattle.std.proofs.Common.{arith}
 use Rattle.std.proofs.Math.Path.{refl, sym, ◌∙◌, ap, subst}
 use Rattle.std.proofs.lemmas.Bool.{leb-true, le-leb, lt-leb}
@@ -14,9 +15,11 @@ use Rattle.fing_lexer.specs.declared.token.Mark.{Mark}
 use Rattle.fing_lexer.specs.declared.token.What.{What}
 use Rattle.fing_lexer.specs.declared.token.What.TheVariants as what
 use Rattle.fing_lexer.specs.declared.token.Token.{Token}
-use Rattle.fing_lexer.specs.Lexeme.{entry, words, marks, is_name_start, is_name_byte, word_or_name, value_behind, number_of, escaped, is_plain, cons_both, meaning, lexeme}
+use Rattle.fing_lexer.specs.Lexeme.{entry, words, marks, is_name_start, is_name_byte, word_or_name, value_behind, number_of, escaped, is_plain, cons_both}
+use Rattle.fing_lexer.specs.Lexeme.{meaning, lexeme}
 use Rattle.fing_lexer.specs.Nest.{Nest, counted, total}
-use Rattle.fing_lexer.specs.Tokens.{is_in_range, Front, End, Skip, Found, NoText, NoByte, Stands, Outcome, Good, Bad, Step, Done, Go, step, prepend, Lexes, done, go, TokensOf}
+use Rattle.fing_lexer.specs.Tokens.{is_in_range, Front, End, Skip, Found, NoText, NoByte, Stands, Outcome, Good, Bad, Step, Done, Go, step, prepend, Lexes}
+use Rattle.fing_lexer.specs.Tokens.{done, go, TokensOf}
 use Rattle.omega_spelling.specs.Reading.{passes, begins_name, in_name, is_one_of, is_keyword, all_in_name, is_name}
 use Rattle.omega_spelling.specs.Spelled.{is_hidden}
 use Rattle.omega_spelling.specs.TermReading.{SignedFits, is_printed, all_spelled}

@@ -5,16 +5,31 @@ use Rattle.fing_lexer.specs.declared.token.What.{What}
 use Rattle.fing_lexer.specs.declared.token.What.TheVariants as what
 use Rattle.fing_lexer.specs.declared.token.Token.{Token}
 use Rattle.fing_syntax.specs.Phrase as tree
-use Rattle.fing_syntax.specs.Phrase.{Span, SpanName, Mod, SigEx, TyEx, TyExs, Exp, OpExps, ModAt, ModName, ModProject, ModFunctor, SigAt, TyAt, ExpAt, ExpGet, NoBinds, MoreBinds, NoTys, MoreTys, NoOps, MoreOps, NoArgs, MoreArgs}
+use Rattle.fing_syntax.specs.Phrase.{Span, SpanName, Mod, SigEx, TyEx, TyExs, Exp, OpExps, ModAt, ModName, ModProject, ModFunctor, SigAt, TyAt, ExpAt, ExpGet}
+use Rattle.fing_syntax.specs.Phrase.{NoBinds, MoreBinds, NoTys, MoreTys, NoOps, MoreOps, NoArgs, MoreArgs}
 use Rattle.fing_syntax.specs.Place.{name_span, mod_span, sig_span, exp_span, up_to}
-use Rattle.parse_grammar.specs.Grammar.{terminal_of, Class, Symbol, Rule, rhs, no_units, more_units, unit_module, no_binds, more_binds, bind_val, bind_type, bind_module, bind_signature, bind_include, no_decls, more_decls, decl_val, decl_type, decl_module, decl_signature, decl_include, type_of_nothing, type_is, type_has, kind_chain, no_kind_arrow, kind_arrow, kind_type, kind_paren, path_name, path_from, no_dots, more_dots, ty_lam, ty_all, ty_chain, no_arrow, ty_arrow, ty_args, no_ty_args, more_ty_args, ty_int, ty_bool, ty_text, ty_path, ty_fields, ty_pack, ty_paren, no_ty_fields, ty_field, last_ty_field, next_ty_field, sig_fun, sig_where, generative, applicative, no_wheres, more_wheres, sig_path, sig_decls, sig_paren, mod_fun, mod_gen, mod_unpack, mod_chain, no_mod_args, more_mod_args, no_seals, seal, ascribe, mod_path, mod_struct, mod_let, mod_paren, exp_fun, exp_fix, exp_if, exp_compare, lam_value, lam_type, no_compare, less_than, equal_to, sums, no_sums, add, subtract, products, no_products, multiply, divide, remainder, exp_args, no_args, exp_arg, ty_arg, exp_gets, no_gets, more_gets, exp_number, exp_text, exp_true, exp_false, exp_path, exp_fields, exp_let, exp_pack, exp_paren, no_exp_fields, exp_field, last_exp_field, next_exp_field}
+use Rattle.parse_grammar.specs.Grammar.{terminal_of, Class, Symbol, Rule, rhs, no_units, more_units, unit_module, no_binds, more_binds, bind_val, bind_type}
+use Rattle.parse_grammar.specs.Grammar.{bind_module, bind_signature, bind_include, no_decls, more_decls, decl_val, decl_type, decl_module, decl_signature}
+use Rattle.parse_grammar.specs.Grammar.{decl_include, type_of_nothing, type_is, type_has, kind_chain, no_kind_arrow, kind_arrow, kind_type, kind_paren}
+use Rattle.parse_grammar.specs.Grammar.{path_name, path_from, no_dots, more_dots, ty_lam, ty_all, ty_chain, no_arrow, ty_arrow, ty_args, no_ty_args}
+use Rattle.parse_grammar.specs.Grammar.{more_ty_args, ty_int, ty_bool, ty_text, ty_path, ty_fields, ty_pack, ty_paren, no_ty_fields, ty_field, last_ty_field}
+use Rattle.parse_grammar.specs.Grammar.{next_ty_field, sig_fun, sig_where, generative, applicative, no_wheres, more_wheres, sig_path, sig_decls, sig_paren}
+use Rattle.parse_grammar.specs.Grammar.{mod_fun, mod_gen, mod_unpack, mod_chain, no_mod_args, more_mod_args, no_seals, seal, ascribe, mod_path, mod_struct}
+use Rattle.parse_grammar.specs.Grammar.{mod_let, mod_paren, exp_fun, exp_fix, exp_if, exp_compare, lam_value, lam_type, no_compare, less_than, equal_to, sums}
+use Rattle.parse_grammar.specs.Grammar.{no_sums, add, subtract, products, no_products, multiply, divide, remainder, exp_args, no_args, exp_arg, ty_arg}
+use Rattle.parse_grammar.specs.Grammar.{exp_gets, no_gets, more_gets, exp_number, exp_text, exp_true, exp_false, exp_path, exp_fields, exp_let, exp_pack}
+use Rattle.parse_grammar.specs.Grammar.{exp_paren, no_exp_fields, exp_field, last_exp_field, next_exp_field}
 use Rattle.parse_grammar.specs.Parts.{at, named, TypeTail, Open, Is, Has, Where, Ascription, Sealed, Shown, Abstraction, OfValue, OfType}
-use Rattle.parse_grammar.specs.Forms.{mod_at, sig_at, ty_at, exp_at, bind_then, hidden_module, hidden_val, let_mod, let_exp, of_three, apply_mod, pack_exp, project_all, get_all, apply_all, ascribe as ascribed, ascribe_all, refine, refine_all, ty_chain_of, ops_of, args_of, arrow_of, decl_type_of, abstraction_of}
+use Rattle.parse_grammar.specs.Forms.{mod_at, sig_at, ty_at, exp_at, bind_then, hidden_module, hidden_val, let_mod, let_exp, of_three, apply_mod, pack_exp}
+use Rattle.parse_grammar.specs.Forms.{project_all, get_all, apply_all, ascribe as ascribed, ascribe_all, refine, refine_all, ty_chain_of, ops_of, args_of}
+use Rattle.parse_grammar.specs.Forms.{arrow_of, decl_type_of, abstraction_of}
 use Rattle.parse_grammar.specs.Meaning.{Value, Values, act}
 use Rattle.parse_grammar.specs.Tree.{Trees, end, leaf, node, spelling, values, Phrase}
-use Rattle.elab_spelling.specs.Phrases.{LeafSpelled, LeavesSpelled, ModSpelled, BindSpelled, BindsSpelled, SigExSpelled, DeclSpelled, TyExSpelled, TyExsSpelled, ExpSpelled, OpExpsSpelled, ArgsSpelled}
+use Rattle.elab_spelling.specs.Phrases.{LeafSpelled, LeavesSpelled, ModSpelled, BindSpelled, BindsSpelled, SigExSpelled, DeclSpelled, TyExSpelled, TyExsSpelled}
+use Rattle.elab_spelling.specs.Phrases.{ExpSpelled, OpExpsSpelled, ArgsSpelled}
 use Rattle.parse_spelling.specs.Tokens.{WhatSpelled, TokensSpelled}
-use Rattle.parse_spelling.specs.Values.{TailSpelled, SomeTypeSpelled, WheresSpelled, ModsSpelled, AscriptionSpelled, AscriptionsSpelled, AbstractionSpelled, ValueSpelled, LeafAt, ValuesSpelled}
+use Rattle.parse_spelling.specs.Values.{TailSpelled, SomeTypeSpelled, WheresSpelled, ModsSpelled, AscriptionSpelled, AscriptionsSpelled, AbstractionSpelled}
+use Rattle.parse_spelling.specs.Values.{ValueSpelled, LeafAt, ValuesSpelled}
 
 -- the same phrase at another place
 
@@ -131,7 +146,8 @@ act-spelled kind_arrow (_, (k, _)) h = tt
 act-spelled kind_type (w, _) h = tt
 act-spelled kind_paren (_, (k, (z, _))) h = tt
 act-spelled path_name (x, (xs, _)) h = project_all-spelled (ModAt (at x) (ModName (named x))) xs h.0 h.1.0
-act-spelled path_from (w, (_, (m, (_, (_, (x, (xs, _))))))) h = project_all-spelled (ModAt (up_to (at w) (at x)) (ModProject m (named x))) xs (h.1.1.0, h.1.1.1.1.1.0) h.1.1.1.1.1.1.0
+act-spelled path_from (w, (_, (m, (_, (_, (x, (xs, _))))))) h = project_all-spelled (ModAt (up_to (at w) (at x)) (ModProject m (named x))) xs
+    (h.1.1.0, h.1.1.1.1.1.0) h.1.1.1.1.1.1.0
 act-spelled no_dots _ h = tt
 act-spelled more_dots (_, (x, (xs, _))) h = (h.1.0, h.1.1.0)
 act-spelled ty_lam (w, (_, (x, (_, (k, (_, (_, (t, _)))))))) h = (h.1.1.0, h.1.1.1.1.1.1.1.0)
@@ -176,7 +192,8 @@ act-spelled mod_struct (w, (bs, (z, _))) h = h.1.0
 act-spelled mod_let (w, (bs, (_, (m, (z, _))))) h = let_mod-spelled (up_to (at w) (at z)) bs m h.1.0 h.1.1.1.0
 act-spelled mod_paren (w, (m, (z, _))) h = mod_at-spelled (up_to (at w) (at z)) m h.1.0
 act-spelled exp_fun (w, (l, _)) h = abstraction_of-spelled w l h.1.0
-act-spelled exp_fix (w, (f, (_, (x, (_, (t, (_, (_, (u, (_, (e, _))))))))))) h = ((h.1.0, (h.1.1.1.0, tt)), h.1.1.1.1.1.0, h.1.1.1.1.1.1.1.1.0, h.1.1.1.1.1.1.1.1.1.1.0)
+act-spelled exp_fix (w, (f, (_, (x, (_, (t, (_, (_, (u, (_, (e, _))))))))))) h =
+    ((h.1.0, (h.1.1.1.0, tt)), h.1.1.1.1.1.0, h.1.1.1.1.1.1.1.1.0, h.1.1.1.1.1.1.1.1.1.1.0)
 act-spelled exp_if (w, (e, (_, (f, (_, (g, _)))))) h = (h.1.0, h.1.1.1.0, h.1.1.1.1.1.0)
 act-spelled exp_compare (e, (o, _)) h = ops_of-spelled e o h.0 h.1.0
 act-spelled lam_value (_, (x, (_, (t, (_, (_, (e, _))))))) h = (h.1.0, h.1.1.1.0, h.1.1.1.1.1.1.0)

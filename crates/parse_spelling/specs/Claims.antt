@@ -52,11 +52,13 @@ pub record Compiles (bytes : List ℕ) (x : Abs) (whole : Term) : Type 0 where
 
 -- the whole term of a program and the encoding of its signature have their variables in scope where they are not too high
 abbrev pub SourcesInScope : Type 0
-SourcesInScope = (bytes : List ℕ) (x : Abs) (whole : Term) → Compiles bytes x whole → height (enc_abs x) ≤ 2 ^ 64 → term_height whole ≤ 2 ^ 63 → TyInScope 0 (enc_abs x) × TermInScope 0 0 whole
+SourcesInScope = (bytes : List ℕ) (x : Abs) (whole : Term) → Compiles bytes x whole → height
+    (enc_abs x) ≤ 2 ^ 64 → term_height whole ≤ 2 ^ 63 → TyInScope 0 (enc_abs x) × TermInScope 0 0 whole
 
 -- in scope they have a text in each version
 abbrev pub SourcesHaveText : Type 0
-SourcesHaveText = (v : Version) (bytes : List ℕ) (x : Abs) (whole : Term) → Compiles bytes x whole → TyInScope 0 (enc_abs x) → TermInScope 0 0 whole → TextIn v (version_text v (enc_abs x) whole) (enc_abs x) whole
+SourcesHaveText = (v : Version) (bytes : List ℕ) (x : Abs) (whole : Term) → Compiles bytes x whole → TyInScope 0
+    (enc_abs x) → TermInScope 0 0 whole → TextIn v (version_text v (enc_abs x) whole) (enc_abs x) whole
 
 -- which gives them again where no more than 4,000 parentheses are open
 abbrev pub SourcesReadBack : Type 0

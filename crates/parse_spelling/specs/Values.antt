@@ -9,7 +9,8 @@ use Rattle.parse_grammar.specs.Parts.{bytes_in, number_in, TypeTail, Open, Is, H
 use Rattle.parse_grammar.specs.Meaning.{Value, Values}
 use Rattle.omega_spelling.specs.TermReading.{SignedFits, all_spelled}
 use Rattle.elab_spelling.specs.Signatures.{NameSpelled}
-use Rattle.elab_spelling.specs.Phrases.{LeafSpelled, LeavesSpelled, ModSpelled, BindSpelled, BindsSpelled, SigExSpelled, DeclSpelled, DeclsSpelled, TyExSpelled, TyExsSpelled, FieldTyExsSpelled, ExpSpelled, OpExpsSpelled, ArgsSpelled, FieldExpsSpelled}
+use Rattle.elab_spelling.specs.Phrases.{LeafSpelled, LeavesSpelled, ModSpelled, BindSpelled, BindsSpelled, SigExSpelled, DeclSpelled, DeclsSpelled, TyExSpelled}
+use Rattle.elab_spelling.specs.Phrases.{TyExsSpelled, FieldTyExsSpelled, ExpSpelled, OpExpsSpelled, ArgsSpelled, FieldExpsSpelled}
 
 abbrev pub UnitSpelled : UnitTree → Type 0
 UnitSpelled (UnitAt at x s m) = LeafSpelled x × SigExSpelled s × ModSpelled m
