@@ -1,16 +1,21 @@
 -- The theorems in the form in which contracts cite them.
 use Rattle.std.specs.Prelude.{[]}
 use Rattle.std.proofs.Math.Path.{refl}
+use Rattle.omega_types.specs.Ty.{Ty}
+use Rattle.omega_terms.specs.Term.{Term}
+use Rattle.omega_terms.specs.Typing.{HasType}
 use Rattle.omega_terms.specs.OmegaText.{version_text}
 use Rattle.omega_terms.proofs.TypingLaws.{good-none, type-kind}
 use Rattle.omega_spelling.proofs.Wholes.{omega-again}
 use Rattle.sig_definitions.specs.Signatures.Sig.{made}
 use Rattle.sig_definitions.specs.Signatures.Encoding.{enc_abs}
+use Rattle.omega_simplify_laws.proofs.Kept.{kept}
 use Rattle.elab_laws.proofs.TypedClaims.{whole_is_typed}
 use Rattle.elab_spelling.proofs.Scopes.{closed-type, closed-term}
 use Rattle.elab_spelling.proofs.Theorems.{types_are_spelled, terms_are_spelled, encodings_are_legible, programs_mean_legible}
 use Rattle.parse_spelling.specs.Claims.{TokensAreSpelled, PhrasesAreSpelled, ProgramsAreSpelled, UnitsAreSpelled, SourcesInScope, SourcesHaveText}
-use Rattle.parse_spelling.specs.Claims.{SourcesReadBack}
+use Rattle.parse_spelling.specs.Claims.{Emits, SourcesAreTyped, SourcesReadBack}
+use Rattle.parse_spelling.proofs.Simplified.{emits-legible}
 use Rattle.parse_spelling.proofs.Tokens.{tokens-spelled}
 use Rattle.parse_spelling.proofs.Trees.{phrase-spelled}
 
@@ -26,21 +31,28 @@ programs_are_spelled bytes tokens program l p = phrase-spelled (tokens-spelled l
 pub units_are_spelled : UnitsAreSpelled
 units_are_spelled bytes tokens units l p = phrase-spelled (tokens-spelled l) p
 
+emits-typed : {whole e : Term} {t : Ty} → Emits whole e → HasType [] [] whole t → HasType [] [] e t
+emits-typed Emits.as_it_is h = h
+emits-typed Emits.simpler h = kept (good-none []) h
+
+pub sources_are_typed : SourcesAreTyped
+sources_are_typed bytes x whole e c m = emits-typed m (whole_is_typed c.program c.effect x c.types c.term whole c.derived)
+
 pub sources_in_scope : SourcesInScope
-sources_in_scope bytes x whole c low shallow =
-    let typed = whole_is_typed c.program c.effect x c.types c.term whole c.derived in
+sources_in_scope bytes x whole e c m low shallow =
+    let typed = sources_are_typed bytes x whole e c m in
     (closed-type (type-kind (good-none []) typed) low, closed-term typed shallow)
 
 pub sources_have_text : SourcesHaveText
-sources_have_text v bytes x whole c t e =
+sources_have_text v bytes x whole e c m t n =
     let s = programs_are_spelled bytes c.tokens c.program c.lexed c.tree in
     let h = programs_mean_legible v c.program (made c.effect x c.types c.term) whole s c.derived in
     record {
       type_spelled = (types_are_spelled v 0 (enc_abs x)).1 (encodings_are_legible v x h.0.0, t);
-      term_spelled = (terms_are_spelled v 0 0 whole).1 (h.1, e);
+      term_spelled = (terms_are_spelled v 0 0 e).1 (emits-legible v m h.1, n);
       text = refl;
     }
 
 pub sources_read_back : SourcesReadBack
-sources_read_back v bytes x whole c t e shallow = omega-again (version_text v (enc_abs x) whole) (enc_abs x) whole
-    (v, sources_have_text v bytes x whole c t e) shallow
+sources_read_back v bytes x whole e c m t n shallow =
+    omega-again (version_text v (enc_abs x) e) (enc_abs x) e (v, sources_have_text v bytes x whole e c m t n) shallow

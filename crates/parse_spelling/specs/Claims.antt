@@ -1,15 +1,17 @@
 -- The theorems.
-use Rattle.std.specs.Prelude.{◌≡◌, ◌≤◌, ◌^◌, ℕ, List, false, Some}
+use Rattle.std.specs.Prelude.{◌≡◌, ◌≤◌, ◌^◌, ℕ, List, [], false, Some}
 use Rattle.omega_kinds.specs.declared.effect.Effect.{Effect}
 use Rattle.omega_types.specs.Ty.{Ty}
 use Rattle.omega_types.specs.Height.{height}
 use Rattle.omega_terms.specs.declared.version.Version.{Version}
 use Rattle.omega_terms.specs.Term.{Term}
 use Rattle.omega_terms.specs.Height.{term_height}
+use Rattle.omega_terms.specs.Typing.{HasType}
 use Rattle.omega_terms.specs.InScope.{TyInScope, TermInScope}
 use Rattle.omega_terms.specs.OmegaText.{version_text}
 use Rattle.omega_spelling.specs.Omega.{TextIn, omega_at}
 use Rattle.omega_spelling.specs.Refusals.{is_too_deep}
+use Rattle.omega_simplify_laws.specs.Simplified.{simplified}
 use Rattle.sig_definitions.specs.Signatures.Sig.{Abs, made}
 use Rattle.sig_definitions.specs.Signatures.Encoding.{enc_abs}
 use Rattle.fing_lexer.specs.declared.token.Token.{Token}
@@ -50,17 +52,26 @@ pub record Compiles (bytes : List ℕ) (x : Abs) (whole : Term) : Type 0 where
   pub term : Term
   pub derived : ProgramMeans program (made effect x types term) whole
 
--- the whole term of a program and the encoding of its signature have their variables in scope where they are not too high
+-- a program's whole term is emitted as it is, or simplified
+pub data Emits (whole : Term) : Term → Type 0 where
+  as_it_is : Emits whole whole
+  simpler : Emits whole (simplified whole)
+
+-- what is emitted and the encoding of the signature have their variables in scope where they are not too high
 abbrev pub SourcesInScope : Type 0
-SourcesInScope = (bytes : List ℕ) (x : Abs) (whole : Term) → Compiles bytes x whole → height
-    (enc_abs x) ≤ 2 ^ 64 → term_height whole ≤ 2 ^ 63 → TyInScope 0 (enc_abs x) × TermInScope 0 0 whole
+SourcesInScope = (bytes : List ℕ) (x : Abs) (whole e : Term) → Compiles bytes x whole → Emits whole e → height (enc_abs x) ≤ 2 ^ 64 → term_height e ≤ 2 ^ 63
+    → TyInScope 0 (enc_abs x) × TermInScope 0 0 e
 
 -- in scope they have a text in each version
 abbrev pub SourcesHaveText : Type 0
-SourcesHaveText = (v : Version) (bytes : List ℕ) (x : Abs) (whole : Term) → Compiles bytes x whole → TyInScope 0
-    (enc_abs x) → TermInScope 0 0 whole → TextIn v (version_text v (enc_abs x) whole) (enc_abs x) whole
+SourcesHaveText = (v : Version) (bytes : List ℕ) (x : Abs) (whole e : Term) → Compiles bytes x whole → Emits whole e → TyInScope 0 (enc_abs x)
+    → TermInScope 0 0 e → TextIn v (version_text v (enc_abs x) e) (enc_abs x) e
 
 -- which gives them again where no more than 4,000 parentheses are open
 abbrev pub SourcesReadBack : Type 0
-SourcesReadBack = (v : Version) (bytes : List ℕ) (x : Abs) (whole : Term) → Compiles bytes x whole → TyInScope 0 (enc_abs x) → TermInScope 0 0 whole
-    → is_too_deep (version_text v (enc_abs x) whole) ≡ false → omega_at (version_text v (enc_abs x) whole) ≡ Some (enc_abs x, whole)
+SourcesReadBack = (v : Version) (bytes : List ℕ) (x : Abs) (whole e : Term) → Compiles bytes x whole → Emits whole e → TyInScope 0 (enc_abs x)
+    → TermInScope 0 0 e → is_too_deep (version_text v (enc_abs x) e) ≡ false → omega_at (version_text v (enc_abs x) e) ≡ Some (enc_abs x, e)
+
+-- and it is well typed: what is emitted has the encoding of the signature as its type
+abbrev pub SourcesAreTyped : Type 0
+SourcesAreTyped = (bytes : List ℕ) (x : Abs) (whole e : Term) → Compiles bytes x whole → Emits whole e → HasType [] [] e (enc_abs x)

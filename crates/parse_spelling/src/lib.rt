@@ -1,11 +1,12 @@
 // What the bytes of a source give has a spelling in the text of System Fω: names, numbers and texts of tokens, of phrases, and
 // the whole term that a program means.
-// Stands on fing_lexer (tokens), parse_grammar (the grammar) and elab_spelling (what a spelled phrase means).
+// Stands on fing_lexer (tokens), parse_grammar (the grammar), elab_spelling (what a spelled phrase means) and
+// omega_simplify_laws (simplified terms).
 // Proved: the tokens of bytes are spelled, and so is what a phrase of them gives (`spelled_sources`); the whole term of a
-// program has a text, which reads back (`source_texts`).
+// program and its simplified term have a text, which reads back (`source_texts`).
 #![tactic(auto)]
 
-ghost use Rattle.parse_spelling.specs.Claims.{TokensAreSpelled, PhrasesAreSpelled, ProgramsAreSpelled, UnitsAreSpelled, SourcesInScope, SourcesHaveText, SourcesReadBack};
+ghost use Rattle.parse_spelling.specs.Claims.{TokensAreSpelled, PhrasesAreSpelled, ProgramsAreSpelled, UnitsAreSpelled, SourcesAreTyped, SourcesInScope, SourcesHaveText, SourcesReadBack};
 
 /// The names, the numbers and the texts of the tokens of bytes have a spelling in the text of System Fω, and so have those
 /// of what the phrases of each class give, the hidden names of derived forms too: of programs, and of units.
@@ -16,10 +17,12 @@ pub fn spelled_sources()
     ensures units { UnitsAreSpelled }
 {}
 
-/// The whole term of the program that bytes spell, and the encoding of its signature, have their variables in scope if they
-/// are not too high for the levels of variables; where they have, they have a text in each version; and where no more than
-/// 4,000 parentheses are open in that text, reading it gives both again.
+/// The whole term of the program that bytes spell, and its simplified term, have the encoding of the program's signature as
+/// their type. They and the encoding have their variables in scope if they are not too high for the levels of variables;
+/// where they have, they have a text in each version; and where no more than 4,000 parentheses are open in that text,
+/// reading it gives both again.
 pub fn source_texts()
+    ensures typed { SourcesAreTyped }
     ensures scope { SourcesInScope }
     ensures spelled { SourcesHaveText }
     ensures read_back { SourcesReadBack }
