@@ -8,8 +8,8 @@ use Rattle.omega_terms.specs.Term.{Term}
 use Rattle.omega_terms.specs.Height.{term_height}
 use Rattle.omega_terms.specs.Typing.{HasType}
 use Rattle.omega_terms.specs.InScope.{TyInScope, TermInScope}
-use Rattle.omega_terms.specs.OmegaText.{version_text}
-use Rattle.omega_spelling.specs.Omega.{TextIn, omega_at}
+use Rattle.omega_terms.specs.OmegaText.{version_text, omega_text}
+use Rattle.omega_spelling.specs.Omega.{TextIn, OmegaText, omega_at}
 use Rattle.omega_spelling.specs.Refusals.{is_too_deep}
 use Rattle.omega_simplify_laws.specs.Simplified.{simplified}
 use Rattle.sig_definitions.specs.Signatures.Sig.{Abs, made}
@@ -41,12 +41,10 @@ ProgramsAreSpelled = (bytes : List ℕ) (tokens : List Token) (program : Program
 abbrev pub UnitsAreSpelled : Type 0
 UnitsAreSpelled = (bytes : List ℕ) (tokens : List Token) (units : List UnitTree) → TokensOf bytes tokens → Phrase Units tokens units → UnitsSpelled units
 
--- the bytes spell a program whose whole term is this one, of this signature
-pub record Compiles (bytes : List ℕ) (x : Abs) (whole : Term) : Type 0 where
-  pub tokens : List Token
-  pub lexed : TokensOf bytes tokens
+-- a program whose names, numbers and texts have a spelling means a module of this signature, with this whole term
+pub record Compiles (x : Abs) (whole : Term) : Type 0 where
   pub program : Program
-  pub tree : Phrase Binds tokens program
+  pub spelled : BindsSpelled program
   pub effect : Effect
   pub types : List Ty
   pub term : Term
@@ -57,21 +55,27 @@ pub data Emits (whole : Term) : Term → Type 0 where
   as_it_is : Emits whole whole
   simpler : Emits whole (simplified whole)
 
--- what is emitted and the encoding of the signature have their variables in scope where they are not too high
-abbrev pub SourcesInScope : Type 0
-SourcesInScope = (bytes : List ℕ) (x : Abs) (whole e : Term) → Compiles bytes x whole → Emits whole e → height (enc_abs x) ≤ 2 ^ 64 → term_height e ≤ 2 ^ 63
+-- what is emitted has the encoding of the signature as its type
+abbrev pub EmittedAreTyped : Type 0
+EmittedAreTyped = (x : Abs) (whole e : Term) → Compiles x whole → Emits whole e → HasType [] [] e (enc_abs x)
+
+-- both have their variables in scope where they are not too high
+abbrev pub EmittedInScope : Type 0
+EmittedInScope = (x : Abs) (whole e : Term) → Compiles x whole → Emits whole e → height (enc_abs x) ≤ 2 ^ 64 → term_height e ≤ 2 ^ 63
     → TyInScope 0 (enc_abs x) × TermInScope 0 0 e
 
 -- in scope they have a text in each version
-abbrev pub SourcesHaveText : Type 0
-SourcesHaveText = (v : Version) (bytes : List ℕ) (x : Abs) (whole e : Term) → Compiles bytes x whole → Emits whole e → TyInScope 0 (enc_abs x)
-    → TermInScope 0 0 e → TextIn v (version_text v (enc_abs x) e) (enc_abs x) e
+abbrev pub EmittedHaveText : Type 0
+EmittedHaveText = (v : Version) (x : Abs) (whole e : Term) → Compiles x whole → Emits whole e → TyInScope 0 (enc_abs x) → TermInScope 0 0 e
+    → TextIn v (version_text v (enc_abs x) e) (enc_abs x) e
 
 -- which gives them again where no more than 4,000 parentheses are open
-abbrev pub SourcesReadBack : Type 0
-SourcesReadBack = (v : Version) (bytes : List ℕ) (x : Abs) (whole e : Term) → Compiles bytes x whole → Emits whole e → TyInScope 0 (enc_abs x)
-    → TermInScope 0 0 e → is_too_deep (version_text v (enc_abs x) e) ≡ false → omega_at (version_text v (enc_abs x) e) ≡ Some (enc_abs x, e)
+abbrev pub EmittedReadBack : Type 0
+EmittedReadBack = (v : Version) (x : Abs) (whole e : Term) → Compiles x whole → Emits whole e → TyInScope 0 (enc_abs x) → TermInScope 0 0 e
+    → is_too_deep (version_text v (enc_abs x) e) ≡ false → omega_at (version_text v (enc_abs x) e) ≡ Some (enc_abs x, e)
 
--- and it is well typed: what is emitted has the encoding of the signature as its type
-abbrev pub SourcesAreTyped : Type 0
-SourcesAreTyped = (bytes : List ℕ) (x : Abs) (whole e : Term) → Compiles bytes x whole → Emits whole e → HasType [] [] e (enc_abs x)
+-- from the bytes of a source to the text that is written: what is emitted for the program that the bytes spell has a text
+abbrev pub SourcesHaveText : Type 0
+SourcesHaveText = (bytes : List ℕ) (tokens : List Token) (program : Program) (f : Effect) (x : Abs) (ts : List Ty) (d whole e : Term)
+    → TokensOf bytes tokens → Phrase Binds tokens program → ProgramMeans program (made f x ts d) whole → Emits whole e
+    → height (enc_abs x) ≤ 2 ^ 64 → term_height e ≤ 2 ^ 63 → OmegaText (omega_text (enc_abs x) e) (enc_abs x) e

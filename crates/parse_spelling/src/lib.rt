@@ -6,7 +6,8 @@
 // program and its simplified term have a text, which reads back (`source_texts`).
 #![tactic(auto)]
 
-ghost use Rattle.parse_spelling.specs.Claims.{TokensAreSpelled, PhrasesAreSpelled, ProgramsAreSpelled, UnitsAreSpelled, SourcesAreTyped, SourcesInScope, SourcesHaveText, SourcesReadBack};
+ghost use Rattle.parse_spelling.specs.Claims.{TokensAreSpelled, PhrasesAreSpelled, ProgramsAreSpelled, UnitsAreSpelled};
+ghost use Rattle.parse_spelling.specs.Claims.{EmittedAreTyped, EmittedInScope, EmittedHaveText, EmittedReadBack, SourcesHaveText};
 
 /// The names, the numbers and the texts of the tokens of bytes have a spelling in the text of System Fω, and so have those
 /// of what the phrases of each class give, the hidden names of derived forms too: of programs, and of units.
@@ -17,13 +18,14 @@ pub fn spelled_sources()
     ensures units { UnitsAreSpelled }
 {}
 
-/// The whole term of the program that bytes spell, and its simplified term, have the encoding of the program's signature as
-/// their type. They and the encoding have their variables in scope if they are not too high for the levels of variables;
-/// where they have, they have a text in each version; and where no more than 4,000 parentheses are open in that text,
-/// reading it gives both again.
+/// What is emitted for a program whose names, numbers and texts have a spelling is its whole term, or that term simplified.
+/// It has the encoding of the program's signature as its type. Both have their variables in scope if they are not too high
+/// for the levels of variables; where they have, they have a text in each version; and where no more than 4,000 parentheses
+/// are open in that text, reading it gives both again. So what is emitted for the program that bytes spell has a text.
 pub fn source_texts()
-    ensures typed { SourcesAreTyped }
-    ensures scope { SourcesInScope }
-    ensures spelled { SourcesHaveText }
-    ensures read_back { SourcesReadBack }
+    ensures typed { EmittedAreTyped }
+    ensures scope { EmittedInScope }
+    ensures spelled { EmittedHaveText }
+    ensures read_back { EmittedReadBack }
+    ensures sources { SourcesHaveText }
 {}
