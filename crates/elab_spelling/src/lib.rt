@@ -6,7 +6,8 @@
 // phrase means is legible (`legible_meanings`), so a program's whole term has a text, which reads back (`program_texts`).
 #![tactic(auto)]
 
-ghost use Rattle.elab_spelling.specs.Claims.{TypesAreSpelled, TermsAreSpelled, ClosedTypesInScope, ClosedTermsInScope, EncodingsAreLegible, MatchesAreLegible, TypesMeanLegible, ExpsMeanLegible, SigsMeanLegible, ModsMeanLegible, ProgramsMeanLegible, ProgramsHaveText, ProgramsReadBack};
+ghost use Rattle.elab_spelling.specs.Claims.{TypesAreSpelled, TermsAreSpelled, ClosedTypesInScope, ClosedTermsInScope, EncodingsAreLegible, MatchesAreLegible};
+ghost use Rattle.elab_spelling.specs.Claims.{TypesMeanLegible, ExpsMeanLegible, SigsMeanLegible, ModsMeanLegible, ProgramsMeanLegible, ProgramsHaveText, ProgramsReadBack};
 
 /// In each version a type or a term has a spelling exactly where it is legible and its variables are in scope, with levels
 /// below 2^64.

@@ -59,6 +59,7 @@ emitted_read_back v x whole e c m t n shallow =
 
 pub sources_have_text : SourcesHaveText
 sources_have_text bytes tokens program f x ts d whole e l p q m low shallow =
-    let c : Compiles x whole = record { program = program; spelled = programs_are_spelled bytes tokens program l p; effect = f; types = ts; term = d; derived = q } in
-    let s = emitted_in_scope x whole e c m low shallow in
-    (Second, emitted_have_text Second x whole e c m s.0 s.1)
+    let s = programs_are_spelled bytes tokens program l p in
+    let c : Compiles x whole = record { program = program; spelled = s; effect = f; types = ts; term = d; derived = q } in
+    let scope = emitted_in_scope x whole e c m low shallow in
+    (Second, emitted_have_text Second x whole e c m scope.0 scope.1)
