@@ -1,0 +1,11 @@
+pub mod Elaborated
+pub mod Fields
+pub mod Forms
+pub mod Matching
+pub mod Rules
+pub mod Scopes
+pub mod Signatures
+pub mod Splitting
+pub mod Terms
+pub mod Theorems
+pub mod Types

@@ -1,0 +1,4 @@
+pub mod Claims
+pub mod Legible
+pub mod Phrases
+pub mod Signatures

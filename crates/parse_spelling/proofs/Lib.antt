@@ -1,0 +1,4 @@
+pub mod Simplified
+pub mod Theorems
+pub mod Tokens
+pub mod Trees
