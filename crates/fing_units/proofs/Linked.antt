@@ -1,33 +1,29 @@
 -- Units of the code in their list, and their link from the last one to the first.
-use Rattle.std.proofs.Common.{◌≡◌, ◌≢◌, ◌≤◌, ◌<◌, ◌+◌, ◌↔◌, ℕ, List, [], ◌∷◌, ◌++◌, length, take, drop, map, get_or, refl, sym, ap, subst, ◌∙◌, arith, append_assoc, append-nil}
-use Rattle.std.proofs.lemmas.List.{length-map, map-append, take-append-drop}
+use Rattle.std.proofs.Common.{◌≡◌, ◌≢◌, ◌≤◌, ◌<◌, ◌+◌, ℕ, List, [], ◌∷◌, ◌++◌, length, take, drop, map, get_or, refl, sym, ap, subst, ◌∙◌, arith, append_assoc, append-nil}
+use Rattle.std.proofs.lemmas.List.{length-map, map-append, take-append-drop, take_more}
 use Rattle.std.proofs.Math.ListN.{length-take}
 use Rattle.omega_kinds.specs.Kind.{Kind}
+use Rattle.omega_kinds.specs.Name.{Name}
 use Rattle.omega_kinds.specs.declared.effect.Effect.{Effect}
 use Rattle.omega_kinds.specs.declared.effect.Effect.TheVariants.{Pure}
 use Rattle.omega_types.specs.Ty.{Ty}
 use Rattle.omega_types.specs.Binders.{extend}
 use Rattle.omega_terms.specs.Term.{Term, TermRow}
-use Rattle.sig_definitions.specs.Env.{kinds}
+use Rattle.sig_definitions.specs.Env.{Env, kinds}
+use Rattle.sig_definitions.specs.Signatures.FieldOrder.{with_name}
 use Rattle.sig_definitions.specs.Signatures.Sig.{Abs, Module, Sig, SigRow, made}
 use Rattle.sig_laws.specs.Good.{KindedModule}
 use Rattle.sig_laws.proofs.Formed.WellFormedShape.{kinded}
 use Rattle.semantic_sigs.specs.Made.{module_of}
 use Rattle.semantic_sigs.specs.View.{kinds_of}
 use Rattle.module_judgments.specs.Sequence.{Collected, Seq}
-use Rattle.unit_judgments.specs.Interfaces.{Interface, hidden_in, env_of}
+use Rattle.unit_judgments.specs.Interfaces.{hidden_in, with_interface, env_of}
 use Rattle.unit_judgments.specs.Link.{UnitModule, interface_of, names_after, Differs, Foreign, Links, OkUnits}
 use Rattle.unit_judgments.proofs.Places.{own-at, ok-at, differs-not, differs-below, foreign-at, front-all}
-use Rattle.unit_judgments.proofs.Steps.{LinkedFrom, unit-good, rest-good, linked-all, linked-end, linked-next}
+use Rattle.unit_judgments.proofs.Steps.{LinkedFrom, env-next, names-next, unit-good, rest-good, linked-all, linked-end, linked-next}
 use Rattle.fing_units.specs.Units.{unit_of, units_of}
 use Rattle.fing_units.specs.declared.unit_module.UnitModule.{UnitModule as CodeUnit}
 use Rattle.fing_units.proofs.Entering.{first-of}
-
-firsts : {A : Type 0} {x y : A} {xs ys : List A} → x ∷ xs ≡ y ∷ ys → x ≡ y
-firsts e = cc
-
-rests : {A : Type 0} {x y : A} {xs ys : List A} → x ∷ xs ≡ y ∷ ys → xs ≡ ys
-rests e = cc
 
 -- the unit at an index, between those before it and those after it
 parted : (us : List CodeUnit) (n : ℕ) (u : CodeUnit) → n < length us → u ≡ get_or us n u → units_of us ≡ units_of (take n us) ++ unit_of u ∷ units_of (drop (n + 1) us)
@@ -50,29 +46,23 @@ foreign-here us n u h is d before =
 pub none-differs : (us : List CodeUnit) (n : ℕ) → length us ≤ n → ((m : ℕ) → m < n → Differs (units_of us) m → ⊥) → (m : ℕ) → Differs (units_of us) m → ⊥
 none-differs us n h before m d = let below = differs-below m d in before m (omega (arith, below, length-map us unit_of)) d
 
--- interfaces against units, one by one
+-- the environment and the names of one unit more
 
-pub shown-differ : (items : List Interface) (us : List CodeUnit) (n : ℕ) (item : Interface) (u : CodeUnit)
-    → n < length items → n < length us → item ≡ get_or items n item → u ≡ get_or us n u
-    → ((item.0 ≡ u.name) × (item.1 ≡ u.module.sig) → ⊥)
-    → drop n items ≡ map interface_of (units_of (drop n us)) → ⊥
-shown-differ items us n item u h k is at d e =
-    let a = first-of n items item h is in
-    let b = ap (λ xs. map interface_of (units_of xs)) (first-of n us u k at) in
-    let s = firsts (sym a ∙ (e ∙ b)) in
-    d (ap (λ (i : Interface). i.0) s, ap (λ (i : Interface). i.1) s)
+taken-more : (us : List CodeUnit) (n : ℕ) (u : CodeUnit) → n < length us → u ≡ get_or us n u → units_of (take (n + 1) us) ≡ units_of (take n us) ++ unit_of u ∷ []
+taken-more us n u h is = ap units_of (take_more us n u h ∙ ap (λ v. take n us ++ v ∷ []) (sym is)) ∙ map-append unit_of (take n us) (u ∷ [])
 
-pub shown-next : (items : List Interface) (us : List CodeUnit) (n : ℕ) (item : Interface) (u : CodeUnit)
-    → n < length items → n < length us → item ≡ get_or items n item → u ≡ get_or us n u
-    → item.0 ≡ u.name → item.1 ≡ u.module.sig
-    → (drop n items ≡ map interface_of (units_of (drop n us)) ↔ drop (n + 1) items ≡ map interface_of (units_of (drop (n + 1) us)))
-shown-next items us n item u h k is at x s =
-    let a = first-of n items item h is in
-    let b = ap (λ xs. map interface_of (units_of xs)) (first-of n us u k at) in
-    (λ e. rests (sym a ∙ (e ∙ b)), λ e. a ∙ ((λ i. (x i, s i) ∷ e i) ∙ sym b))
-
-pub shown-length : (items : List Interface) (us : List CodeUnit) → items ≡ map interface_of (units_of us) → length items ≡ length us
-shown-length items us e = ap length e ∙ (length-map (units_of us) interface_of ∙ length-map us unit_of)
+pub scope-step : (us : List CodeUnit) (n : ℕ) (u : CodeUnit) (before after : Env) (names more : List Name)
+    → n < length us → u ≡ get_or us n u
+    → after ≡ with_interface before u.name u.module.sig
+    → more ≡ with_name u.name names
+    → (before ≡ env_of (map interface_of (units_of (take n us)))) × (names ≡ names_after [] (units_of (take n us)))
+    → (after ≡ env_of (map interface_of (units_of (take (n + 1) us)))) × (more ≡ names_after [] (units_of (take (n + 1) us)))
+scope-step us n u before after names more h is p q i =
+    let t = sym (taken-more us n u h is) in
+    let front = units_of (take n us) in (
+      p ∙ (ap (λ g. with_interface g u.name u.module.sig) i.0 ∙ (sym (env-next front (unit_of u)) ∙ ap (λ xs. env_of (map interface_of xs)) t)),
+      q ∙ (ap (λ ns. with_name u.name ns) i.1 ∙ (sym (names-next front (unit_of u)) ∙ ap (λ xs. names_after [] xs) t)),
+    )
 
 -- linking
 
