@@ -1,14 +1,13 @@
 -- The moves that give a tree, played from the last to the first, leave what the tree gives.
 use Rattle.std.proofs.Common.{◌≡◌, List, [], ◌∷◌, ◌++◌, refl, sym, ◌∙◌, ap}
 use Rattle.std.specs.Prelude.{Option, None, Some, option_map}
-use Rattle.fing_syntax.specs.Phrase as tree
-use Rattle.parse_grammar.specs.Grammar.{Class, Binds, Bind, Decls, Decl, TypeOf, K, KArrow, KA, P, Dots, T, TArrow, TC, TArgs, TA, TFields, MoreTFields, S, SArrow, Wheres, SA, M, MArgs, Seals, MA, E, Lam, Compare, ES, Sums, EM, Products, EP, Args, EA, Gets, EB, EFields, MoreEFields, Symbol, token, phrase, Rule, rhs}
+use Rattle.parse_grammar.specs.Grammar.{Class, Units, OneUnit, Binds, Bind, Decls, Decl, TypeOf, K, KArrow, KA, P, Dots, T, TArrow, TC, TArgs, TA, TFields, MoreTFields, S, SArrow, Wheres, SA, M, MArgs, Seals, MA, E, Lam, Compare, ES, Sums, EM, Products, EP, Args, EA, Gets, EB, EFields, MoreEFields, Symbol, token, phrase, Rule, rhs}
 use Rattle.parse_grammar.specs.Meaning.{Value, Values, act}
 use Rattle.parse_grammar.specs.Moves.{Move, shift, by, track}
 use Rattle.parse_grammar.specs.Tree.{Trees, end, leaf, node, spelling, values, Phrase}
 use Rattle.fing_lexer.specs.declared.token.Token.{Token}
 use Rattle.parse_grammar.specs.View.{any}
-use Rattle.parse_stack.specs.Item.{Item, TokenItem, item, as_value, as_binds}
+use Rattle.parse_stack.specs.Item.{Item, TokenItem, item, as_value}
 use Rattle.parse_stack.specs.Play.{and_then, top, taken, played, play_all, told}
 
 -- the items of values in order
@@ -18,6 +17,8 @@ all (token k ∷ ss) vs = TokenItem vs.0 ∷ all ss vs.1
 all (phrase n ∷ ss) vs = item n vs.0 ∷ all ss vs.1
 
 again : (n : Class) (v : Value n) → as_value n (item n v) ≡ Some v
+again Units v = refl
+again OneUnit v = refl
 again Binds v = refl
 again Bind v = refl
 again Decls v = refl
@@ -81,19 +82,22 @@ plays (node {ss = ss} r cs ts) ms is =
     ∙ plays cs (by (any r) ∷ ms) below
     ∙ ap (λ z. and_then z (λ js. play_all ms js)) (plays_rule r (values cs) below)
 
--- the moves of a program's tree tell the program
-pub tells : (d : Trees (phrase Binds ∷ [])) (ms : List Move) → track d [] ≡ ms → told ms ≡ Some (values d).0
-tells d ms e =
-    ap told (sym e)
-    ∙ ap (λ z. and_then z (λ is. option_map (λ p. p.0) (top as_binds is))) (plays d [] [])
+-- the moves of a tree tell what it gives
+pub tells : {n : Class} (d : Trees (phrase n ∷ [])) (ms : List Move) → track d [] ≡ ms → told n ms ≡ Some (values d).0
+tells {n} d ms e =
+    ap (told n) (sym e)
+    ∙ ap (λ z. and_then z (λ is. option_map (λ p. p.0) (top (as_value n) is))) (plays d [] [])
+    ∙ ap (λ (z : Option (Value n)). option_map (λ p. p.0) (and_then {B = Value n × List Item} z (λ a. Some (a, [])))) (again n (values d).0)
 
 some_same : {A : Type 0} {x y : A} → Some x ≡ Some y → x ≡ y
 some_same e = cc
 
 -- what is told of the steps of a tree is the phrase of its tokens
-pub told_is : {tokens : List Token} {ms : List Move} {b : tree.Binds} → (d : Trees (phrase Binds ∷ [])) × (spelling d ≡ tokens) × (track d [] ≡ ms) → told ms ≡ Some b → Phrase Binds tokens b
-told_is {tokens} {ms} {b} q e = record { parts = q.0; spelled = q.1; given = some_same (sym (tells q.0 ms q.2) ∙ e) }
+pub told_is : {n : Class} {tokens : List Token} {ms : List Move} {v : Value n}
+    → (d : Trees (phrase n ∷ [])) × (spelling d ≡ tokens) × (track d [] ≡ ms) → told n ms ≡ Some v → Phrase n tokens v
+told_is {n} {tokens} {ms} {v} q e = record { parts = q.0; spelled = q.1; given = some_same (sym (tells q.0 ms q.2) ∙ e) }
 
 -- and something is told
-pub told_some : {tokens : List Token} {ms : List Move} → (d : Trees (phrase Binds ∷ [])) × (spelling d ≡ tokens) × (track d [] ≡ ms) → told ms ≡ None → ⊥
+pub told_some : {n : Class} {tokens : List Token} {ms : List Move}
+    → (d : Trees (phrase n ∷ [])) × (spelling d ≡ tokens) × (track d [] ≡ ms) → told n ms ≡ None → ⊥
 told_some {ms = ms} q e = let h : None ≡ Some (values q.0).0 = sym e ∙ tells q.0 ms q.2 in absurd (cc)

@@ -1,12 +1,13 @@
-// A tree out of the steps in which its tokens are read. The steps are played from the last to the first.
-ghost use Rattle.std.specs.Prelude.{◌≡◌, Some, None, IfOk, IfErr};
+// Trees out of the steps in which tokens are read. The steps are played from the last to the first.
+ghost use Rattle.std.specs.Prelude.{◌≡◌, [], Some, None, IfOk, IfErr};
 ghost use Rattle.fing_syntax.specs.View.{binds as binds_of};
+ghost use Rattle.parse_grammar.specs.Grammar as the;
 ghost use Rattle.parse_grammar.specs.Steps.{move_in, moves};
 ghost use Rattle.parse_stack.specs.Part.{held};
-ghost use Rattle.parse_stack.specs.Play.{play, told};
+ghost use Rattle.parse_stack.specs.Play.{play, play_all, told};
 ghost use Rattle.parse_stack.specs.declared.refusal.BuildRefusal.TheVariants.{Misfit};
 
-use fing_syntax::Bind;
+use fing_syntax::{Bind, UnitTree};
 use parse_grammar::Step;
 use parse_productions::play as play_rule;
 use parse_stack::{BuildRefusal, Part, Stack};
@@ -23,18 +24,41 @@ fn play_step<'a>(stack: &mut Stack<'a>, alloc: Global, step: Step<'a>) -> Result
     }
 }
 
-// The bindings of the program that these steps read. `Misfit` comes exactly where they read none, and `Mem` is want
-// of memory.
-pub(crate) fn build(alloc: Global, steps: Vec<Step<'_>>) -> Result<Vec<Bind>, BuildRefusal>
-    ensures built { IfOk result (λ b. told (moves steps.entry.items) ≡ Some (binds_of b.items)) }
-    ensures misfit { IfErr result (λ e. e ≡ Misfit → told (moves steps.entry.items) ≡ None) }
+// The stack that the steps leave.
+fn play_steps<'a>(alloc: Global, steps: Vec<Step<'a>>) -> Result<Stack<'a>, BuildRefusal>
+    ensures made { IfOk result (λ s. play_all (moves steps.entry.items) [] ≡ Some (held s)) }
+    ensures misfit { IfErr result (λ e. e ≡ Misfit → play_all (moves steps.entry.items) [] ≡ None) }
 {
     let mut stack = Stack::new(alloc);
     let mut left = steps;
     'play: while let Some(step) = left.pop() {
         play_step(&mut stack, alloc, step)?;
     }
+    Ok(stack)
+}
+
+// The bindings of the program that these steps read. `Misfit` comes exactly where they read none, and `Mem` is want
+// of memory.
+pub(crate) fn build_binds(alloc: Global, steps: Vec<Step<'_>>) -> Result<Vec<Bind>, BuildRefusal>
+    ensures built { IfOk result (λ b. told the.Binds (moves steps.entry.items) ≡ Some (binds_of b.items)) }
+    ensures misfit { IfErr result (λ e. e ≡ Misfit → told the.Binds (moves steps.entry.items) ≡ None) }
+{
+    let mut stack = play_steps(alloc, steps)?;
     let mut binds = stack.binds()?;
     binds.reverse();
     Ok(binds)
+}
+
+// The units of the text that these steps read. `Misfit` comes exactly where they read none, and `Mem` is want of memory.
+pub(crate) fn build_units(
+    alloc: Global,
+    steps: Vec<Step<'_>>,
+) -> Result<Vec<UnitTree>, BuildRefusal>
+    ensures built { IfOk result (λ us. told the.Units (moves steps.entry.items) ≡ Some us.items) }
+    ensures misfit { IfErr result (λ e. e ≡ Misfit → told the.Units (moves steps.entry.items) ≡ None) }
+{
+    let mut stack = play_steps(alloc, steps)?;
+    let mut units = stack.units()?;
+    units.reverse();
+    Ok(units)
 }

@@ -16,5 +16,6 @@ mod paths;
 mod playing;
 mod sigs;
 mod types;
+mod units;
 
 pub use playing::play;

@@ -16,6 +16,7 @@ use crate::operators::operator;
 use crate::paths::path;
 use crate::sigs::sig;
 use crate::types::ty;
+use crate::units::unit;
 use parse_grammar::grammar::Rule;
 use parse_stack::{BuildRefusal, Stack};
 use std::alloc::Global;
@@ -28,6 +29,7 @@ pub fn play(stack: &mut Stack<'_>, alloc: Global, rule: Rule) -> Result<(), Buil
     ensures misfit { IfErr result (λ e. e ≡ Misfit → played_any (rule_in rule) (held stack.old) ≡ None) }
 {
     match rule {
+        Rule::OneUnit(rule) => unit(stack, alloc, rule),
         Rule::Bind(rule) => bind(stack, alloc, rule),
         Rule::Decl(rule) => decl(stack, alloc, rule),
         Rule::Kind(rule) => kind(stack, alloc, rule),

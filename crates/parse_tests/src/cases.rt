@@ -3,6 +3,7 @@ use crate::show::are_written;
 use fing_lexer::tokens;
 use fing_parser::{ParseRefusal, program};
 use fing_syntax::Program;
+use fing_text::SOURCE_LIMIT;
 use std::alloc::Global;
 use std::process::Abort;
 use std::test::Fail;
@@ -333,7 +334,7 @@ const EXPRESSIONS: [(&str, &str); 35] = [
 ];
 
 // How many tokens of each begin some program.
-const REFUSED: [(&str, u32); 25] = [
+const REFUSED: [(&str, u32); 26] = [
     ("val", 1),
     ("val x", 2),
     ("val x = )", 3),
@@ -359,6 +360,7 @@ const REFUSED: [(&str, u32); 25] = [
     ("val x = fun y", 4),
     ("type t = [a] -> a", 5),
     ("val x = r#1", 5),
+    ("module A : S = struct end", 2),
 ];
 
 // What the parser makes of a source.
@@ -367,9 +369,9 @@ fn parsed(
     alloc: Global,
     source: &[u8],
 ) -> Result<Result<Program, ParseRefusal>, Fail> {
-    assert!(rt; source.len() <= 1048576);
+    assert!(rt; source.len() <= SOURCE_LIMIT);
     let found = tokens(alloc, source)?;
-    assert!(rt; found.len() <= 1048576);
+    assert!(rt; found.len() <= SOURCE_LIMIT);
     Ok(program(alloc, &found))
 }
 

@@ -7,3 +7,5 @@
 mod cases;
 #[cfg(test)]
 mod show;
+#[cfg(test)]
+mod units;

@@ -1,7 +1,7 @@
 // Trees written out: each node as `(what parts)@from-to`, a name as `x@from-to`.
 use fing_syntax::{
     Arg, Bind, BindWhat, Decl, DeclWhat, Exp, ExpWhat, Mod, ModWhat, Op, SigEx, SigWhat, SpanName,
-    TyEx, TyWhat,
+    TyEx, TyWhat, UnitTree,
 };
 use fing_text::Span;
 use omega_kinds::Kind;
@@ -19,6 +19,28 @@ pub fn are_written(all: &[Bind], expected: &[u8]) -> bool {
     };
     binds(&mut want, all);
     matches!(want.left, Some([]))
+}
+
+/// Whether the units, each written behind a space, are the text.
+pub fn units_are_written(all: &[UnitTree], expected: &[u8]) -> bool {
+    let mut want = Expected {
+        left: Some(expected),
+    };
+    for node in all {
+        unit(&mut want, node);
+    }
+    matches!(want.left, Some([]))
+}
+
+fn unit(want: &mut Expected<'_>, node: &UnitTree) {
+    text(want, b" (unit ");
+    text(want, node.name.bytes());
+    place(want, node.at);
+    text(want, b" ");
+    sig(want, &node.sig);
+    text(want, b" ");
+    module(want, &node.body);
+    end(want, node.span)
 }
 
 fn text(want: &mut Expected<'_>, piece: &[u8]) {

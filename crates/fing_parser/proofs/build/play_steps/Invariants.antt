@@ -2,7 +2,7 @@ use Rattle.std.proofs.Common.{◌≡◌, [], length}
 use Rattle.parse_grammar.specs.Steps.{moves}
 use Rattle.parse_stack.specs.Part.{held}
 use Rattle.parse_stack.specs.Play.{play_all}
-use Rattle.fing_parser.proofs.build.build.Given as goal
+use Rattle.fing_parser.proofs.build.play_steps.Given as goal
 
 abbrev pub invariant-play : goal.invariant-play
 invariant-play l = play_all (moves l.left.items) (held l.stack) ≡ play_all (moves l.fn.steps.items) []
