@@ -8,7 +8,7 @@ use std::test::Fail;
 const SUM: &[u8] = b"val x = 1 + 2";
 
 // Words that are no command line.
-const OTHER: [&[&str]; 12] = [
+const OTHER: [&[&str]; 19] = [
     &[],
     &["gen"],
     &["gen", "0"],
@@ -21,6 +21,13 @@ const OTHER: [&[&str]; 12] = [
     &["Emit"],
     &["verify", "1"],
     &["emit", "verify"],
+    &["check", "--simplify"],
+    &["run", "--simplify"],
+    &["verify", "--simplify"],
+    &["gen", "1", "--simplify"],
+    &["link", "--simplify"],
+    &["link", "1"],
+    &["link", "--budget", "1"],
 ];
 
 #[test]
@@ -41,10 +48,12 @@ fn words_behind_the_end_of_options(rt: HostRuntime) -> Result<(), Fail> {
 }
 
 // A command, how many spaces its source has, the status, and the reply.
-const LENGTHS: [(&str, usize, Status, &[u8]); 4] = [
+const LENGTHS: [(&str, usize, Status, &[u8]); 6] = [
     ("emit", 1048577, Status::TooLong, b""),
     ("emit", 1048576, Status::Ok, b"omega 2\n(rec)\n(rec)\n"),
     ("check", 1048577, Status::TooLong, b""),
+    ("link", 1048577, Status::TooLong, b""),
+    ("link", 1048576, Status::Ok, b"omega 2\n(rec)\n(rec)\n"),
     ("check", 1048576, Status::Ok, b"pure (ex () (str))\n"),
 ];
 
