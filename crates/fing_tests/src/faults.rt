@@ -48,12 +48,10 @@ fn words_behind_the_end_of_options(rt: HostRuntime) -> Result<(), Fail> {
 }
 
 // A command, how many spaces its source has, the status, and the reply.
-const LENGTHS: [(&str, usize, Status, &[u8]); 6] = [
+const LENGTHS: [(&str, usize, Status, &[u8]); 4] = [
     ("emit", 1048577, Status::TooLong, b""),
     ("emit", 1048576, Status::Ok, b"omega 2\n(rec)\n(rec)\n"),
     ("check", 1048577, Status::TooLong, b""),
-    ("link", 1048577, Status::TooLong, b""),
-    ("link", 1048576, Status::Ok, b"omega 2\n(rec)\n(rec)\n"),
     ("check", 1048576, Status::Ok, b"pure (ex () (str))\n"),
 ];
 

@@ -273,6 +273,14 @@ fn nine_hundred_units(rt: HostRuntime) -> Result<(), Fail> {
 }
 
 #[test]
+fn too_many_bytes_of_units(rt: HostRuntime) -> Result<(), Fail> {
+    let source = vec![in rt.alloc(); b' '; 1048577]?;
+    let found = ran(rt.alloc(), &["link"], &source)?;
+    assert!(rt; found.is(Status::TooLong, b"", false));
+    Ok(())
+}
+
+#[test]
 fn a_read_of_units_fails(rt: HostRuntime) -> Result<(), Fail> {
     let sink = MemSink::new(rt.alloc(), 4096, 1, Vec::new(rt.alloc()))?;
     let found = tried(rt.alloc(), &["link"], TWO.as_bytes(), &[1], sink)?;
