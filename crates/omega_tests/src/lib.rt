@@ -1,5 +1,5 @@
 // Tests of the crates of System Fω through their public calls, with ample memory: normal types, terms, texts, scopes,
-// the checker and the machine. Stands on these crates and on fing_text.
+// the checker, the machine and simplified terms. Stands on these crates and on fing_text.
 // Proved: that no test reads out of bounds, overflows or breaks what a call asks for. What they assert is tested alone.
 #![tactic(auto)]
 
@@ -13,6 +13,8 @@ mod normal_types;
 mod reading;
 #[cfg(test)]
 mod scopes;
+#[cfg(test)]
+mod simplifying;
 #[cfg(test)]
 mod terms;
 #[cfg(test)]

@@ -6,15 +6,16 @@ use std::alloc::Global;
 use std::process::Abort;
 use std::test::Fail;
 
-// How a program is to end, a value or a fault after so many steps.
+/// How a program is to end, a value or a fault after so many steps.
 #[derive(Clone, Copy)]
-enum Ending {
+pub enum Ending {
     Value(&'static str, u64),
     Fault(Arith, u64),
     Spent,
 }
 
-fn is(end: &End, expected: Ending) -> bool {
+/// Whether it ends so.
+pub fn is(end: &End, expected: Ending) -> bool {
     match (end, expected) {
         (End::Value { shown, steps }, Ending::Value(text, taken)) => {
             shown.bytes() == text.as_bytes() && *steps == taken
@@ -126,8 +127,8 @@ fn numbers(rt: HostRuntime) -> Result<(), Fail> {
 const BINDING: &str =
     "omega 1\n(rec (x (rec (.val int))))\n(call (fn (rec (.val int)) (rec (x x0))) (rec (.val (+ 1 2))))\n";
 
-// `module M = struct type t = Int val x = 5 end :> sig type t val x : t end`
-const SEALED: &str = "omega 1\n\
+/// `module M = struct type t = Int val x = 5 end :> sig type t val x : t end`
+pub const SEALED: &str = "omega 1\n\
     (some * (rec (M (rec (t (rec (.typ (all (> * *) (-> (@ a1 a0) (@ a1 a0)))))) (x (rec (.val a0)))))))\n\
     (pack int (call (fn \
     (rec (t (rec (.typ (all (> * *) (-> (@ a0 int) (@ a0 int)))))) (x (rec (.val int)))) \
