@@ -1,7 +1,7 @@
 -- the tables are right for each production
 use Rattle.std.proofs.Common.{◌≡◌, ℕ, zero, suc, pred, ◌&&◌, ◌||◌, true, false, not, eqb, leb, length, refl, sym, ◌∙◌, ap, List, [], ◌∷◌}
 use Rattle.std.specs.Prelude.{Some}
-use Rattle.parse_grammar.specs.Grammar.{Terminal, a_keyword, a_mark, a_name, a_number, a_text, Class, Binds, Bind, Decls, Decl, TypeOf, K, KArrow, KA, P, Dots, T, TArrow, TC, TArgs, TA, TFields, MoreTFields, S, SArrow, Wheres, SA, M, MArgs, Seals, MA, E, Lam, Compare, ES, Sums, EM, Products, EP, Args, EA, Gets, EB, EFields, MoreEFields, phrase, Rule, rhs, no_binds, more_binds, bind_val, bind_type, bind_module, bind_signature, bind_include, no_decls, more_decls, decl_val, decl_type, decl_module, decl_signature, decl_include, type_of_nothing, type_is, type_has, kind_chain, no_kind_arrow, kind_arrow, kind_type, kind_paren, path_name, path_from, no_dots, more_dots, ty_lam, ty_all, ty_chain, no_arrow, ty_arrow, ty_args, no_ty_args, more_ty_args, ty_int, ty_bool, ty_text, ty_path, ty_fields, ty_pack, ty_paren, no_ty_fields, ty_field, last_ty_field, next_ty_field, sig_fun, sig_where, generative, applicative, no_wheres, more_wheres, sig_path, sig_decls, sig_paren, mod_fun, mod_gen, mod_unpack, mod_chain, no_mod_args, more_mod_args, no_seals, seal, ascribe, mod_path, mod_struct, mod_let, mod_paren, exp_fun, exp_fix, exp_if, exp_compare, lam_value, lam_type, no_compare, less_than, equal_to, sums, no_sums, add, subtract, products, no_products, multiply, divide, remainder, exp_args, no_args, exp_arg, ty_arg, exp_gets, no_gets, more_gets, exp_number, exp_text, exp_true, exp_false, exp_path, exp_fields, exp_let, exp_pack, exp_paren, no_exp_fields, exp_field, last_exp_field, next_exp_field}
+use Rattle.parse_grammar.specs.Grammar.{Terminal, a_keyword, a_mark, a_name, a_number, a_text, Class, Units, OneUnit, Binds, Bind, Decls, Decl, TypeOf, K, KArrow, KA, P, Dots, T, TArrow, TC, TArgs, TA, TFields, MoreTFields, S, SArrow, Wheres, SA, M, MArgs, Seals, MA, E, Lam, Compare, ES, Sums, EM, Products, EP, Args, EA, Gets, EB, EFields, MoreEFields, phrase, Rule, rhs, no_units, more_units, unit_module, no_binds, more_binds, bind_val, bind_type, bind_module, bind_signature, bind_include, no_decls, more_decls, decl_val, decl_type, decl_module, decl_signature, decl_include, type_of_nothing, type_is, type_has, kind_chain, no_kind_arrow, kind_arrow, kind_type, kind_paren, path_name, path_from, no_dots, more_dots, ty_lam, ty_all, ty_chain, no_arrow, ty_arrow, ty_args, no_ty_args, more_ty_args, ty_int, ty_bool, ty_text, ty_path, ty_fields, ty_pack, ty_paren, no_ty_fields, ty_field, last_ty_field, next_ty_field, sig_fun, sig_where, generative, applicative, no_wheres, more_wheres, sig_path, sig_decls, sig_paren, mod_fun, mod_gen, mod_unpack, mod_chain, no_mod_args, more_mod_args, no_seals, seal, ascribe, mod_path, mod_struct, mod_let, mod_paren, exp_fun, exp_fix, exp_if, exp_compare, lam_value, lam_type, no_compare, less_than, equal_to, sums, no_sums, add, subtract, products, no_products, multiply, divide, remainder, exp_args, no_args, exp_arg, ty_arg, exp_gets, no_gets, more_gets, exp_number, exp_text, exp_true, exp_false, exp_path, exp_fields, exp_let, exp_pack, exp_paren, no_exp_fields, exp_field, last_exp_field, next_exp_field}
 use Rattle.fing_lexer.specs.declared.token.Word.TheVariants.{KwVal, KwType, KwModule, KwSignature, KwInclude, KwStruct, KwSig, KwEnd, KwLet, KwIn, KwFun, KwGen, KwFix, KwIf, KwThen, KwElse, KwPack, KwUnpack, KwFrom, KwWhere, KwTrue, KwFalse, KwInt, KwBool, KwText, KwKind, KwCase, KwOf, KwInj, KwData, KwRoll, KwUnroll}
 use Rattle.fing_lexer.specs.declared.token.Mark.TheVariants.{LeftParen, RightParen, LeftBrace, RightBrace, LeftBracket, RightBracket, Dot, Comma, Colon, Seal, Equal, DoubleArrow, Arrow, Hash, Plus, Minus, Star, Slash, Percent, Less, EqualEqual}
 use Rattle.parse_grammar.specs.Tables.{number_of, can_be_empty, firsts_of, follow, predicted, choose, terminals, rank}
@@ -11,6 +11,9 @@ use Rattle.parse_grammar.specs.Reading.{ahead, lead}
 
 pub rules_ok : {n : Class} → (r : Rule n) → all (rule_ok r) (follow n) ≡ true
 unfolding number_of can_be_empty firsts_of follow predicted
+rules_ok no_units = refl
+rules_ok more_units = refl
+rules_ok unit_module = refl
 rules_ok no_binds = refl
 rules_ok more_binds = refl
 rules_ok bind_val = refl
@@ -249,6 +252,9 @@ number_positive a_text = refl
 
 pub leads_ok : {n : Class} → (r : Rule n) → leb (lead (rhs r)) (rank n) && (leb (length (rhs r)) 11 && (not (all_empty (rhs r)) || can_be_empty n)) ≡ true
 unfolding rank can_be_empty
+leads_ok no_units = refl
+leads_ok more_units = refl
+leads_ok unit_module = refl
 leads_ok no_binds = refl
 leads_ok more_binds = refl
 leads_ok bind_val = refl
@@ -357,6 +363,8 @@ leads_ok next_exp_field = refl
 
 pub ranks_ok : (n : Class) → leb (rank n) 6 ≡ true
 unfolding rank
+ranks_ok Units = refl
+ranks_ok OneUnit = refl
 ranks_ok Binds = refl
 ranks_ok Bind = refl
 ranks_ok Decls = refl
@@ -399,6 +407,8 @@ ranks_ok MoreEFields = refl
 
 pub behind_ok : (n : Class) → fits (phrase n ∷ []) (ahead (behind n)) ≡ true
 unfolding can_be_empty firsts_of follow number_of
+behind_ok Units = refl
+behind_ok OneUnit = refl
 behind_ok Binds = refl
 behind_ok Bind = refl
 behind_ok Decls = refl
@@ -441,6 +451,9 @@ behind_ok MoreEFields = refl
 
 pub predicts : {n : Class} → (r : Rule n) → Each (λ j. choose n j ≡ Some r) (predicted r)
 unfolding choose predicted
+predicts no_units = (refl, tt)
+predicts more_units = (refl, tt)
+predicts unit_module = (refl, tt)
 predicts no_binds = (refl, (refl, (refl, tt)))
 predicts more_binds = (refl, (refl, (refl, (refl, (refl, tt)))))
 predicts bind_val = (refl, tt)
@@ -470,10 +483,10 @@ predicts more_dots = (refl, tt)
 predicts ty_lam = (refl, tt)
 predicts ty_all = (refl, tt)
 predicts ty_chain = (refl, (refl, (refl, (refl, (refl, (refl, (refl, (refl, tt))))))))
-predicts no_arrow = (refl, (refl, (refl, (refl, (refl, (refl, (refl, (refl, (refl, (refl, (refl, (refl, (refl, (refl, (refl, (refl, tt))))))))))))))))
+predicts no_arrow = (refl, (refl, (refl, (refl, (refl, (refl, (refl, (refl, (refl, (refl, (refl, (refl, (refl, (refl, (refl, (refl, (refl, tt)))))))))))))))))
 predicts ty_arrow = (refl, tt)
 predicts ty_args = (refl, (refl, (refl, (refl, (refl, (refl, (refl, (refl, tt))))))))
-predicts no_ty_args = (refl, (refl, (refl, (refl, (refl, (refl, (refl, (refl, (refl, (refl, (refl, (refl, (refl, (refl, (refl, (refl, (refl, tt)))))))))))))))))
+predicts no_ty_args = (refl, (refl, (refl, (refl, (refl, (refl, (refl, (refl, (refl, (refl, (refl, (refl, (refl, (refl, (refl, (refl, (refl, (refl, tt))))))))))))))))))
 predicts more_ty_args = (refl, (refl, (refl, (refl, (refl, (refl, (refl, (refl, tt))))))))
 predicts ty_int = (refl, tt)
 predicts ty_bool = (refl, tt)
@@ -490,7 +503,7 @@ predicts sig_fun = (refl, tt)
 predicts sig_where = (refl, (refl, (refl, (refl, tt))))
 predicts generative = (refl, tt)
 predicts applicative = (refl, tt)
-predicts no_wheres = (refl, (refl, (refl, (refl, (refl, (refl, (refl, (refl, (refl, (refl, (refl, tt)))))))))))
+predicts no_wheres = (refl, (refl, (refl, (refl, (refl, (refl, (refl, (refl, (refl, (refl, (refl, (refl, tt))))))))))))
 predicts more_wheres = (refl, tt)
 predicts sig_path = (refl, (refl, tt))
 predicts sig_decls = (refl, tt)

@@ -1,10 +1,10 @@
 -- The laws of the grammar: at most one tree, and where a list of tokens that has none goes wrong.
 use Rattle.std.proofs.Common.{◌≡◌, ℕ, zero, suc, ◌+◌, ◌<◌, ◌≤◌, true, refl, sym, ◌∙◌, ap, subst, List, [], ◌∷◌, ◌++◌, length, take, append_assoc, append-nil, length-append, arith, inl, inr, ◌⊎◌}
-use Rattle.parse_grammar.specs.Grammar.{kind_of, Class, Binds, phrase}
+use Rattle.parse_grammar.specs.Grammar.{kind_of, Class, Units, Binds, phrase}
 use Rattle.fing_lexer.specs.declared.token.Token.{Token}
 use Rattle.parse_grammar.specs.Meaning.{Value, Values}
 use Rattle.parse_grammar.specs.Tree.{spelling, values, Phrase}
-use Rattle.parse_grammar.specs.Program.{Start, programs, Begins, Farthest}
+use Rattle.parse_grammar.specs.Program.{Start, programs, units, Begins, Farthest}
 use Rattle.parse_grammar.specs.Tables.{number_of}
 use Rattle.parse_grammar.proofs.Sets.{fits}
 use Rattle.parse_grammar.proofs.Checks.{behind_ok}
@@ -44,6 +44,7 @@ take_front (b ∷ a) l = ap (λ z. b ∷ z) (take_front a l)
 -- the end may stand behind a class from which a text starts
 pub start_ok : {n : Class} → Start n → fits (phrase n ∷ []) (ahead []) ≡ true
 start_ok programs = behind_ok Binds
+start_ok units = behind_ok Units
 
 whole_run : {n : Class} {p : Value n} {ts : List Token} (g : ℕ) → Start n → (w : Phrase n ts p) → size w.parts ≤ g → run g (phrase n ∷ []) ts ≡ got (values w.parts) []
 whole_run {n} {p} {ts} g st w h =

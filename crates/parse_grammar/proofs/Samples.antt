@@ -1,6 +1,6 @@
 -- a phrase of each class, the least deep one
 use Rattle.std.proofs.Common.{refl, List, [], ◌∷◌}
-use Rattle.parse_grammar.specs.Grammar.{Terminal, a_keyword, a_mark, a_name, a_number, a_text, Class, Binds, Bind, Decls, Decl, TypeOf, K, KArrow, KA, P, Dots, T, TArrow, TC, TArgs, TA, TFields, MoreTFields, S, SArrow, Wheres, SA, M, MArgs, Seals, MA, E, Lam, Compare, ES, Sums, EM, Products, EP, Args, EA, Gets, EB, EFields, MoreEFields, phrase, rhs, no_binds, bind_module, no_decls, decl_type, type_of_nothing, kind_chain, no_kind_arrow, kind_type, path_name, no_dots, ty_chain, no_arrow, ty_args, no_ty_args, ty_int, no_ty_fields, last_ty_field, sig_where, generative, no_wheres, sig_decls, mod_chain, no_mod_args, no_seals, mod_struct, exp_compare, lam_value, no_compare, sums, no_sums, products, no_products, exp_args, no_args, exp_gets, no_gets, exp_number, no_exp_fields, last_exp_field}
+use Rattle.parse_grammar.specs.Grammar.{Terminal, a_keyword, a_mark, a_name, a_number, a_text, Class, Units, OneUnit, Binds, Bind, Decls, Decl, TypeOf, K, KArrow, KA, P, Dots, T, TArrow, TC, TArgs, TA, TFields, MoreTFields, S, SArrow, Wheres, SA, M, MArgs, Seals, MA, E, Lam, Compare, ES, Sums, EM, Products, EP, Args, EA, Gets, EB, EFields, MoreEFields, phrase, rhs, no_units, unit_module, no_binds, bind_module, no_decls, decl_type, type_of_nothing, kind_chain, no_kind_arrow, kind_type, path_name, no_dots, ty_chain, no_arrow, ty_args, no_ty_args, ty_int, no_ty_fields, last_ty_field, sig_where, generative, no_wheres, sig_decls, mod_chain, no_mod_args, no_seals, mod_struct, exp_compare, lam_value, no_compare, sums, no_sums, products, no_products, exp_args, no_args, exp_gets, no_gets, exp_number, no_exp_fields, last_exp_field}
 use Rattle.fing_lexer.specs.declared.token.Word.TheVariants.{KwType, KwModule, KwStruct, KwSig, KwEnd, KwFrom, KwInt, KwKind}
 use Rattle.fing_lexer.specs.declared.token.Mark.TheVariants.{LeftParen, RightParen, RightBrace, Colon, Equal, DoubleArrow, Arrow}
 use Rattle.fing_lexer.specs.declared.token.What.{What}
@@ -26,6 +26,9 @@ any_kind (a_mark m) = refl
 any_kind a_name = refl
 any_kind a_number = refl
 any_kind a_text = refl
+
+pub parts_of_Units : Trees (rhs no_units)
+parts_of_Units = end
 
 pub parts_of_Binds : Trees (rhs no_binds)
 parts_of_Binds = end
@@ -132,6 +135,9 @@ parts_of_EP = (node exp_gets parts_of_EA (node no_args parts_of_Args end))
 pub parts_of_Bind : Trees (rhs bind_module)
 parts_of_Bind = (leaf (any_token (a_keyword KwModule)) refl (leaf (any_token a_name) refl (leaf (any_token (a_mark Equal)) refl (node mod_chain parts_of_M end))))
 
+pub parts_of_OneUnit : Trees (rhs unit_module)
+parts_of_OneUnit = (leaf (any_token (a_keyword KwModule)) refl (leaf (any_token a_name) refl (leaf (any_token (a_mark Colon)) refl (node sig_where parts_of_S (leaf (any_token (a_mark Equal)) refl (leaf (any_token (a_keyword KwStruct)) refl (node no_binds parts_of_Binds (leaf (any_token (a_keyword KwEnd)) refl end))))))))
+
 pub parts_of_EM : Trees (rhs products)
 parts_of_EM = (node exp_args parts_of_EP (node no_products parts_of_Products end))
 
@@ -145,6 +151,8 @@ pub parts_of_Lam : Trees (rhs lam_value)
 parts_of_Lam = (leaf (any_token (a_mark LeftParen)) refl (leaf (any_token a_name) refl (leaf (any_token (a_mark Colon)) refl (node ty_chain parts_of_T (leaf (any_token (a_mark RightParen)) refl (leaf (any_token (a_mark DoubleArrow)) refl (node exp_compare parts_of_E end)))))))
 
 abbrev pub any_phrase : (n : Class) → Trees (phrase n ∷ [])
+any_phrase Units = node no_units parts_of_Units end
+any_phrase OneUnit = node unit_module parts_of_OneUnit end
 any_phrase Binds = node no_binds parts_of_Binds end
 any_phrase Bind = node bind_module parts_of_Bind end
 any_phrase Decls = node no_decls parts_of_Decls end
@@ -187,6 +195,8 @@ any_phrase MoreEFields = node last_exp_field parts_of_MoreEFields end
 
 -- tokens that may follow a phrase of the class
 abbrev pub behind : Class → List Token
+behind Units = []
+behind OneUnit = []
 behind Binds = []
 behind Bind = []
 behind Decls = any_token (a_keyword KwEnd) ∷ []

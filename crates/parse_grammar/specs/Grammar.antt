@@ -26,7 +26,7 @@ abbrev pub kind_of : Token → Terminal
 kind_of t = terminal_of t.what
 
 pub data Class : Type 0 where
-  Binds Bind Decls Decl TypeOf K KArrow KA P Dots T TArrow TC TArgs TA TFields MoreTFields S SArrow Wheres SA M MArgs Seals MA E Lam Compare ES Sums EM Products EP Args EA Gets EB EFields MoreEFields : Class
+  Units OneUnit Binds Bind Decls Decl TypeOf K KArrow KA P Dots T TArrow TC TArgs TA TFields MoreTFields S SArrow Wheres SA M MArgs Seals MA E Lam Compare ES Sums EM Products EP Args EA Gets EB EFields MoreEFields : Class
 
 -- one token, or one phrase of a class
 pub data Symbol : Type 0 where
@@ -50,6 +50,8 @@ text = token a_text
 
 -- the productions of each class
 pub data Rule : Class → Type 0 where
+  no_units more_units : Rule Units
+  unit_module : Rule OneUnit
   no_binds more_binds : Rule Binds
   bind_val bind_type bind_module bind_signature bind_include : Rule Bind
   no_decls more_decls : Rule Decls
@@ -92,6 +94,9 @@ pub data Rule : Class → Type 0 where
 
 -- what stands right of each production
 abbrev pub rhs : {n : Class} → Rule n → List Symbol
+rhs no_units = []
+rhs more_units = phrase OneUnit ∷ phrase Units ∷ []
+rhs unit_module = keyword KwModule ∷ name ∷ mark Colon ∷ phrase S ∷ mark Equal ∷ keyword KwStruct ∷ phrase Binds ∷ keyword KwEnd ∷ []
 rhs no_binds = []
 rhs more_binds = phrase Bind ∷ phrase Binds ∷ []
 rhs bind_val = keyword KwVal ∷ name ∷ mark Equal ∷ phrase E ∷ []

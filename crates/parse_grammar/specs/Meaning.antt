@@ -4,13 +4,16 @@ use Rattle.fing_lexer.specs.declared.token.Token.{Token}
 use Rattle.omega_kinds.specs.Kind.{Star}
 use Rattle.fing_syntax.specs.Phrase as tree
 use Rattle.fing_syntax.specs.Phrase.{SpanName, Mod, SigEx, TyEx, TyExs, FieldTyExs, Exp, OpExps, FieldExps, ModAt, ModName, ModStruct, ModProject, ModFunctor, ModUnpack, BindAt, BindVal, BindTy, BindModule, BindSignature, BindInclude, NoBinds, MoreBinds, SigAt, PathSig, SigDecls, SigFun, DeclAt, DeclVal, DeclModule, DeclSignature, DeclInclude, NoDecls, MoreDecls, TyAt, PathTy, TyInt, TyBool, TyText, TyFields, TyAll, TyLam, TyPack, NoTys, MoreTys, NoFieldTys, MoreFieldTys, ExpAt, PathExp, ExpInt, ExpBool, ExpText, ExpFix, ExpIf, ExpFields, NoOps, MoreOps, ArgExp, ArgTy, NoArgs, MoreArgs, NoFieldExps, MoreFieldExps, Add, Sub, Mul, Div, Rem, Less, Equal}
+use Rattle.fing_syntax.specs.Units.{UnitTree, UnitAt}
 use Rattle.fing_syntax.specs.Place.{mod_span, sig_span, ty_span, exp_span, up_to}
-use Rattle.parse_grammar.specs.Grammar.{Class, Binds, Bind, Decls, Decl, TypeOf, K, KArrow, KA, P, Dots, T, TArrow, TC, TArgs, TA, TFields, MoreTFields, S, SArrow, Wheres, SA, M, MArgs, Seals, MA, E, Lam, Compare, ES, Sums, EM, Products, EP, Args, EA, Gets, EB, EFields, MoreEFields, Symbol, token, phrase, Rule, rhs, no_binds, more_binds, bind_val, bind_type, bind_module, bind_signature, bind_include, no_decls, more_decls, decl_val, decl_type, decl_module, decl_signature, decl_include, type_of_nothing, type_is, type_has, kind_chain, no_kind_arrow, kind_arrow, kind_type, kind_paren, path_name, path_from, no_dots, more_dots, ty_lam, ty_all, ty_chain, no_arrow, ty_arrow, ty_args, no_ty_args, more_ty_args, ty_int, ty_bool, ty_text, ty_path, ty_fields, ty_pack, ty_paren, no_ty_fields, ty_field, last_ty_field, next_ty_field, sig_fun, sig_where, generative, applicative, no_wheres, more_wheres, sig_path, sig_decls, sig_paren, mod_fun, mod_gen, mod_unpack, mod_chain, no_mod_args, more_mod_args, no_seals, seal, ascribe, mod_path, mod_struct, mod_let, mod_paren, exp_fun, exp_fix, exp_if, exp_compare, lam_value, lam_type, no_compare, less_than, equal_to, sums, no_sums, add, subtract, products, no_products, multiply, divide, remainder, exp_args, no_args, exp_arg, ty_arg, exp_gets, no_gets, more_gets, exp_number, exp_text, exp_true, exp_false, exp_path, exp_fields, exp_let, exp_pack, exp_paren, no_exp_fields, exp_field, last_exp_field, next_exp_field}
+use Rattle.parse_grammar.specs.Grammar.{Class, Units, OneUnit, Binds, Bind, Decls, Decl, TypeOf, K, KArrow, KA, P, Dots, T, TArrow, TC, TArgs, TA, TFields, MoreTFields, S, SArrow, Wheres, SA, M, MArgs, Seals, MA, E, Lam, Compare, ES, Sums, EM, Products, EP, Args, EA, Gets, EB, EFields, MoreEFields, Symbol, token, phrase, Rule, rhs, no_units, more_units, unit_module, no_binds, more_binds, bind_val, bind_type, bind_module, bind_signature, bind_include, no_decls, more_decls, decl_val, decl_type, decl_module, decl_signature, decl_include, type_of_nothing, type_is, type_has, kind_chain, no_kind_arrow, kind_arrow, kind_type, kind_paren, path_name, path_from, no_dots, more_dots, ty_lam, ty_all, ty_chain, no_arrow, ty_arrow, ty_args, no_ty_args, more_ty_args, ty_int, ty_bool, ty_text, ty_path, ty_fields, ty_pack, ty_paren, no_ty_fields, ty_field, last_ty_field, next_ty_field, sig_fun, sig_where, generative, applicative, no_wheres, more_wheres, sig_path, sig_decls, sig_paren, mod_fun, mod_gen, mod_unpack, mod_chain, no_mod_args, more_mod_args, no_seals, seal, ascribe, mod_path, mod_struct, mod_let, mod_paren, exp_fun, exp_fix, exp_if, exp_compare, lam_value, lam_type, no_compare, less_than, equal_to, sums, no_sums, add, subtract, products, no_products, multiply, divide, remainder, exp_args, no_args, exp_arg, ty_arg, exp_gets, no_gets, more_gets, exp_number, exp_text, exp_true, exp_false, exp_path, exp_fields, exp_let, exp_pack, exp_paren, no_exp_fields, exp_field, last_exp_field, next_exp_field}
 use Rattle.parse_grammar.specs.Parts.{at, bytes_in, number_in, named, Kinded, TypeTail, Open, Is, Has, Where, Ascription, Sealed, Shown, Abstraction, OfValue, OfType}
 use Rattle.parse_grammar.specs.Forms.{mod_at, sig_at, ty_at, exp_at, let_mod, let_exp, pack_exp, project_all, get_all, apply_all, ascribe_all, refine_all, ty_chain_of, ops_of, args_of, arrow_of, kind_arrow_of, decl_type_of, abstraction_of}
 
 -- what a phrase of each class gives
 abbrev pub Value : Class → Type 0
+Value Units = List UnitTree
+Value OneUnit = UnitTree
 Value Binds = tree.Binds
 Value Bind = tree.Bind
 Value Decls = tree.Decls
@@ -58,6 +61,9 @@ Values (phrase n ∷ ss) = Value n × Values ss
 
 -- the tree of a production, from those of its parts
 abbrev pub act : {n : Class} → (r : Rule n) → Values (rhs r) → Value n
+act no_units _ = []
+act more_units (u, (us, _)) = u ∷ us
+act unit_module (w, (x, (_, (g, (_, (s, (bs, (z, _)))))))) = UnitAt (up_to (at w) (at z)) (named x) g (ModAt (up_to (at s) (at z)) (ModStruct bs))
 act no_binds _ = NoBinds
 act more_binds (b, (bs, _)) = MoreBinds b bs
 act bind_val (w, (x, (_, (e, _)))) = BindAt (up_to (at w) (exp_span e)) (BindVal (named x) e)

@@ -1,6 +1,6 @@
 -- The classes from which a text may start, and what a refusal of a list of tokens says.
 use Rattle.std.specs.Prelude.{ℕ, ◌<◌, ◌≤◌, List, ◌++◌, length, take}
-use Rattle.parse_grammar.specs.Grammar.{Class, Binds}
+use Rattle.parse_grammar.specs.Grammar.{Class, Units, Binds}
 use Rattle.parse_grammar.specs.Meaning.{Value}
 use Rattle.fing_lexer.specs.declared.token.Token.{Token}
 use Rattle.parse_grammar.specs.Tree.{Phrase}
@@ -8,6 +8,7 @@ use Rattle.parse_grammar.specs.Tree.{Phrase}
 -- a text starts from this class
 pub data Start : Class → Type 0 where
   programs : Start Binds
+  units : Start Units
 
 -- the tokens of some phrase of the class begin with these
 pub record Begins (n : Class) (tokens : List Token) : Type 0 where

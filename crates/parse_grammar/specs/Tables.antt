@@ -2,7 +2,7 @@
 -- (FOLLOW), and which production a next token chooses (Aho, Lam, Sethi, Ullman, "Compilers", section 4.4).
 -- A next token is its number, and 0 stands for none.
 use Rattle.std.specs.Prelude.{ℕ, ◌||◌, Bool, true, false, eqb, List, [], ◌∷◌, Option, None, Some}
-use Rattle.parse_grammar.specs.Grammar.{Terminal, a_keyword, a_mark, a_name, a_number, a_text, Class, Binds, Bind, Decls, Decl, TypeOf, K, KArrow, KA, P, Dots, T, TArrow, TC, TArgs, TA, TFields, MoreTFields, S, SArrow, Wheres, SA, M, MArgs, Seals, MA, E, Lam, Compare, ES, Sums, EM, Products, EP, Args, EA, Gets, EB, EFields, MoreEFields, Rule, no_binds, more_binds, bind_val, bind_type, bind_module, bind_signature, bind_include, no_decls, more_decls, decl_val, decl_type, decl_module, decl_signature, decl_include, type_of_nothing, type_is, type_has, kind_chain, no_kind_arrow, kind_arrow, kind_type, kind_paren, path_name, path_from, no_dots, more_dots, ty_lam, ty_all, ty_chain, no_arrow, ty_arrow, ty_args, no_ty_args, more_ty_args, ty_int, ty_bool, ty_text, ty_path, ty_fields, ty_pack, ty_paren, no_ty_fields, ty_field, last_ty_field, next_ty_field, sig_fun, sig_where, generative, applicative, no_wheres, more_wheres, sig_path, sig_decls, sig_paren, mod_fun, mod_gen, mod_unpack, mod_chain, no_mod_args, more_mod_args, no_seals, seal, ascribe, mod_path, mod_struct, mod_let, mod_paren, exp_fun, exp_fix, exp_if, exp_compare, lam_value, lam_type, no_compare, less_than, equal_to, sums, no_sums, add, subtract, products, no_products, multiply, divide, remainder, exp_args, no_args, exp_arg, ty_arg, exp_gets, no_gets, more_gets, exp_number, exp_text, exp_true, exp_false, exp_path, exp_fields, exp_let, exp_pack, exp_paren, no_exp_fields, exp_field, last_exp_field, next_exp_field}
+use Rattle.parse_grammar.specs.Grammar.{Terminal, a_keyword, a_mark, a_name, a_number, a_text, Class, Units, OneUnit, Binds, Bind, Decls, Decl, TypeOf, K, KArrow, KA, P, Dots, T, TArrow, TC, TArgs, TA, TFields, MoreTFields, S, SArrow, Wheres, SA, M, MArgs, Seals, MA, E, Lam, Compare, ES, Sums, EM, Products, EP, Args, EA, Gets, EB, EFields, MoreEFields, Rule, no_units, more_units, unit_module, no_binds, more_binds, bind_val, bind_type, bind_module, bind_signature, bind_include, no_decls, more_decls, decl_val, decl_type, decl_module, decl_signature, decl_include, type_of_nothing, type_is, type_has, kind_chain, no_kind_arrow, kind_arrow, kind_type, kind_paren, path_name, path_from, no_dots, more_dots, ty_lam, ty_all, ty_chain, no_arrow, ty_arrow, ty_args, no_ty_args, more_ty_args, ty_int, ty_bool, ty_text, ty_path, ty_fields, ty_pack, ty_paren, no_ty_fields, ty_field, last_ty_field, next_ty_field, sig_fun, sig_where, generative, applicative, no_wheres, more_wheres, sig_path, sig_decls, sig_paren, mod_fun, mod_gen, mod_unpack, mod_chain, no_mod_args, more_mod_args, no_seals, seal, ascribe, mod_path, mod_struct, mod_let, mod_paren, exp_fun, exp_fix, exp_if, exp_compare, lam_value, lam_type, no_compare, less_than, equal_to, sums, no_sums, add, subtract, products, no_products, multiply, divide, remainder, exp_args, no_args, exp_arg, ty_arg, exp_gets, no_gets, more_gets, exp_number, exp_text, exp_true, exp_false, exp_path, exp_fields, exp_let, exp_pack, exp_paren, no_exp_fields, exp_field, last_exp_field, next_exp_field}
 use Rattle.fing_lexer.specs.declared.token.Word.TheVariants.{KwVal, KwType, KwModule, KwSignature, KwInclude, KwStruct, KwSig, KwEnd, KwLet, KwIn, KwFun, KwGen, KwFix, KwIf, KwThen, KwElse, KwPack, KwUnpack, KwFrom, KwWhere, KwTrue, KwFalse, KwInt, KwBool, KwText, KwKind, KwCase, KwOf, KwInj, KwData, KwRoll, KwUnroll}
 use Rattle.fing_lexer.specs.declared.token.Mark.TheVariants.{LeftParen, RightParen, LeftBrace, RightBrace, LeftBracket, RightBracket, Dot, Comma, Colon, Seal, Equal, DoubleArrow, Arrow, Hash, Plus, Minus, Star, Slash, Percent, Less, EqualEqual}
 
@@ -68,6 +68,8 @@ unfoldable pub terminals : List Terminal
 terminals = a_keyword KwVal ∷ a_keyword KwType ∷ a_keyword KwModule ∷ a_keyword KwSignature ∷ a_keyword KwInclude ∷ a_keyword KwStruct ∷ a_keyword KwSig ∷ a_keyword KwEnd ∷ a_keyword KwLet ∷ a_keyword KwIn ∷ a_keyword KwFun ∷ a_keyword KwGen ∷ a_keyword KwFix ∷ a_keyword KwIf ∷ a_keyword KwThen ∷ a_keyword KwElse ∷ a_keyword KwPack ∷ a_keyword KwUnpack ∷ a_keyword KwFrom ∷ a_keyword KwWhere ∷ a_keyword KwTrue ∷ a_keyword KwFalse ∷ a_keyword KwInt ∷ a_keyword KwBool ∷ a_keyword KwText ∷ a_keyword KwKind ∷ a_keyword KwCase ∷ a_keyword KwOf ∷ a_keyword KwInj ∷ a_keyword KwData ∷ a_keyword KwRoll ∷ a_keyword KwUnroll ∷ a_mark LeftParen ∷ a_mark RightParen ∷ a_mark LeftBrace ∷ a_mark RightBrace ∷ a_mark LeftBracket ∷ a_mark RightBracket ∷ a_mark Dot ∷ a_mark Comma ∷ a_mark Colon ∷ a_mark Seal ∷ a_mark Equal ∷ a_mark DoubleArrow ∷ a_mark Arrow ∷ a_mark Hash ∷ a_mark Plus ∷ a_mark Minus ∷ a_mark Star ∷ a_mark Slash ∷ a_mark Percent ∷ a_mark Less ∷ a_mark EqualEqual ∷ a_name ∷ a_number ∷ a_text ∷ []
 
 unfoldable pub can_be_empty : Class → Bool
+can_be_empty Units = true
+can_be_empty OneUnit = false
 can_be_empty Binds = true
 can_be_empty Bind = false
 can_be_empty Decls = true
@@ -109,6 +111,8 @@ can_be_empty EFields = true
 can_be_empty MoreEFields = true
 
 unfoldable pub firsts_of : Class → List ℕ
+firsts_of Units = 3 ∷ []
+firsts_of OneUnit = 3 ∷ []
 firsts_of Binds = 1 ∷ 2 ∷ 3 ∷ 4 ∷ 5 ∷ []
 firsts_of Bind = 1 ∷ 2 ∷ 3 ∷ 4 ∷ 5 ∷ []
 firsts_of Decls = 1 ∷ 2 ∷ 3 ∷ 4 ∷ 5 ∷ []
@@ -150,6 +154,8 @@ firsts_of EFields = 54 ∷ []
 firsts_of MoreEFields = 40 ∷ []
 
 unfoldable pub follow : Class → List ℕ
+follow Units = 0 ∷ []
+follow OneUnit = 0 ∷ 3 ∷ []
 follow Binds = 0 ∷ 8 ∷ 10 ∷ []
 follow Bind = 0 ∷ 1 ∷ 2 ∷ 3 ∷ 4 ∷ 5 ∷ 8 ∷ 10 ∷ []
 follow Decls = 8 ∷ []
@@ -158,19 +164,19 @@ follow TypeOf = 1 ∷ 2 ∷ 3 ∷ 4 ∷ 5 ∷ 8 ∷ []
 follow K = 1 ∷ 2 ∷ 3 ∷ 4 ∷ 5 ∷ 8 ∷ 34 ∷ 38 ∷ []
 follow KArrow = 1 ∷ 2 ∷ 3 ∷ 4 ∷ 5 ∷ 8 ∷ 34 ∷ 38 ∷ []
 follow KA = 1 ∷ 2 ∷ 3 ∷ 4 ∷ 5 ∷ 8 ∷ 34 ∷ 38 ∷ 45 ∷ []
-follow P = 0 ∷ 1 ∷ 2 ∷ 3 ∷ 4 ∷ 5 ∷ 6 ∷ 8 ∷ 9 ∷ 10 ∷ 15 ∷ 16 ∷ 17 ∷ 19 ∷ 20 ∷ 21 ∷ 22 ∷ 23 ∷ 24 ∷ 25 ∷ 33 ∷ 34 ∷ 35 ∷ 36 ∷ 37 ∷ 38 ∷ 40 ∷ 41 ∷ 42 ∷ 44 ∷ 45 ∷ 46 ∷ 47 ∷ 48 ∷ 49 ∷ 50 ∷ 51 ∷ 52 ∷ 53 ∷ 54 ∷ 55 ∷ 56 ∷ []
+follow P = 0 ∷ 1 ∷ 2 ∷ 3 ∷ 4 ∷ 5 ∷ 6 ∷ 8 ∷ 9 ∷ 10 ∷ 15 ∷ 16 ∷ 17 ∷ 19 ∷ 20 ∷ 21 ∷ 22 ∷ 23 ∷ 24 ∷ 25 ∷ 33 ∷ 34 ∷ 35 ∷ 36 ∷ 37 ∷ 38 ∷ 40 ∷ 41 ∷ 42 ∷ 43 ∷ 44 ∷ 45 ∷ 46 ∷ 47 ∷ 48 ∷ 49 ∷ 50 ∷ 51 ∷ 52 ∷ 53 ∷ 54 ∷ 55 ∷ 56 ∷ []
 follow Dots = 0 ∷ 1 ∷ 2 ∷ 3 ∷ 4 ∷ 5 ∷ 6 ∷ 8 ∷ 9 ∷ 10 ∷ 15 ∷ 16 ∷ 17 ∷ 19 ∷ 20 ∷ 21 ∷ 22 ∷ 23 ∷ 24 ∷ 25 ∷ 33 ∷ 34 ∷ 35 ∷ 36 ∷ 37 ∷ 38 ∷ 40 ∷ 41 ∷ 42 ∷ 43 ∷ 44 ∷ 45 ∷ 46 ∷ 47 ∷ 48 ∷ 49 ∷ 50 ∷ 51 ∷ 52 ∷ 53 ∷ 54 ∷ 55 ∷ 56 ∷ []
-follow T = 0 ∷ 1 ∷ 2 ∷ 3 ∷ 4 ∷ 5 ∷ 8 ∷ 10 ∷ 20 ∷ 34 ∷ 36 ∷ 38 ∷ 40 ∷ 41 ∷ 42 ∷ 44 ∷ []
-follow TArrow = 0 ∷ 1 ∷ 2 ∷ 3 ∷ 4 ∷ 5 ∷ 8 ∷ 10 ∷ 20 ∷ 34 ∷ 36 ∷ 38 ∷ 40 ∷ 41 ∷ 42 ∷ 44 ∷ []
-follow TC = 0 ∷ 1 ∷ 2 ∷ 3 ∷ 4 ∷ 5 ∷ 8 ∷ 10 ∷ 20 ∷ 34 ∷ 36 ∷ 38 ∷ 40 ∷ 41 ∷ 42 ∷ 44 ∷ 45 ∷ []
-follow TArgs = 0 ∷ 1 ∷ 2 ∷ 3 ∷ 4 ∷ 5 ∷ 8 ∷ 10 ∷ 20 ∷ 34 ∷ 36 ∷ 38 ∷ 40 ∷ 41 ∷ 42 ∷ 44 ∷ 45 ∷ []
-follow TA = 0 ∷ 1 ∷ 2 ∷ 3 ∷ 4 ∷ 5 ∷ 8 ∷ 10 ∷ 17 ∷ 19 ∷ 20 ∷ 23 ∷ 24 ∷ 25 ∷ 33 ∷ 34 ∷ 35 ∷ 36 ∷ 38 ∷ 40 ∷ 41 ∷ 42 ∷ 44 ∷ 45 ∷ 54 ∷ []
+follow T = 0 ∷ 1 ∷ 2 ∷ 3 ∷ 4 ∷ 5 ∷ 8 ∷ 10 ∷ 20 ∷ 34 ∷ 36 ∷ 38 ∷ 40 ∷ 41 ∷ 42 ∷ 43 ∷ 44 ∷ []
+follow TArrow = 0 ∷ 1 ∷ 2 ∷ 3 ∷ 4 ∷ 5 ∷ 8 ∷ 10 ∷ 20 ∷ 34 ∷ 36 ∷ 38 ∷ 40 ∷ 41 ∷ 42 ∷ 43 ∷ 44 ∷ []
+follow TC = 0 ∷ 1 ∷ 2 ∷ 3 ∷ 4 ∷ 5 ∷ 8 ∷ 10 ∷ 20 ∷ 34 ∷ 36 ∷ 38 ∷ 40 ∷ 41 ∷ 42 ∷ 43 ∷ 44 ∷ 45 ∷ []
+follow TArgs = 0 ∷ 1 ∷ 2 ∷ 3 ∷ 4 ∷ 5 ∷ 8 ∷ 10 ∷ 20 ∷ 34 ∷ 36 ∷ 38 ∷ 40 ∷ 41 ∷ 42 ∷ 43 ∷ 44 ∷ 45 ∷ []
+follow TA = 0 ∷ 1 ∷ 2 ∷ 3 ∷ 4 ∷ 5 ∷ 8 ∷ 10 ∷ 17 ∷ 19 ∷ 20 ∷ 23 ∷ 24 ∷ 25 ∷ 33 ∷ 34 ∷ 35 ∷ 36 ∷ 38 ∷ 40 ∷ 41 ∷ 42 ∷ 43 ∷ 44 ∷ 45 ∷ 54 ∷ []
 follow TFields = 36 ∷ []
 follow MoreTFields = 36 ∷ []
-follow S = 0 ∷ 1 ∷ 2 ∷ 3 ∷ 4 ∷ 5 ∷ 8 ∷ 10 ∷ 34 ∷ 41 ∷ 42 ∷ []
+follow S = 0 ∷ 1 ∷ 2 ∷ 3 ∷ 4 ∷ 5 ∷ 8 ∷ 10 ∷ 34 ∷ 41 ∷ 42 ∷ 43 ∷ []
 follow SArrow = 7 ∷ 11 ∷ 19 ∷ 33 ∷ 54 ∷ []
-follow Wheres = 0 ∷ 1 ∷ 2 ∷ 3 ∷ 4 ∷ 5 ∷ 8 ∷ 10 ∷ 34 ∷ 41 ∷ 42 ∷ []
-follow SA = 0 ∷ 1 ∷ 2 ∷ 3 ∷ 4 ∷ 5 ∷ 8 ∷ 9 ∷ 10 ∷ 15 ∷ 16 ∷ 17 ∷ 19 ∷ 20 ∷ 21 ∷ 22 ∷ 23 ∷ 24 ∷ 25 ∷ 33 ∷ 34 ∷ 35 ∷ 36 ∷ 37 ∷ 38 ∷ 40 ∷ 41 ∷ 42 ∷ 44 ∷ 45 ∷ 46 ∷ 47 ∷ 48 ∷ 49 ∷ 50 ∷ 51 ∷ 52 ∷ 53 ∷ 54 ∷ 55 ∷ 56 ∷ []
+follow Wheres = 0 ∷ 1 ∷ 2 ∷ 3 ∷ 4 ∷ 5 ∷ 8 ∷ 10 ∷ 34 ∷ 41 ∷ 42 ∷ 43 ∷ []
+follow SA = 0 ∷ 1 ∷ 2 ∷ 3 ∷ 4 ∷ 5 ∷ 8 ∷ 9 ∷ 10 ∷ 15 ∷ 16 ∷ 17 ∷ 19 ∷ 20 ∷ 21 ∷ 22 ∷ 23 ∷ 24 ∷ 25 ∷ 33 ∷ 34 ∷ 35 ∷ 36 ∷ 37 ∷ 38 ∷ 40 ∷ 41 ∷ 42 ∷ 43 ∷ 44 ∷ 45 ∷ 46 ∷ 47 ∷ 48 ∷ 49 ∷ 50 ∷ 51 ∷ 52 ∷ 53 ∷ 54 ∷ 55 ∷ 56 ∷ []
 follow M = 0 ∷ 1 ∷ 2 ∷ 3 ∷ 4 ∷ 5 ∷ 8 ∷ 10 ∷ 34 ∷ []
 follow MArgs = 0 ∷ 1 ∷ 2 ∷ 3 ∷ 4 ∷ 5 ∷ 8 ∷ 10 ∷ 34 ∷ 41 ∷ 42 ∷ []
 follow Seals = 0 ∷ 1 ∷ 2 ∷ 3 ∷ 4 ∷ 5 ∷ 8 ∷ 10 ∷ 34 ∷ []
@@ -196,6 +202,9 @@ is_in j (k ∷ ks) = eqb j k || is_in j ks
 
 -- the next tokens that choose a production
 unfoldable pub predicted : {n : Class} → Rule n → List ℕ
+predicted no_units = 0 ∷ []
+predicted more_units = 3 ∷ []
+predicted unit_module = 3 ∷ []
 predicted no_binds = 0 ∷ 8 ∷ 10 ∷ []
 predicted more_binds = 1 ∷ 2 ∷ 3 ∷ 4 ∷ 5 ∷ []
 predicted bind_val = 1 ∷ []
@@ -225,10 +234,10 @@ predicted more_dots = 39 ∷ []
 predicted ty_lam = 11 ∷ []
 predicted ty_all = 37 ∷ []
 predicted ty_chain = 17 ∷ 19 ∷ 23 ∷ 24 ∷ 25 ∷ 33 ∷ 35 ∷ 54 ∷ []
-predicted no_arrow = 0 ∷ 1 ∷ 2 ∷ 3 ∷ 4 ∷ 5 ∷ 8 ∷ 10 ∷ 20 ∷ 34 ∷ 36 ∷ 38 ∷ 40 ∷ 41 ∷ 42 ∷ 44 ∷ []
+predicted no_arrow = 0 ∷ 1 ∷ 2 ∷ 3 ∷ 4 ∷ 5 ∷ 8 ∷ 10 ∷ 20 ∷ 34 ∷ 36 ∷ 38 ∷ 40 ∷ 41 ∷ 42 ∷ 43 ∷ 44 ∷ []
 predicted ty_arrow = 45 ∷ []
 predicted ty_args = 17 ∷ 19 ∷ 23 ∷ 24 ∷ 25 ∷ 33 ∷ 35 ∷ 54 ∷ []
-predicted no_ty_args = 0 ∷ 1 ∷ 2 ∷ 3 ∷ 4 ∷ 5 ∷ 8 ∷ 10 ∷ 20 ∷ 34 ∷ 36 ∷ 38 ∷ 40 ∷ 41 ∷ 42 ∷ 44 ∷ 45 ∷ []
+predicted no_ty_args = 0 ∷ 1 ∷ 2 ∷ 3 ∷ 4 ∷ 5 ∷ 8 ∷ 10 ∷ 20 ∷ 34 ∷ 36 ∷ 38 ∷ 40 ∷ 41 ∷ 42 ∷ 43 ∷ 44 ∷ 45 ∷ []
 predicted more_ty_args = 17 ∷ 19 ∷ 23 ∷ 24 ∷ 25 ∷ 33 ∷ 35 ∷ 54 ∷ []
 predicted ty_int = 23 ∷ []
 predicted ty_bool = 24 ∷ []
@@ -245,7 +254,7 @@ predicted sig_fun = 11 ∷ []
 predicted sig_where = 7 ∷ 19 ∷ 33 ∷ 54 ∷ []
 predicted generative = 45 ∷ []
 predicted applicative = 44 ∷ []
-predicted no_wheres = 0 ∷ 1 ∷ 2 ∷ 3 ∷ 4 ∷ 5 ∷ 8 ∷ 10 ∷ 34 ∷ 41 ∷ 42 ∷ []
+predicted no_wheres = 0 ∷ 1 ∷ 2 ∷ 3 ∷ 4 ∷ 5 ∷ 8 ∷ 10 ∷ 34 ∷ 41 ∷ 42 ∷ 43 ∷ []
 predicted more_wheres = 20 ∷ []
 predicted sig_path = 19 ∷ 54 ∷ []
 predicted sig_decls = 7 ∷ []
@@ -308,6 +317,8 @@ or_else true r o = Some r
 or_else false r o = o
 
 unfoldable pub choose : (n : Class) → ℕ → Option (Rule n)
+choose Units j = or_else (is_in j (3 ∷ [])) more_units (Some no_units)
+choose OneUnit j = Some unit_module
 choose Binds j = or_else (is_in j (1 ∷ 2 ∷ 3 ∷ 4 ∷ 5 ∷ [])) more_binds (Some no_binds)
 choose Bind j = or_else (is_in j (1 ∷ [])) bind_val (or_else (is_in j (2 ∷ [])) bind_type (or_else (is_in j (3 ∷ [])) bind_module (or_else (is_in j (4 ∷ [])) bind_signature (or_else (is_in j (5 ∷ [])) bind_include (None)))))
 choose Decls j = or_else (is_in j (1 ∷ 2 ∷ 3 ∷ 4 ∷ 5 ∷ [])) more_decls (Some no_decls)
@@ -349,6 +360,8 @@ choose EFields j = or_else (is_in j (54 ∷ [])) exp_field (Some no_exp_fields)
 choose MoreEFields j = or_else (is_in j (40 ∷ [])) next_exp_field (Some last_exp_field)
 
 unfoldable pub rank : Class → ℕ
+rank Units = 1
+rank OneUnit = 0
 rank Binds = 1
 rank Bind = 0
 rank Decls = 1

@@ -11,6 +11,8 @@ use Rattle.parse_grammar.specs.declared.grammar.Symbol.{Symbol as SymbolIn}
 use Rattle.parse_grammar.specs.declared.grammar.Symbol.TheVariants as a_symbol
 use Rattle.parse_grammar.specs.declared.grammar.Rule.{Rule as RuleIn}
 use Rattle.parse_grammar.specs.declared.grammar.Rule.TheVariants as a_rule
+use Rattle.parse_grammar.specs.declared.grammar.UnitRule.{UnitRule as UnitRuleIn}
+use Rattle.parse_grammar.specs.declared.grammar.UnitRule.TheVariants as a_unitrule
 use Rattle.parse_grammar.specs.declared.grammar.BindRule.{BindRule as BindRuleIn}
 use Rattle.parse_grammar.specs.declared.grammar.BindRule.TheVariants as a_bindrule
 use Rattle.parse_grammar.specs.declared.grammar.DeclRule.{DeclRule as DeclRuleIn}
@@ -47,6 +49,8 @@ number_next None = 0
 number_next (Some t) = number_of (terminal_in t)
 
 abbrev pub class_in : ClassIn → the.Class
+class_in a_class.Units = the.Units
+class_in a_class.OneUnit = the.OneUnit
 class_in a_class.Binds = the.Binds
 class_in a_class.Bind = the.Bind
 class_in a_class.Decls = the.Decls
@@ -98,6 +102,11 @@ pub data Any : Type 0 where
 -- what stands right of it
 abbrev pub side_of : Any → List Symbol
 side_of (any r) = rhs r
+
+abbrev pub unit_rule_in : UnitRuleIn → Any
+unit_rule_in a_unitrule.NoUnits = any the.no_units
+unit_rule_in a_unitrule.MoreUnits = any the.more_units
+unit_rule_in a_unitrule.Module = any the.unit_module
 
 abbrev pub bind_rule_in : BindRuleIn → Any
 bind_rule_in a_bindrule.NoBinds = any the.no_binds
@@ -227,6 +236,7 @@ atom_rule_in a_atomrule.LastField = any the.last_exp_field
 atom_rule_in a_atomrule.NextField = any the.next_exp_field
 
 abbrev pub rule_in : RuleIn → Any
+rule_in (a_rule.OneUnit r) = unit_rule_in r
 rule_in (a_rule.Bind r) = bind_rule_in r
 rule_in (a_rule.Decl r) = decl_rule_in r
 rule_in (a_rule.Kind r) = kind_rule_in r
@@ -241,6 +251,8 @@ rule_in (a_rule.Atom r) = atom_rule_in r
 
 -- the production that a next token chooses
 abbrev pub chosen : ClassIn → ℕ → Option Any
+chosen a_class.Units j = option_map any (choose the.Units j)
+chosen a_class.OneUnit j = option_map any (choose the.OneUnit j)
 chosen a_class.Binds j = option_map any (choose the.Binds j)
 chosen a_class.Bind j = option_map any (choose the.Bind j)
 chosen a_class.Decls j = option_map any (choose the.Decls j)

@@ -8,7 +8,7 @@ ghost use Rattle.parse_grammar.specs.View.{terminal_in, number_next, rule_in, an
 
 use crate::grammar::{
     ArgRule, AtomRule, BindRule, Class, DeclRule, ExpRule, KindRule, ModRule, OpRule, PathRule,
-    Rule, SigRule, Terminal, TyRule,
+    Rule, SigRule, Terminal, TyRule, UnitRule,
 };
 use fing_lexer::{Mark, Token, What, Word};
 
@@ -89,6 +89,16 @@ fn begins_exp(next: Option<Terminal>) -> bool
         Some(Terminal::Mark(Mark::LeftParen | Mark::LeftBrace)) => true,
         Some(Terminal::Name | Terminal::Number | Terminal::Text) => true,
         _ => false,
+    }
+}
+
+#[tactic(auto, unfolding(crate::specs::Tables::number_of, crate::specs::Tables::choose))]
+fn units(next: Option<Terminal>) -> Option<Rule>
+    ensures { option_map rule_in result ≡ option_map any (choice the.Units (number_next next)) }
+{
+    match next {
+        Some(Terminal::Word(Word::KwModule)) => Some(Rule::OneUnit(UnitRule::MoreUnits)),
+        _ => Some(Rule::OneUnit(UnitRule::NoUnits)),
     }
 }
 
@@ -466,13 +476,15 @@ fn more_exp_fields(next: Option<Terminal>) -> Option<Rule>
 }
 
 /// The production that the table has for a phrase of the class before this terminal, or, for `None`, at the end. At each
-/// node of a program's tree it is the node's own (`one_choice`). Where no phrase of the class can begin, the table
+/// node of a text's tree it is the node's own (`one_choice`). Where no phrase of the class can begin, the table
 /// has none (`None`), or one whose first symbol the token does not begin.
 #[tactic(auto, unfolding(crate::specs::Tables::choose))]
 pub fn choose(class: Class, next: Option<Terminal>) -> Option<Rule>
     ensures { option_map rule_in result ≡ chosen class (number_next next) }
 {
     match class {
+        Class::Units => units(next),
+        Class::OneUnit => Some(Rule::OneUnit(UnitRule::Module)),
         Class::Binds => binds(next),
         Class::Bind => bind(next),
         Class::Decls => decls(next),

@@ -1,7 +1,8 @@
 // Laws of the grammar.
 ghost use Rattle.std.specs.Prelude.{◌≡◌, ℕ, List, [], ◌∷◌, ◌⊎◌};
 ghost use Rattle.fing_lexer.specs.declared.token.Token.{Token};
-ghost use Rattle.parse_grammar.specs.Grammar.{Class, phrase};
+ghost use Rattle.fing_syntax.specs.Units.{UnitTree};
+ghost use Rattle.parse_grammar.specs.Grammar.{Class, Units, phrase};
 ghost use Rattle.parse_grammar.specs.Meaning.{Value};
 ghost use Rattle.parse_grammar.specs.Tree.{Phrase, Trees};
 ghost use Rattle.parse_grammar.specs.Choosing.{Chosen};
@@ -10,6 +11,11 @@ ghost use Rattle.parse_grammar.specs.Program.{Farthest, Refused, Start};
 /// A list of tokens is a phrase of a class in at most one way.
 pub fn one_tree()
     ensures { (n : Class) (tokens : List Token) (u v : Value n) → Phrase n tokens u → Phrase n tokens v → u ≡ v }
+{}
+
+/// A list of tokens is a list of separate units in at most one way.
+pub fn one_unit_list()
+    ensures { (tokens : List Token) (u v : List UnitTree) → Phrase Units tokens u → Phrase Units tokens v → u ≡ v }
 {}
 
 /// A list of tokens is a phrase of a start class, or it is none and has a longest front that begins such a phrase.

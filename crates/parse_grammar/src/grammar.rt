@@ -14,6 +14,8 @@ pub enum Terminal {
 /// A class of phrases. An atom needs no parentheses where it stands beside other phrases.
 #[derive(Clone, Copy)]
 pub enum Class {
+    Units,
+    OneUnit,
     Binds,
     Bind,
     Decls,
@@ -53,6 +55,14 @@ pub enum Class {
     ExpAtom,
     ExpFields,
     MoreExpFields,
+}
+
+/// A production of separate units.
+#[derive(Clone, Copy)]
+pub enum UnitRule {
+    NoUnits,
+    MoreUnits,
+    Module,
 }
 
 /// A production of bindings.
@@ -218,6 +228,7 @@ pub enum AtomRule {
 /// A production of the grammar.
 #[derive(Clone, Copy)]
 pub enum Rule {
+    OneUnit(UnitRule),
     Bind(BindRule),
     Decl(DeclRule),
     Kind(KindRule),

@@ -14,6 +14,7 @@ use crate::grammar::{Class, Rule, Symbol, Terminal};
 use crate::refusal::ParseRefusal;
 use crate::sides::right_side;
 use fing_lexer::Token;
+use fing_text::SOURCE_LIMIT;
 use omega_kinds::Mem;
 use std::alloc::Global;
 
@@ -84,16 +85,16 @@ fn want(stack: &mut Vec<Symbol>, step: Step<'_>) -> Result<(), Mem>
     }
 }
 
-/// The steps in which the tokens, of which there are at most 1,048,576, are read as a phrase of the start class. They come
-/// in the order of reading: a production stands before the steps of its parts. `Syntax` comes exactly where the tokens are
-/// no such phrase. Its `at` is the number of tokens in their longest front that begins one. `Mem` is want of memory.
+/// The steps in which the tokens, of which there are at most `SOURCE_LIMIT`, are read as a phrase of the start class. They
+/// come in the order of reading: a production stands before the steps of its parts. `Syntax` comes exactly where the tokens
+/// are no such phrase. Its `at` is the number of tokens in their longest front that begins one. `Mem` is want of memory.
 pub fn recognise<'a>(
     alloc: Global,
     start: Class,
     tokens: &'a [Token],
 ) -> Result<Vec<Step<'a>>, ParseRefusal>
     requires start { Start (class_in start) }
-    requires size { length tokens.now ≤ 1048576 }
+    requires size { length tokens.now ≤ SOURCE_LIMIT }
     ensures steps { IfOk result (λ v. (d : Trees (phrase (class_in start) ∷ [])) × (spelling d ≡ tokens.now) × (track d [] ≡ moves v.items)) }
     ensures refused { IfErr result (λ e. Refuses (class_in start) tokens.now e) }
 {

@@ -9,7 +9,7 @@ use thiserror::Error;
 #[derive(Clone, Copy, Debug, PartialEq, Eq, Error)]
 pub enum ParseRefusal {
     /// The tokens are no phrase of the start class: the longest front of them that begins one has `at` tokens.
-    #[error("no program goes on behind {at} tokens")]
+    #[error("no such text goes on behind {at} tokens")]
     Syntax { at: u32 },
     /// Want of memory.
     #[error("out of memory")]

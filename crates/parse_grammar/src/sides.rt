@@ -1,11 +1,11 @@
 // What stands right of each production.
 ghost use Rattle.std.specs.Prelude.{◌≡◌, map};
-ghost use Rattle.parse_grammar.specs.View.{symbol_in, side_of, rule_in, bind_rule_in, decl_rule_in, kind_rule_in, path_rule_in, ty_rule_in, sig_rule_in, mod_rule_in, exp_rule_in, op_rule_in, arg_rule_in, atom_rule_in};
+ghost use Rattle.parse_grammar.specs.View.{symbol_in, side_of, rule_in, unit_rule_in, bind_rule_in, decl_rule_in, kind_rule_in, path_rule_in, ty_rule_in, sig_rule_in, mod_rule_in, exp_rule_in, op_rule_in, arg_rule_in, atom_rule_in};
 
 use crate::grammar::Symbol::Phrase;
 use crate::grammar::{
     ArgRule, AtomRule, BindRule, Class, DeclRule, ExpRule, KindRule, ModRule, OpRule, PathRule,
-    Rule, SigRule, Symbol, Terminal, TyRule,
+    Rule, SigRule, Symbol, Terminal, TyRule, UnitRule,
 };
 use fing_lexer::{Mark, Word};
 
@@ -108,6 +108,25 @@ const HASH: Symbol = Symbol::Token(Terminal::Mark(Mark::Hash));
 const KW_TRUE: Symbol = Symbol::Token(Terminal::Word(Word::KwTrue));
 
 const KW_FALSE: Symbol = Symbol::Token(Terminal::Word(Word::KwFalse));
+
+fn unit_side(rule: UnitRule) -> &'static [Symbol]
+    ensures { map symbol_in result.now ≡ side_of (unit_rule_in rule) }
+{
+    match rule {
+        UnitRule::NoUnits => &[],
+        UnitRule::MoreUnits => &[Phrase(Class::OneUnit), Phrase(Class::Units)],
+        UnitRule::Module => &[
+            KW_MODULE,
+            NAME,
+            COLON,
+            Phrase(Class::Sig),
+            EQUAL,
+            KW_STRUCT,
+            Phrase(Class::Binds),
+            KW_END,
+        ],
+    }
+}
 
 fn bind_side(rule: BindRule) -> &'static [Symbol]
     ensures { map symbol_in result.now ≡ side_of (bind_rule_in rule) }
@@ -439,6 +458,7 @@ pub fn right_side(rule: Rule) -> &'static [Symbol]
     ensures { map symbol_in result.now ≡ side_of (rule_in rule) }
 {
     match rule {
+        Rule::OneUnit(rule) => unit_side(rule),
         Rule::Bind(rule) => bind_side(rule),
         Rule::Decl(rule) => decl_side(rule),
         Rule::Kind(rule) => kind_side(rule),

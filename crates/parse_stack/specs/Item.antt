@@ -3,12 +3,15 @@ use Rattle.std.specs.Prelude.{Bool, List, Option, None, Some}
 use Rattle.fing_lexer.specs.declared.token.Token.{Token}
 use Rattle.fing_syntax.specs.Phrase as tree
 use Rattle.fing_syntax.specs.Phrase.{SpanName, Mod, SigEx, TyEx, TyExs, FieldTyExs, Exp, OpExps, FieldExps}
+use Rattle.fing_syntax.specs.Units.{UnitTree}
 use Rattle.parse_grammar.specs.Parts.{Kinded, TypeTail, Where, Ascription, Abstraction}
-use Rattle.parse_grammar.specs.Grammar.{Class, Binds, Bind, Decls, Decl, TypeOf, K, KArrow, KA, P, Dots, T, TArrow, TC, TArgs, TA, TFields, MoreTFields, S, SArrow, Wheres, SA, M, MArgs, Seals, MA, E, Lam, Compare, ES, Sums, EM, Products, EP, Args, EA, Gets, EB, EFields, MoreEFields}
+use Rattle.parse_grammar.specs.Grammar.{Class, Units, OneUnit, Binds, Bind, Decls, Decl, TypeOf, K, KArrow, KA, P, Dots, T, TArrow, TC, TArgs, TA, TFields, MoreTFields, S, SArrow, Wheres, SA, M, MArgs, Seals, MA, E, Lam, Compare, ES, Sums, EM, Products, EP, Args, EA, Gets, EB, EFields, MoreEFields}
 use Rattle.parse_grammar.specs.Meaning.{Value}
 
 pub data Item : Type 0 where
   TokenItem : Token → Item
+  UnitsItem : List UnitTree → Item
+  OneUnitItem : UnitTree → Item
   BindsItem : tree.Binds → Item
   BindItem : tree.Bind → Item
   DeclsItem : tree.Decls → Item
@@ -35,6 +38,8 @@ pub data Item : Type 0 where
 
 -- what a phrase gives, as an item
 abbrev pub item : (n : Class) → Value n → Item
+item Units v = UnitsItem v
+item OneUnit v = OneUnitItem v
 item Binds v = BindsItem v
 item Bind v = BindItem v
 item Decls v = DeclsItem v
@@ -79,6 +84,14 @@ item MoreEFields v = FieldExpsItem v
 abbrev pub as_token : Item → Option Token
 as_token (TokenItem v) = Some v
 as_token _ = None
+
+abbrev pub as_units : Item → Option (List UnitTree)
+as_units (UnitsItem v) = Some v
+as_units _ = None
+
+abbrev pub as_one_unit : Item → Option UnitTree
+as_one_unit (OneUnitItem v) = Some v
+as_one_unit _ = None
 
 abbrev pub as_binds : Item → Option tree.Binds
 as_binds (BindsItem v) = Some v
@@ -173,6 +186,8 @@ as_field_exps (FieldExpsItem v) = Some v
 as_field_exps _ = None
 
 abbrev pub as_value : (n : Class) → Item → Option (Value n)
+as_value Units i = as_units i
+as_value OneUnit i = as_one_unit i
 as_value Binds i = as_binds i
 as_value Bind i = as_bind i
 as_value Decls i = as_decls i

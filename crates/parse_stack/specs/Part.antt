@@ -6,10 +6,12 @@ use Rattle.parse_forms.specs.Part.{kind_in, tail_in, where_in, ascription_in, ab
 use Rattle.parse_stack.specs.declared.part.Part.{Part}
 use Rattle.parse_stack.specs.declared.part.Part.TheVariants as a_part
 use Rattle.parse_stack.specs.declared.stack.Stack.{Stack}
-use Rattle.parse_stack.specs.Item.{Item, TokenItem, BindsItem, BindItem, DeclsItem, DeclItem, TailItem, KindItem, KindArrowItem, ModItem, NamesItem, TyItem, TyArrowItem, TysItem, FieldTysItem, SigItem, PureItem, WheresItem, ModsItem, AscriptionsItem, ExpItem, AbstractionItem, OpsItem, ArgsItem, FieldExpsItem}
+use Rattle.parse_stack.specs.Item.{Item, TokenItem, UnitsItem, OneUnitItem, BindsItem, BindItem, DeclsItem, DeclItem, TailItem, KindItem, KindArrowItem, ModItem, NamesItem, TyItem, TyArrowItem, TysItem, FieldTysItem, SigItem, PureItem, WheresItem, ModsItem, AscriptionsItem, ExpItem, AbstractionItem, OpsItem, ArgsItem, FieldExpsItem}
 
 abbrev pub part_in : Part → Item
 part_in (a_part.Token t) = TokenItem t.now
+part_in (a_part.Units v) = UnitsItem (reverse v.items)
+part_in (a_part.OneUnit v) = OneUnitItem v
 part_in (a_part.Binds v) = BindsItem (binds (reverse v.items))
 part_in (a_part.Bind v) = BindItem v
 part_in (a_part.Decls v) = DeclsItem (decls (reverse v.items))

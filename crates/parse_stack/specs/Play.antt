@@ -1,12 +1,11 @@
 -- Moves played from the last to the first: a token is put on the stack, and a production takes its parts off
 -- and puts what it gives in their place.
 use Rattle.std.specs.Prelude.{List, [], ◌∷◌, Option, None, Some, option_map}
-use Rattle.fing_syntax.specs.Phrase as tree
 use Rattle.parse_grammar.specs.Grammar.{Class, Symbol, token, phrase, Rule, rhs}
-use Rattle.parse_grammar.specs.Meaning.{Values, act}
+use Rattle.parse_grammar.specs.Meaning.{Value, Values, act}
 use Rattle.parse_grammar.specs.Moves.{Move, shift, by}
 use Rattle.parse_grammar.specs.View.{Any, any}
-use Rattle.parse_stack.specs.Item.{Item, TokenItem, item, as_token, as_binds, as_value}
+use Rattle.parse_stack.specs.Item.{Item, TokenItem, item, as_token, as_value}
 
 abbrev pub and_then : {A B : Type 0} → Option A → (A → Option B) → Option B
 and_then None f = None
@@ -42,6 +41,6 @@ abbrev pub play_all : List Move → List Item → Option (List Item)
 play_all [] is = Some is
 play_all (m ∷ ms) is = and_then (play m is) (λ js. play_all ms js)
 
--- the program that the moves make, the last one first
-abbrev pub told : List Move → Option tree.Binds
-told ms = and_then (play_all ms []) (λ is. option_map (λ p. p.0) (top as_binds is))
+-- what the moves, the last one first, make of a class: nothing where no phrase of the class stands on top at last
+abbrev pub told : (n : Class) → List Move → Option (Value n)
+told n ms = and_then (play_all ms []) (λ is. option_map (λ p. p.0) (top (as_value n) is))

@@ -1,12 +1,14 @@
 // What stands on the parser's stack. A list that grows is kept with its first item last.
 use fing_lexer::Token;
-use fing_syntax::{Arg, Bind, Decl, Exp, Mod, Op, SigEx, SpanName, TyEx};
+use fing_syntax::{Arg, Bind, Decl, Exp, Mod, Op, SigEx, SpanName, TyEx, UnitTree};
 use parse_forms::{Abstraction, Ascription, KindPart, TypeTail, Where};
 
 /// A token, or what a phrase of some class gives.
 #[derive(Drop)]
 pub enum Part<'a> {
     Token(&'a Token),
+    Units(Vec<UnitTree>),
+    OneUnit(UnitTree),
     Binds(Vec<Bind>),
     Bind(Bind),
     Decls(Vec<Decl>),
