@@ -1,0 +1,4 @@
+pub mod Claims
+pub mod Derived
+pub mod Sealing
+pub mod Units
