@@ -128,14 +128,26 @@ fn refused_units(rt: HostRuntime) -> Result<(), Fail> {
 const REASONS: [(&str, &str); 22] = [
     ("val y = z + 1", "refused 68-69 Unbound z\n"),
     ("val x = 1 val y = x.z", "refused 80-81 NotStructure\n"),
-    ("module M = struct end val y = M.z", "refused 92-93 NoPart z\n"),
-    ("module A = struct end module B = A A", "refused 93-94 NotFunctor\n"),
-    ("module A = struct end type t = A", "refused 91-92 WrongPath\n"),
+    (
+        "module M = struct end val y = M.z",
+        "refused 92-93 NoPart z\n",
+    ),
+    (
+        "module A = struct end module B = A A",
+        "refused 93-94 NotFunctor\n",
+    ),
+    (
+        "module A = struct end type t = A",
+        "refused 91-92 WrongPath\n",
+    ),
     (
         "val y = from (struct type t = Int val x = 1 end :> sig type t val x : t end).x",
         "refused 68-138 Escapes\n",
     ),
-    ("module M = struct end :> sig type t end", "refused 85-99 NoRoot 0 t\n"),
+    (
+        "module M = struct end :> sig type t end",
+        "refused 85-99 NoRoot 0 t\n",
+    ),
     (
         "module M = struct type x = Int end :> sig val x : Int end",
         "refused 98-117 Clash x Form\n",
@@ -171,21 +183,19 @@ const REASONS: [(&str, &str); 22] = [
         "signature S = sig type t = Int end where type t = Bool",
         "refused 106-107 NotAbstract t\n",
     ),
-    ("signature S = sig end where type t = Bool", "refused 93-94 NoPart t\n"),
+    (
+        "signature S = sig end where type t = Bool",
+        "refused 93-94 NoPart t\n",
+    ),
 ];
 
 #[test]
 fn each_reason_in_a_second_unit(rt: HostRuntime) -> Result<(), Fail> {
     for (binding, line) in &REASONS {
-        let text = format!(in rt.alloc(); "module Z : sig end = struct end module Y : sig end = struct {binding} end")?;
-        replies(
-            &rt,
-            rt.alloc(),
-            &["link"],
-            &text,
-            Status::Refused,
-            line,
+        let text = format!(in rt.alloc();
+            "module Z : sig end = struct end module Y : sig end = struct {binding} end"
         )?;
+        replies(&rt, rt.alloc(), &["link"], &text, Status::Refused, line)?;
     }
     Ok(())
 }
@@ -217,10 +227,7 @@ const OTHER: [(&str, &str); 12] = [
         "module A : sig end = struct end :> sig end",
         "refused Syntax 8\n",
     ),
-    (
-        "module A.B : sig end = struct end",
-        "refused Syntax 2\n",
-    ),
+    ("module A.B : sig end = struct end", "refused Syntax 2\n"),
     (
         "module A : sig end = struct module end",
         "refused Syntax 8\n",
@@ -253,8 +260,12 @@ fn many(alloc: Global, count: u32) -> Result<(String, String), Fail> {
     let mut program = String::new(alloc);
     let mut value = "1".to_string(alloc)?;
     for n in 0..count {
-        let unit = format!(in alloc; "module U{n} : sig val x : Int end = struct val x = {value} end\n")?;
-        let binding = format!(in alloc; "module U{n} = struct val x = {value} end :> sig val x : Int end\n")?;
+        let unit = format!(in alloc;
+            "module U{n} : sig val x : Int end = struct val x = {value} end\n"
+        )?;
+        let binding = format!(in alloc;
+            "module U{n} = struct val x = {value} end :> sig val x : Int end\n"
+        )?;
         units.push_str(&unit)?;
         program.push_str(&binding)?;
         value = format!(in alloc; "U{n}.x")?;

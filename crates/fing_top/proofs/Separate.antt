@@ -72,7 +72,7 @@ unit_refused g h u e same s =
     says (e ≡ want_of_memory) (UnitIsRefused g u) (UnitRefused h u) (plain_refusal e) (λ r q. subst (λ (k : Env). UnitRefused k u r) same q.refused) s
 
 pub is_next : (g : Env) (under own : List Interface) (name : Name) (u : UnitTree) (m : CodeModule) → g ≡ env_of under → own ≡ under → name ≡ unit_name u → MeansUnit g u (module_of m)
-    → IsNext under u (record { under = own; name = name; module = m })
+    → IsNext under u (record { under = own; name = name; «module» = m })
 is_next g under own name u m same stands named h = record {
   stands = stands;
   name = named;

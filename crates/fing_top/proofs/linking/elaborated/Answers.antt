@@ -20,9 +20,10 @@ loop-unit-preserved c =
     let ms = units_of c.loop-unit.made.items in
     let next = c.in_ok-next.next in
     let back = more_made c.loop-unit.made.items c.add.new.made.items next c.in_ok-add.ensures.made in
-    let more = one_more c.args.units.now c.loop-unit.unit-index c.unit-item.result ms c.loop-unit.under next c.loop-unit-test.true c.unit-item.is c.loop-unit.invariant.0 c.loop-unit.invariant.1 c.in_ok-next.ensures.means in
-    (subst (λ (vs : List UnitModule). UnitsMean [] (take (c.loop-unit.unit-index + 1) c.args.units.now) vs) (sym back) more,
-    more_under ms c.loop-unit.under c.add.new.under (unit_of next) c.loop-unit.invariant.1 c.in_ok-add.ensures.under ∙ ap (map interface_of) (sym back))
+    let more = one_more c.args.units.now c.loop-unit.unit-index c.unit-item.result ms c.loop-unit.under next c.loop-unit-test.true c.unit-item.is c.loop-unit.invariant.0 c.loop-unit.invariant.1 c.in_ok-next.ensures.means in (
+      subst (λ (vs : List UnitModule). UnitsMean [] (take (c.loop-unit.unit-index + 1) c.args.units.now) vs) (sym back) more,
+      more_under ms c.loop-unit.under c.add.new.under (unit_of next) c.loop-unit.invariant.1 c.in_ok-add.ensures.under ∙ ap (map interface_of) (sym back),
+    )
 
 pub returns-clause-means : goal.returns-clause-means
 returns-clause-means c = all_units c.args.units.now c.loop-unit.unit-index _ c.loop-unit-test.false c.loop-unit.invariant.0
