@@ -31,8 +31,8 @@ enum fing_status {
 
 /* Answers a command for a source.
  *
- * words   UTF-8, with one word of the command line on each line: "check", "emit", "verify", "run", "run\n--budget\n100"
- *         or "gen\n10". What follows the last line feed is a word unless it is empty; a carriage return before a line
+ * words   UTF-8, with one word of the command line on each line: "check", "emit", "emit\n--simplify", "link", "verify",
+ *         "run", "run\n--budget\n100" or "gen\n10". What follows the last line feed is a word unless it is empty; a carriage return before a line
  *         feed belongs to the line's end.
  * source  What the program `fing` reads from standard input: any bytes. No zero byte ends them. `gen` does not look at
  *         them.

@@ -9,6 +9,6 @@ Refusal(status=<Status.REFUSED: 1>, text='refused 8-9 Unbound y\\n', reason='Unb
 Each call answers as the program `fing` does. It needs 8 MiB of stack, which the main thread has by default; for other
 threads call `threading.stack_size(8 << 20)` before they start.
 """
-from ._replies import Refusal, Reply, Status, check, emit, reply, run, verify
+from ._replies import Refusal, Reply, Status, check, emit, link, reply, run, verify
 
-__all__ = ["Refusal", "Reply", "Status", "check", "emit", "reply", "run", "verify"]
+__all__ = ["Refusal", "Reply", "Status", "check", "emit", "link", "reply", "run", "verify"]

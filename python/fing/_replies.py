@@ -131,15 +131,30 @@ def check(source: Source) -> Reply:
     return reply(["check"], source)
 
 
-def emit(source: Source) -> Reply:
+def emit(source: Source, simplify: bool = False) -> Reply:
     """The type and the term of System Fω that a program is compiled to, as Omega text, or its refusal.
+
+    With `simplify` the term is without the calls of functions that give their argument back.
 
     >>> print(emit("val x = 1").text, end="")
     omega 2
     (rec (x (rec (.val int))))
     (call (fn (rec (.val int)) (rec (x x0))) (rec (.val 1)))
     """
-    return reply(["emit"], source)
+    return reply(["emit", "--simplify"] if simplify else ["emit"], source)
+
+
+def link(units: Source) -> Reply:
+    """The type and the term of System Fω that separate units link to, as Omega text, or the first refusal.
+
+    Each unit is `module X : S = struct .. end`, and sees those before it through their signatures alone.
+
+    >>> print(link("").text, end="")
+    omega 2
+    (rec)
+    (rec)
+    """
+    return reply(["link"], units)
 
 
 def run(source: Source, budget: int = 1_000_000) -> Reply:

@@ -99,13 +99,15 @@ module _ (words : List (List ℕ)) (source : List ℕ) (room : ℕ) (written : L
   pub returned_source : (c : CommandLine) (answer : Status) → ((size : ℕ) → c ≡ command.Gen size → ⊥) → length source ≤ limit → Replied c source room written answer → IsCommandLine words c → Returns words source room written answer
   returned_source (command.Gen size) answer reads within r line = absurd (reads size refl)
   returned_source command.Check answer reads within r line = returned command.Check source answer line (refl, within) r
-  returned_source command.Emit answer reads within r line = returned command.Emit source answer line (refl, within) r
+  returned_source (command.Emit simplify) answer reads within r line = returned (command.Emit simplify) source answer line (refl, within) r
   returned_source (command.Run budget) answer reads within r line = returned (command.Run budget) source answer line (refl, within) r
   returned_source command.Verify answer reads within r line = returned command.Verify source answer line (refl, within) r
+  returned_source command.Link answer reads within r line = returned command.Link source answer line (refl, within) r
 
   pub too_long : (c : CommandLine) → ((size : ℕ) → c ≡ command.Gen size → ⊥) → limit < length source → written ≡ [] → IsCommandLine words c → Returns words source room written status.TooLong
   too_long (command.Gen size) reads over none line = absurd (reads size refl)
   too_long command.Check reads over none line = ((command.Check, line, tt), over, none)
-  too_long command.Emit reads over none line = ((command.Emit, line, tt), over, none)
+  too_long (command.Emit simplify) reads over none line = ((command.Emit simplify, line, tt), over, none)
   too_long (command.Run budget) reads over none line = ((command.Run budget, line, tt), over, none)
   too_long command.Verify reads over none line = ((command.Verify, line, tt), over, none)
+  too_long command.Link reads over none line = ((command.Link, line, tt), over, none)

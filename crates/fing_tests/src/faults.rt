@@ -8,7 +8,7 @@ use std::test::Fail;
 const SUM: &[u8] = b"val x = 1 + 2";
 
 // Words that are no command line.
-const OTHER: [&[&str]; 12] = [
+const OTHER: [&[&str]; 19] = [
     &[],
     &["gen"],
     &["gen", "0"],
@@ -21,6 +21,13 @@ const OTHER: [&[&str]; 12] = [
     &["Emit"],
     &["verify", "1"],
     &["emit", "verify"],
+    &["check", "--simplify"],
+    &["run", "--simplify"],
+    &["verify", "--simplify"],
+    &["gen", "1", "--simplify"],
+    &["link", "--simplify"],
+    &["link", "1"],
+    &["link", "--budget", "1"],
 ];
 
 #[test]

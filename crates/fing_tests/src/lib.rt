@@ -18,6 +18,8 @@ mod generated;
 #[cfg(test)]
 mod heights;
 #[cfg(test)]
+mod link;
+#[cfg(test)]
 mod outcomes;
 #[cfg(test)]
 mod phrases;
@@ -27,6 +29,8 @@ mod reasons;
 mod runs;
 #[cfg(test)]
 mod sets;
+#[cfg(test)]
+mod simplify;
 #[cfg(test)]
 mod spelling;
 #[cfg(test)]

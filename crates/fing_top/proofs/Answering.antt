@@ -1,6 +1,6 @@
 -- What is compiled and what is verified is replied, and a source whose bytes are known is answered by its one reply.
-use Rattle.std.proofs.Common.{◌≡◌, ◌⊎◌, inl, inr, ℕ, ◌+◌, ◌≤◌, List, [], ◌∷◌, ◌++◌, length, Option, Some, None, Ok, Err, Result, arith, refl, sym, ap, subst, ◌∙◌}
-use Rattle.std.specs.Prelude.{MatchOption, MatchResult, codes}
+use Rattle.std.proofs.Common.{◌≡◌, ◌⊎◌, inl, inr, ℕ, ◌+◌, ◌≤◌, Bool, true, false, List, [], ◌∷◌, ◌++◌, length, Option, Some, None, Ok, Err, Result, arith, refl, sym, ap, subst, ◌∙◌}
+use Rattle.std.specs.Prelude.{IfErr, IfOk, MatchOption, MatchResult, codes}
 use Rattle.std.specs.Io.KnownBytes.{Consumes, IsAtEnd}
 use Rattle.std.proofs.lemmas.List.{append-nil}
 use Rattle.fing_text.specs.Told.{Told}
@@ -24,7 +24,6 @@ use Rattle.fing_lexer.proofs.Slices.{sliced}
 use Rattle.fing_syntax.specs.Phrase.{Binds as Program}
 use Rattle.parse_grammar.specs.declared.refusal.ParseRefusal.{ParseRefusal}
 use Rattle.parse_grammar.specs.declared.refusal.ParseRefusal.TheVariants as parse
-use Rattle.parse_grammar.specs.Grammar.{Binds}
 use Rattle.parse_grammar.specs.Refusal.{Refuses as TokensRefuse}
 use Rattle.fing_words.specs.CommandLines.{IsCommandLine}
 use Rattle.fing_words.specs.declared.command_line.CommandLine.{CommandLine}
@@ -35,22 +34,24 @@ use Rattle.fing_refusals.specs.InScope.{HasLine as RefusalHasLine}
 use Rattle.fing_refusals.specs.Line.{line_of as program_line}
 use Rattle.fing_refusals.specs.Plain.{Says, plain_refusal, want_of_memory}
 use Rattle.fing_refusals.specs.declared.refusal.Refusal.{Refusal}
+use Rattle.elab_judgments.specs.Judgments.Program.{ProgramRefused}
 use Rattle.fing_elab.specs.Exactly.{Means, IsRefused as MeansNothing}
 use Rattle.fing_elab.specs.declared.whole.Elaborated.{Elaborated}
-use Rattle.fing_top.specs.Compiled.{meaning_of, IsCompiled, IsRefused}
+use Rattle.fing_top.specs.Compiled.{meaning_of, IsCompiled, IsConfirmed, IsEmission, IsRefused}
 use Rattle.omega_machine.specs.Outcomes.{fault_of, Tells as Ends}
 use Rattle.omega_terms.specs.ValueText.{value_text}
 use Rattle.omega_machine.specs.declared.outcome.End.{End}
 use Rattle.omega_machine.specs.declared.outcome.End.TheVariants as ending
 use Rattle.fing_top.specs.Counts.{bind_count, node_count, counts_line}
 use Rattle.fing_top.specs.Ending.{ending_status, ending_text, counted_text}
-use Rattle.fing_top.specs.Meaning.{Spells, BytesRefusal, BytesRefused}
-use Rattle.fing_top.specs.Refusing.{untokened, unparsed, numbered}
+use Rattle.fing_top.specs.Meaning.{Form, one_program, separate_units, class_of, Spells, BytesRefusal, BytesRefused}
+use Rattle.fing_top.specs.Refusing.{untokened, unparsed, numbered, refusal_line, HasLine}
 use Rattle.fing_top.specs.declared.compiling.Compiled.{Compiled}
+use Rattle.fing_top.specs.declared.refusing.Refused.{Refused}
 use Rattle.fing_top.specs.declared.refusing.Refused.TheVariants.{Program as InProgram}
 use Rattle.fing_top.specs.declared.status.Status.{Status}
 use Rattle.fing_top.specs.declared.status.Status.TheVariants as status
-use Rattle.fing_top.specs.Reply.{answered, accepted, refused, Telling, TellsOutcome, TellsCounts, fault_line, Refuses, ProgramReplies, Replies, VerifyReplies}
+use Rattle.fing_top.specs.Reply.{Reply, answered, accepted, emitted, omega_reply, refused, reply_of, Telling, TellsTerm, TellsOutcome, TellsCounts, fault_line, Refuses, ProgramReplies, Replies, VerifyReplies}
 use Rattle.fing_top.specs.Verdict.{unread, verdict_line, HasLine as HasVerdict}
 use Rattle.fing_top.specs.Answer.{limit, Change, Stands, Output, Confirms, IsWritten, AnswersBytes, IsAnswered, Untouched, Takes, Spares, IsReplied, Answers, IsHanded, Completes}
 use Rattle.fing_top.specs.Words.{IsReadingLine}
@@ -66,29 +67,35 @@ few_sliced bytes at (t ∷ ts) h s = omega (arith, s.0, s.1, few_sliced bytes t.
 pub few_tokens : (bytes : List ℕ) (ts : List Token) → length bytes ≤ limit → TokensOf bytes ts → length ts ≤ 1048576
 few_tokens bytes ts h t = omega (arith, h, few_sliced bytes 0 ts (omega arith) (sliced bytes ts t))
 
-pub lexed_refused : (bytes : List ℕ) (r : LexRefusal) → (r ≡ lex.Mem) ⊎ RefusalOf bytes r → IsRefused bytes (untokened r)
-lexed_refused bytes lex.Mem h l = absurd l
-lexed_refused bytes (lex.BadByte at) (inr q) l = (BytesRefusal.lexical (lex.BadByte at), BytesRefused.no_tokens q, refl)
-lexed_refused bytes (lex.BadText at) (inr q) l = (BytesRefusal.lexical (lex.BadText at), BytesRefused.no_tokens q, refl)
-lexed_refused bytes (lex.Wide at) (inr q) l = (BytesRefusal.lexical (lex.Wide at), BytesRefused.no_tokens q, refl)
-lexed_refused bytes (lex.TooDeep at) (inr q) l = (BytesRefusal.lexical (lex.TooDeep at), BytesRefused.no_tokens q, refl)
-lexed_refused bytes (lex.BadByte at) (inl e) l = absurd (cc)
-lexed_refused bytes (lex.BadText at) (inl e) l = absurd (cc)
-lexed_refused bytes (lex.Wide at) (inl e) l = absurd (cc)
-lexed_refused bytes (lex.TooDeep at) (inl e) l = absurd (cc)
+pub lexed_refused : (form : Form) (bytes : List ℕ) (r : LexRefusal) → (r ≡ lex.Mem) ⊎ RefusalOf bytes r → IsRefused form bytes (untokened r)
+lexed_refused form bytes lex.Mem h l = absurd l
+lexed_refused form bytes (lex.BadByte at) (inr q) l = (BytesRefusal.lexical (lex.BadByte at), BytesRefused.no_tokens q, refl)
+lexed_refused form bytes (lex.BadText at) (inr q) l = (BytesRefusal.lexical (lex.BadText at), BytesRefused.no_tokens q, refl)
+lexed_refused form bytes (lex.Wide at) (inr q) l = (BytesRefusal.lexical (lex.Wide at), BytesRefused.no_tokens q, refl)
+lexed_refused form bytes (lex.TooDeep at) (inr q) l = (BytesRefusal.lexical (lex.TooDeep at), BytesRefused.no_tokens q, refl)
+lexed_refused form bytes (lex.BadByte at) (inl e) l = absurd (cc)
+lexed_refused form bytes (lex.BadText at) (inl e) l = absurd (cc)
+lexed_refused form bytes (lex.Wide at) (inl e) l = absurd (cc)
+lexed_refused form bytes (lex.TooDeep at) (inl e) l = absurd (cc)
 
-pub parsed_refused : (bytes : List ℕ) (ts : List Token) (r : ParseRefusal) → TokensOf bytes ts → TokensRefuse Binds ts r → IsRefused bytes (unparsed r)
-parsed_refused bytes ts (parse.Syntax at) t h l = (BytesRefusal.syntactic at, BytesRefused.no_program t h.0 h.1, refl)
-parsed_refused bytes ts parse.Mem t h l = absurd l
+pub parsed_refused : (form : Form) (bytes : List ℕ) (ts : List Token) (r : ParseRefusal) → TokensOf bytes ts → TokensRefuse (class_of form) ts r → IsRefused form bytes (unparsed r)
+parsed_refused form bytes ts (parse.Syntax at) t h l = (BytesRefusal.syntactic at, BytesRefused.no_phrase t h.0 h.1, refl)
+parsed_refused form bytes ts parse.Mem t h l = absurd l
 
-line_refuses : (N : Type 0) (bytes : List ℕ) (program : Program) (o : Option PlainRefusal) → Spells bytes program → MatchOption o N (MeansNothing program) → RefusalHasLine o → Refuses bytes (program_line o)
-line_refuses N bytes program None p h l = absurd l
-line_refuses N bytes program (Some r) p h l = (BytesRefusal.of_program r, BytesRefused.no_meaning p h.refused, refl)
+line_refuses : (N : Type 0) (P : PlainRefusal → Type 0) (form : Form) (bytes : List ℕ) (program : Program) (o : Option PlainRefusal) → Spells form bytes program
+    → ((r : PlainRefusal) → P r → ProgramRefused program r) → MatchOption o N P → RefusalHasLine o → Refuses form bytes (program_line o)
+line_refuses N P form bytes program None p f h l = absurd l
+line_refuses N P form bytes program (Some r) p f h l = (BytesRefusal.of_program r, BytesRefused.no_meaning p (f r h), refl)
 
-pub program_refused : (bytes : List ℕ) (program : Program) (e : Refusal) → Spells bytes program → Says e (MeansNothing program) → IsRefused bytes (InProgram e)
-program_refused bytes program e p h l = line_refuses (e ≡ want_of_memory) bytes program (plain_refusal e) p h l
+-- a program that is refused so, as is said in some way
+pub meaning_refused : (P : PlainRefusal → Type 0) (form : Form) (bytes : List ℕ) (program : Program) (e : Refusal) → Spells form bytes program
+    → ((r : PlainRefusal) → P r → ProgramRefused program r) → Says e P → IsRefused form bytes (InProgram e)
+meaning_refused P form bytes program e p f h l = line_refuses (e ≡ want_of_memory) P form bytes program (plain_refusal e) p f h l
 
-pub is_compiled : (bytes : List ℕ) (program : Program) (n : ℕ) (o : Elaborated) (j : Judgment) → Spells bytes program → n ≡ bind_count program → Means program o → (j.term ≡ o.whole) × (j.ty ≡ enc_abs o.sig)
+pub program_refused : (bytes : List ℕ) (program : Program) (e : Refusal) → Spells one_program bytes program → Says e (MeansNothing program) → IsRefused one_program bytes (InProgram e)
+program_refused bytes program e p h = meaning_refused (MeansNothing program) one_program bytes program e p (λ r q. q.refused) h
+
+pub is_compiled : (bytes : List ℕ) (program : Program) (n : ℕ) (o : Elaborated) (j : Judgment) → Spells one_program bytes program → n ≡ bind_count program → Means program o → (j.term ≡ o.whole) × (j.ty ≡ enc_abs o.sig)
     → IsCompiled bytes (record { bindings = n; effect = o.effect; sig = o.sig; checked = j })
 is_compiled bytes program n o j p b m h = record {
   program = program;
@@ -100,19 +107,39 @@ is_compiled bytes program n o j p b m h = record {
 }
 
 -- what is told of what is compiled is replied
-pub told : (Tells : Telling) (bytes : List ℕ) (c : Compiled) (s : Status) (text : List ℕ) (h : IsCompiled bytes c) → Tells (meaning_of c h.program h.types h.term) s text → ProgramReplies Tells bytes (answered s c.checked.ty c.checked.term text)
+pub told : (Tells : Telling) (bytes : List ℕ) (c : Compiled) (s : Status) (text : List ℕ) (h : IsCompiled bytes c)
+    → (let m = meaning_of c h.program h.types h.term in Tells m (reply_of m s text)) → ProgramReplies one_program Tells bytes (answered s c.checked.ty c.checked.term text)
 told Tells bytes c s text h t = rw h.ty (ProgramReplies.meant h.means t)
 
-pub outcome_told : (bytes : List ℕ) (budget : ℕ) (c : Compiled) (end : End) → IsCompiled bytes c → Ends c.checked.term budget end → ProgramReplies (TellsOutcome budget) bytes (answered (ending_status end) c.checked.ty c.checked.term (ending_text budget end))
+pub outcome_told : (bytes : List ℕ) (budget : ℕ) (c : Compiled) (end : End) → IsCompiled bytes c → Ends c.checked.term budget end → ProgramReplies one_program (TellsOutcome budget) bytes (answered (ending_status end) c.checked.ty c.checked.term (ending_text budget end))
 outcome_told bytes budget c (ending.Value shown steps) h t = rw t.2 (told (TellsOutcome budget) bytes c status.Ok (value_text t.0) h (TellsOutcome.value t.1))
 outcome_told bytes budget c (ending.Fault fault steps) h t = told (TellsOutcome budget) bytes c status.Faulted (fault_line (fault_of fault)) h (TellsOutcome.fault t)
 outcome_told bytes budget c ending.Spent h t = told (TellsOutcome budget) bytes c status.Spent (numbered (codes "spent ") budget) h (TellsOutcome.spent t)
 
 -- what is counted of what is compiled is replied
-pub counts_told : (bytes : List ℕ) (budget : ℕ) (c : Compiled) (end : End) → IsCompiled bytes c → Ends c.checked.term budget end → ProgramReplies (TellsCounts budget) bytes (answered (ending_status end) c.checked.ty c.checked.term (counted_text budget c.bindings (node_count c.checked.term) end))
+pub counts_told : (bytes : List ℕ) (budget : ℕ) (c : Compiled) (end : End) → IsCompiled bytes c → Ends c.checked.term budget end → ProgramReplies one_program (TellsCounts budget) bytes (answered (ending_status end) c.checked.ty c.checked.term (counted_text budget c.bindings (node_count c.checked.term) end))
 counts_told bytes budget c (ending.Value shown steps) h t = rw h.bindings (told (TellsCounts budget) bytes c status.Ok (counts_line (bind_count h.program) (node_count c.checked.term) steps) h (TellsCounts.counts t.1))
 counts_told bytes budget c (ending.Fault fault steps) h t = told (TellsCounts budget) bytes c status.Faulted (fault_line (fault_of fault)) h (TellsCounts.no_value (TellsOutcome.fault t) (λ e. cc))
 counts_told bytes budget c ending.Spent h t = told (TellsCounts budget) bytes c status.Spent (numbered (codes "spent ") budget) h (TellsCounts.no_value (TellsOutcome.spent t) (λ e. cc))
+
+-- ---- what is emitted
+
+-- a term that was confirmed for the bytes is told of them
+term_told : (form : Form) (simplify : Bool) (bytes : List ℕ) (j : Judgment) → IsConfirmed form simplify bytes j → ProgramReplies form (TellsTerm simplify) bytes (omega_reply j.ty j.term)
+term_told form simplify bytes j h = ProgramReplies.meant h.means (rw (h.term, h.ty) refl)
+
+of_command : (c : CommandLine) (form : Form) (simplify : Bool) (bytes : List ℕ) → ((r : Reply) → ProgramReplies form (TellsTerm simplify) bytes r → Replies c bytes r)
+    → (made : Result Judgment Refused) → IfOk made (IsConfirmed form simplify bytes) → IfErr made (IsRefused form bytes) → IsEmission c bytes made
+of_command c form simplify bytes f (Ok j) h r = f (omega_reply j.ty j.term) (term_told form simplify bytes j h)
+of_command c form simplify bytes f (Err why) h r = λ l. f (refused (refusal_line why)) (ProgramReplies.refuses (r l))
+
+pub emission : (simplify : Bool) (bytes : List ℕ) (made : Result Judgment Refused) → IfOk made (IsConfirmed one_program simplify bytes) → IfErr made (IsRefused one_program bytes)
+    → IsEmission (command.Emit simplify) bytes made
+emission simplify bytes = of_command (command.Emit simplify) one_program simplify bytes (λ r p. p)
+
+pub link_emission : (bytes : List ℕ) (made : Result Judgment Refused) → IfOk made (IsConfirmed separate_units false bytes) → IfErr made (IsRefused separate_units bytes)
+    → IsEmission command.Link bytes made
+link_emission bytes = of_command command.Link separate_units false bytes (λ r p. p)
 
 -- ---- what is written
 
@@ -191,9 +218,10 @@ whole_read (Some xs) (Some ys) bytes read e c z =
 takes_handed : (c : CommandLine) (source : Change Told) (bytes read : List ℕ) → IsHanded c source bytes → Takes c source read → read ≡ bytes
 takes_handed (command.Gen size) source bytes read h t = t.0 ∙ sym h
 takes_handed command.Check source bytes read h t = whole_read source.old.bytes source.new.bytes bytes read h.0 t.lost.taken t.last
-takes_handed command.Emit source bytes read h t = whole_read source.old.bytes source.new.bytes bytes read h.0 t.lost.taken t.last
+takes_handed (command.Emit simplify) source bytes read h t = whole_read source.old.bytes source.new.bytes bytes read h.0 t.lost.taken t.last
 takes_handed (command.Run budget) source bytes read h t = whole_read source.old.bytes source.new.bytes bytes read h.0 t.lost.taken t.last
 takes_handed command.Verify source bytes read h t = whole_read source.old.bytes source.new.bytes bytes read h.0 t.lost.taken t.last
+takes_handed command.Link source bytes read h t = whole_read source.old.bytes source.new.bytes bytes read h.0 t.lost.taken t.last
 
 pub completes : (words : List (List ℕ)) (source : Change Told) (out : Output) (a : CommandLine) (read : List ℕ) (answer : Status) → IsCommandLine words a → Takes a source read → AnswersBytes a read out answer → Completes words source out answer
 completes words source out a read answer p t e c bytes q handed silent =
@@ -224,17 +252,19 @@ completes words source out a read answer p t e c bytes q handed silent =
 spares : (c : CommandLine) (source : Change Told) (read : List ℕ) → Takes c source read → Spares c source
 spares (command.Gen size) source read t = λ _ _. t.1
 spares command.Check source read t = λ _ e. absurd (cc)
-spares command.Emit source read t = λ _ e. absurd (cc)
+spares (command.Emit simplify) source read t = λ _ e. absurd (cc)
 spares (command.Run budget) source read t = λ _ e. absurd (cc)
 spares command.Verify source read t = λ _ e. absurd (cc)
+spares command.Link source read t = λ _ e. absurd (cc)
 
 -- the source stands where the words are no command line of a command that reads it
 pub stands : (words : List (List ℕ)) (source : Change Told) (c : CommandLine) → IsCommandLine words c → Spares c source → (IsReadingLine words → ⊥) → Stands source
 stands words source (command.Gen size) p s none = s size refl
 stands words source command.Check p s none = absurd (none (command.Check, p, tt))
-stands words source command.Emit p s none = absurd (none (command.Emit, p, tt))
+stands words source (command.Emit simplify) p s none = absurd (none (command.Emit simplify, p, tt))
 stands words source (command.Run budget) p s none = absurd (none (command.Run budget, p, tt))
 stands words source command.Verify p s none = absurd (none (command.Verify, p, tt))
+stands words source command.Link p s none = absurd (none (command.Link, p, tt))
 
 -- a source that stands lost no bytes
 pub took_none : (source : Change Told) → Stands source → TookSome source.old source.new (limit + 1)
@@ -243,9 +273,10 @@ took_none source s = record { bytes = []; lost = subst (λ (t : Told). Lost sour
 took_some : (c : CommandLine) (source : Change Told) (read : List ℕ) → Takes c source read → TookSome source.old source.new (limit + 1)
 took_some (command.Gen size) source read t = took_none source t.1
 took_some command.Check source read t = record { bytes = read; lost = t.lost; within = omega (arith, t.within) }
-took_some command.Emit source read t = record { bytes = read; lost = t.lost; within = omega (arith, t.within) }
+took_some (command.Emit simplify) source read t = record { bytes = read; lost = t.lost; within = omega (arith, t.within) }
 took_some (command.Run budget) source read t = record { bytes = read; lost = t.lost; within = omega (arith, t.within) }
 took_some command.Verify source read t = record { bytes = read; lost = t.lost; within = omega (arith, t.within) }
+took_some command.Link source read t = record { bytes = read; lost = t.lost; within = omega (arith, t.within) }
 
 -- what is answered for the bytes that the command takes is the answer to the words
 pub answers : (words : List (List ℕ)) (source : Change Told) (out : Output) (c : CommandLine) (read : List ℕ) (answer : Status) → IsCommandLine words c → Takes c source read → AnswersBytes c read out answer → Answers words source out answer

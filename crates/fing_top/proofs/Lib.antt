@@ -3,3 +3,5 @@ pub mod Meanings
 pub mod Replies
 pub mod EachReply
 pub mod Answering
+pub mod Separate
+pub mod Simplest

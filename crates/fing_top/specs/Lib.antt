@@ -5,6 +5,7 @@ pub mod Counts
 pub mod Meaning
 pub mod Reply
 pub mod Compiled
+pub mod Linked
 pub mod Ending
 pub mod Verdict
 pub mod Answer

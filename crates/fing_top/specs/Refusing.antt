@@ -23,7 +23,7 @@ lexical_line (lex.Wide at) = numbered (codes "refused Wide ") at
 lexical_line (lex.TooDeep at) = numbered (codes "refused TooDeep ") at
 lexical_line lex.Mem = []
 
--- tokens that are no program, of which so many begin one
+-- tokens that are no program, or no separate units, of which so many begin one
 abbrev pub syntax_line : ℕ → List ℕ
 syntax_line at = numbered (codes "refused Syntax ") at
 

@@ -1,11 +1,11 @@
 // From a source's bytes to what its program means, confirmed by the checker.
-ghost use Rattle.std.specs.Prelude.{◌≡◌, ◌≤◌, [], length, IfOk, IfErr};
+ghost use Rattle.std.specs.Prelude.{◌≡◌, ◌≤◌, [], length, true, IfOk, IfErr};
 ghost use Rattle.omega_terms.specs.Typing.{HasType};
 ghost use Rattle.sig_definitions.specs.Signatures.Encoding.{enc_abs};
 ghost use Rattle.fing_top.specs.Answer.{limit};
-ghost use Rattle.fing_top.specs.Compiled.{IsCompiled, IsRefused};
+ghost use Rattle.fing_top.specs.Compiled.{IsCompiled, IsConfirmed, IsRefused};
 ghost use Rattle.fing_top.specs.Counts.{bind_count};
-ghost use Rattle.fing_top.specs.Meaning.{Spells};
+ghost use Rattle.fing_top.specs.Meaning.{one_program, Spells};
 
 use crate::refusing::Refused;
 use fing_elab::elab;
@@ -14,6 +14,7 @@ use fing_parser::program;
 use fing_syntax::Program;
 use omega_checker::{Checked, check as typed};
 use omega_kinds::{Effect, Mem};
+use omega_simplify::simplify;
 use omega_terms::Term;
 use semantic_sigs::{Abs, encode};
 use std::alloc::Global;
@@ -31,15 +32,15 @@ pub struct Compiled {
 // The program that a source's bytes are, or why they are none.
 fn parsed(alloc: Global, bytes: &[u8]) -> Result<Program, Refused>
     requires { length bytes.now ≤ limit }
-    ensures spelled { IfOk result (λ p. Spells bytes.now p) }
-    ensures refused { IfErr result (IsRefused bytes.now) }
+    ensures spelled { IfOk result (λ p. Spells one_program bytes.now p) }
+    ensures refused { IfErr result (IsRefused one_program bytes.now) }
 {
     let tokens = tokens(alloc, bytes)?;
     Ok(program(alloc, &tokens)?)
 }
 
 // What the checker makes of a term that has the encoding of a signature as its type. `Err` is want of memory.
-fn confirm(alloc: Global, sig: &Abs, term: Term) -> Result<Checked, Mem>
+pub(crate) fn confirm(alloc: Global, sig: &Abs, term: Term) -> Result<Checked, Mem>
     requires { HasType [] [] term (enc_abs sig.now) }
     ensures { IfOk result (λ c. (c.term ≡ term) × (c.ty ≡ enc_abs sig.now)) }
 {
@@ -61,7 +62,7 @@ fn bind_total(program: &Program) -> usize
 pub(crate) fn compile(alloc: Global, bytes: &[u8]) -> Result<Compiled, Refused>
     requires { length bytes.now ≤ limit }
     ensures compiled { IfOk result (λ c. IsCompiled bytes.now c) }
-    ensures refused { IfErr result (IsRefused bytes.now) }
+    ensures refused { IfErr result (IsRefused one_program bytes.now) }
 {
     let program = parsed(alloc, bytes)?;
     let bindings = bind_total(&program);
@@ -76,4 +77,18 @@ pub(crate) fn compile(alloc: Global, bytes: &[u8]) -> Result<Compiled, Refused>
         sig: found.sig,
         checked,
     })
+}
+
+// What the checker made of the simplified term of a program, or why the source is refused.
+pub(crate) fn compile_simplified(alloc: Global, bytes: &[u8]) -> Result<Checked, Refused>
+    requires { length bytes.now ≤ limit }
+    ensures confirmed { IfOk result (λ j. IsConfirmed one_program true bytes.now j) }
+    ensures refused { IfErr result (IsRefused one_program bytes.now) }
+{
+    let program = parsed(alloc, bytes)?;
+    let meant = elab(alloc, &program)?;
+    // Its memory serves the checker.
+    drop(program);
+    let term = simplify(alloc, &meant.whole)?;
+    Ok(confirm(alloc, &meant.sig, term)?)
 }

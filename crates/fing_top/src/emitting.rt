@@ -1,13 +1,15 @@
-// `emit`: the encoded signature and the whole term of a program as Omega text.
-ghost use Rattle.std.specs.Prelude.{◌≤◌, length, IsTrue};
+// `emit`: the encoded signature and the whole term of a program as Omega text, or its simplified term.
+ghost use Rattle.std.specs.Prelude.{◌≤◌, ℕ, List, length, true, false, IfErr, IfOk, IsTrue};
 ghost use Rattle.omega_terms.specs.InScope.{TermInScope, TyInScope};
-ghost use Rattle.fing_top.specs.Answer.{limit, AnswersBytes, change, output};
-ghost use Rattle.fing_top.specs.Compiled.{IsShallow};
+ghost use Rattle.fing_words.specs.declared.command_line.CommandLine.{CommandLine};
 ghost use Rattle.fing_words.specs.declared.command_line.CommandLine.TheVariants as command;
+ghost use Rattle.fing_top.specs.Answer.{limit, AnswersBytes, change, output};
+ghost use Rattle.fing_top.specs.Compiled.{IsConfirmed, IsEmission, IsRefused, IsShallow};
+ghost use Rattle.fing_top.specs.Meaning.{one_program};
 
-use crate::compiling::compile;
+use crate::compiling::{compile, compile_simplified};
 use crate::pages::put_omega;
-use crate::refusing::{has_line, write_line};
+use crate::refusing::{Refused, has_line, write_line};
 use crate::status::{Status, status_of};
 use fing_text::Sink;
 use omega_checker::Checked;
@@ -27,13 +29,50 @@ pub fn emit<K: Sink>(
     confirmed: &mut Option<Checked>,
 ) -> Status
     requires { length bytes.now ≤ limit }
-    ensures { AnswersBytes command.Emit bytes.now
+    ensures { AnswersBytes (command.Emit false) bytes.now
         (output (change (K.told sink.old) (K.told sink.new)) (change confirmed.old confirmed.new)) result }
 {
-    match compile(alloc, bytes) {
-        Ok(found) if is_closed(&found.checked) => {
-            let wrote = put_omega(alloc, sink, found.checked.ty(), found.checked.term());
-            *confirmed = Some(found.checked);
+    put_emission(alloc, whole(alloc, bytes), sink, confirmed)
+}
+
+/// Answers `emit --simplify`: as `emit`, with the simplified term in place of the whole term. It is the simplified term
+/// that the checker confirms, before anything is written, and of which `confirmed` tells.
+pub fn emit_simplified<K: Sink>(
+    alloc: Global,
+    bytes: &[u8],
+    sink: &mut K,
+    confirmed: &mut Option<Checked>,
+) -> Status
+    requires { length bytes.now ≤ limit }
+    ensures { AnswersBytes (command.Emit true) bytes.now
+        (output (change (K.told sink.old) (K.told sink.new)) (change confirmed.old confirmed.new)) result }
+{
+    put_emission(alloc, compile_simplified(alloc, bytes), sink, confirmed)
+}
+
+// What the checker made of the whole term of a program, or why the source is refused.
+fn whole(alloc: Global, bytes: &[u8]) -> Result<Checked, Refused>
+    requires { length bytes.now ≤ limit }
+    ensures confirmed { IfOk result (λ j. IsConfirmed one_program false bytes.now j) }
+    ensures refused { IfErr result (IsRefused one_program bytes.now) }
+{
+    Ok(compile(alloc, bytes)?.checked)
+}
+
+// Writes a type and a term that were confirmed as Omega text, or the line of a refusal, as the reply to whatever bytes.
+pub(crate) fn put_emission<K: Sink>(
+    alloc: Global,
+    made: Result<Checked, Refused>,
+    sink: &mut K,
+    confirmed: &mut Option<Checked>,
+) -> Status
+    ensures { (command : CommandLine) (bytes : List ℕ) → IsEmission command bytes made → AnswersBytes command bytes
+        (output (change (K.told sink.old) (K.told sink.new)) (change confirmed.old confirmed.new)) result }
+{
+    match made {
+        Ok(checked) if is_closed(&checked) => {
+            let wrote = put_omega(alloc, sink, checked.ty(), checked.term());
+            *confirmed = Some(checked);
             status_of(wrote, Status::Ok)
         }
         Err(why) if has_line(&why) => status_of(write_line(sink, &why), Status::Refused),

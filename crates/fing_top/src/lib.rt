@@ -1,11 +1,12 @@
 // The top call: `fing` does all that the program does, from the words and the source to the reply and the status.
-// Stands on fing_words (words), fing_gen (the generated program), fing_lexer, fing_parser and fing_elab (from bytes to
-// a signature and a term), omega_checker, omega_machine, the texts of sig_text, fing_refusals, omega_write and
-// omega_read, and itoa (numbers in decimal).
+// Stands on fing_words (words), fing_gen (the generated program), fing_lexer, fing_parser, fing_elab and fing_units (from
+// bytes to a signature and a term), omega_simplify, omega_checker, omega_machine, the texts of sig_text, fing_refusals,
+// omega_write and omega_read, and itoa (numbers in decimal).
 // Proved: each answer comes with its cause, and what is written is the one reply that the definitions give for all the
 // bytes of the source, or for the generated program; what is emitted was confirmed by the checker; where the bytes are
 // known and nothing fails, that reply is written whole, or want of memory is answered and nothing is written. Each
-// string of bytes has exactly one meaning or exactly one refusal. A command has exactly one reply to it, and each answer has
+// string of bytes has exactly one meaning or exactly one refusal; separate units that are linked mean what their program
+// means. A command has exactly one reply to it, and each answer has
 // its exit status.
 #![tactic(auto)]
 
@@ -13,6 +14,7 @@ mod checking;
 mod compiling;
 mod counting;
 mod emitting;
+mod linking;
 mod pages;
 mod refusing;
 mod running;

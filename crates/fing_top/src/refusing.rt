@@ -11,7 +11,8 @@ use itoa::Buffer;
 use omega_kinds::Mem;
 use sig_scopes::refusal_in_scope;
 
-/// Why a source is refused: it has no tokens, its tokens are no program, or its program means nothing.
+/// Why a source is refused: it has no tokens, its tokens are no program, or no separate units where these are read, or they
+/// mean nothing.
 #[derive(Drop)]
 pub enum Refused {
     /// No token begins at this byte.
@@ -22,9 +23,9 @@ pub enum Refused {
     Wide { at: u32 },
     /// The token at this byte stands too deep.
     TooDeep { at: u32 },
-    /// The tokens are no program: the longest prefix of them that begins some program has `at` tokens.
+    /// The tokens are no program, or no separate units: the longest prefix of them that begins some has `at` tokens.
     Syntax { at: u32 },
-    /// The program means nothing, for this reason; or memory ran out in elaboration.
+    /// The program, or a unit, means nothing, for this reason; or memory ran out in elaboration.
     Program(Refusal),
     /// Want of memory.
     Mem,

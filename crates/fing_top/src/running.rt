@@ -4,6 +4,7 @@ ghost use Rattle.fing_text.specs.Writes.{Wrote};
 ghost use Rattle.omega_machine.specs.Outcomes.{Tells};
 ghost use Rattle.fing_top.specs.Answer.{limit, AnswersBytes, change, output};
 ghost use Rattle.fing_top.specs.Compiled.{IsCompiled, IsRefused};
+ghost use Rattle.fing_top.specs.Meaning.{one_program};
 ghost use Rattle.fing_top.specs.Ending.{ending_status, ending_text};
 ghost use Rattle.fing_words.specs.declared.command_line.CommandLine.TheVariants as command;
 
@@ -24,7 +25,7 @@ pub(crate) fn evaluated(
     requires { length bytes.now ≤ limit }
     ensures compiled { IfOk result (λ o. IsCompiled bytes.now o.0) }
     ensures told { IfOk result (λ o. Tells o.0.checked.term budget o.1) }
-    ensures refused { IfErr result (IsRefused bytes.now) }
+    ensures refused { IfErr result (IsRefused one_program bytes.now) }
 {
     let found = compile(alloc, bytes)?;
     let end = evaluate(alloc, &found.checked, budget as u64)?;

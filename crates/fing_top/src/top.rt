@@ -9,7 +9,8 @@ ghost use Rattle.fing_top.specs.Words.{IsSized};
 
 use crate::checking::check;
 use crate::counting::count;
-use crate::emitting::emit;
+use crate::emitting::{emit, emit_simplified};
+use crate::linking::link;
 use crate::running::run;
 use crate::status::Status;
 use crate::verifying::verify;
@@ -56,10 +57,12 @@ pub fn reply<K: Sink>(
 {
     match command {
         CommandLine::Check => check(alloc, bytes, sink, confirmed),
-        CommandLine::Emit => emit(alloc, bytes, sink, confirmed),
+        CommandLine::Emit { simplify: false } => emit(alloc, bytes, sink, confirmed),
+        CommandLine::Emit { simplify: true } => emit_simplified(alloc, bytes, sink, confirmed),
         CommandLine::Run { budget } => run(alloc, budget, bytes, sink, confirmed),
         CommandLine::Verify => verify(alloc, bytes, sink, confirmed),
         CommandLine::Gen { .. } => count(alloc, bytes, sink, confirmed),
+        CommandLine::Link => link(alloc, bytes, sink, confirmed),
     }
 }
 
@@ -88,12 +91,13 @@ fn answered<S: Source, K: Sink>(
 /// Does all that the program does: `words` are those after the program's name.
 ///
 /// It reads the source to its end, but for `gen`, which leaves it as it was. For `check` it writes the effect and the
-/// signature of the program, for `emit` the Omega text of its encoded signature and its whole term, both with status
-/// `Ok`; for `run` the value that the term comes to within the budget with status `Ok`, its fault with `Faulted`, or
+/// signature of the program, for `emit` the Omega text of its encoded signature and its whole term, or of the simplified
+/// term where `--simplify` is given, and for `link`, whose source is separate units, the Omega text of the signature and
+/// the whole term to which they link, each with status `Ok`; for `run` the value that the term comes to within the budget with status `Ok`, its fault with `Faulted`, or
 /// the budget with `Spent`. `gen` compiles and runs the generated program of its size, within 10,000,000 steps, and
 /// writes how many bindings the program has, how many nodes its whole term, and in how many steps the term comes to a
-/// value, with status `Ok`; where it comes to none, it writes what `run` does. `check`, `emit` and `run` write the line
-/// of the refusal with status `Refused` where the source has none of these. For `verify`, whose source is Omega text,
+/// value, with status `Ok`; where it comes to none, it writes what `run` does. `check`, `emit`, `link` and `run` write the
+/// line of the refusal with status `Refused` where the source has none of these. For `verify`, whose source is Omega text,
 /// it writes `well typed` with status `Ok`, or the line of the first refusal with status `Refused`. Where the reply's
 /// own status is `Ok`, `Faulted` or `Spent`, `confirmed` becomes what the checker made of the term and the type that
 /// were derived or read, also where a write failed; else it stands as it was.
@@ -131,7 +135,8 @@ pub fn one_reply()
     ensures each { EachReplied }
 {}
 
-/// Each string of bytes has exactly one meaning as a program, by the rules, or exactly one refusal, and never both.
+/// Each string of bytes has exactly one meaning, by the rules, as a program and as separate units, or exactly one refusal,
+/// and never both.
 pub fn one_meaning()
     ensures { MeanOrRefused }
 {}

@@ -1,5 +1,5 @@
 -- Rows of the table, and the values that a parse found.
-use Rattle.std.proofs.Common.{◌≡◌, ◌∙◌, List, [], Option, Some, None, sym, ap, subst, codes, true}
+use Rattle.std.proofs.Common.{◌≡◌, ◌∙◌, Bool, List, [], Option, Some, None, sym, ap, subst, codes, true, false}
 use Rattle.clap.specs.Walk.{Row, Text, first_of, rows_of}
 use Rattle.clap.specs.Matches.{found_of}
 use Rattle.clap.specs.Simple.{App, HasMatchesOf, is_simple, matches_of}
@@ -7,8 +7,9 @@ use Rattle.clap.specs.Takes.{takes}
 use Rattle.clap.specs.Faults.{fault_of, is_simple_and_free}
 use Rattle.clap.specs.declared.parser.matches.ArgMatches.{ArgMatches}
 use Rattle.fing_words.specs.SimpleCommand.{simple_command}
-use Rattle.fing_words.specs.CommandLines.{IsCommandLine, IsFound, IsRow, ReadsAs, Table}
+use Rattle.fing_words.specs.CommandLines.{IsCommandLine, IsFlag, IsFound, IsRow, ReadsAs, Table}
 use Rattle.fing_words.specs.declared.command_line.CommandLine.{CommandLine}
+use Rattle.fing_words.specs.declared.command_line.CommandLine.TheVariants.{Check, Emit, Run, Verify, Gen, Link}
 use Rattle.fing_words.proofs.NoFault.{taken}
 
 -- where no command is given, no line is found
@@ -16,19 +17,44 @@ pub none_given : (rows : List Row) (found : Option CommandLine) → found ≡ No
 none_given rows found none missing =
     subst (IsFound rows) (sym none) (λ l is. let bad : Some is.command ≡ None = sym is.given ∙ missing in cc)
 
+-- nor where the flag has no value
+pub none_flagged : (rows : List Row) (found : Option CommandLine) → found ≡ None → first_of (codes "simplify") rows ≡ None → IsFound rows found
+none_flagged rows found none missing =
+    subst (IsFound rows) (sym none) (λ l is. let bad : Some is.simplify ≡ None = sym is.flagged ∙ missing in cc)
+
+-- each row has the flag given, or not given
+flagged_row : (command : Text) (n budget : Option Text) (simplify : Text) (l : CommandLine) → Table command n budget simplify l → (given : Bool) × IsFlag simplify given
+flagged_row command n budget simplify Check row = (false, row.3)
+flagged_row command n budget simplify (Emit simple) row = (simple, row.3)
+flagged_row command n budget simplify (Run steps) row = (false, row.3)
+flagged_row command n budget simplify Verify row = (false, row.3)
+flagged_row command n budget simplify (Gen size) row = (false, row.3)
+flagged_row command n budget simplify Link row = (false, row.3)
+
+-- where the flag's value is neither, no row has it
+pub unflagged : (command : Text) (n budget : Option Text) (simplify : Text) (found : Option CommandLine) → found ≡ None → ((given : Bool) → IsFlag simplify given → ⊥)
+    → IsRow command n budget simplify found
+unflagged command n budget simplify found none neither =
+    subst (IsRow command n budget simplify) (sym none) (λ l row. let flag = flagged_row command n budget simplify l row in neither flag.0 flag.1)
+
 -- the row of the values that were found is the line that was found
-pub found_row : (rows : List Row) (command : Text) (n budget : Option Text) (found : Option CommandLine) → first_of (codes "command") rows ≡ Some command
-    → first_of (codes "n") rows ≡ n → first_of (codes "budget") rows ≡ budget → IsRow command n budget found → IsFound rows found
-found_row rows command n budget None given number steps none = λ l is.
+pub found_row : (rows : List Row) (command : Text) (n budget : Option Text) (simplify : Text) (found : Option CommandLine)
+    → first_of (codes "command") rows ≡ Some command → first_of (codes "n") rows ≡ n → first_of (codes "budget") rows ≡ budget
+    → first_of (codes "simplify") rows ≡ Some simplify → IsRow command n budget simplify found → IsFound rows found
+found_row rows command n budget simplify None given number steps flagged none = λ l is.
     let same : is.command ≡ command = (let e : Some is.command ≡ Some command = sym is.given ∙ given in cc) in
-    let with_steps = subst (λ (o : Option Text). Table is.command (first_of (codes "n") rows) o l) steps is.row in
-    let with_number = subst (λ (o : Option Text). Table is.command o budget l) number with_steps in
-    none l (subst (λ (t : Text). Table t n budget l) same with_number)
-found_row rows command n budget (Some l) given number steps row = record {
+    let alike : is.simplify ≡ simplify = (let e : Some is.simplify ≡ Some simplify = sym is.flagged ∙ flagged in cc) in
+    let with_steps = subst (λ (o : Option Text). Table is.command (first_of (codes "n") rows) o is.simplify l) steps is.row in
+    let with_number = subst (λ (o : Option Text). Table is.command o budget is.simplify l) number with_steps in
+    let with_flag = subst (λ (t : Text). Table is.command n budget t l) alike with_number in
+    none l (subst (λ (t : Text). Table t n budget simplify l) same with_flag)
+found_row rows command n budget simplify (Some l) given number steps flagged row = record {
   command = command;
   given = given;
-  row = subst (λ (o : Option Text). Table command o (first_of (codes "budget") rows) l) (sym number)
-      (subst (λ (o : Option Text). Table command n o l) (sym steps) row);
+  simplify = simplify;
+  flagged = flagged;
+  row = subst (λ (o : Option Text). Table command o (first_of (codes "budget") rows) simplify l) (sym number)
+      (subst (λ (o : Option Text). Table command n o simplify l) (sym steps) row);
 }
 
 -- what is found where the words are taken is what they are read as

@@ -1,12 +1,12 @@
 -- Which words are which command line.
-use Rattle.std.specs.Prelude.{◌≡◌, ℕ, List, Option, Some, None, codes, true}
+use Rattle.std.specs.Prelude.{◌≡◌, ℕ, Bool, List, Option, Some, None, codes, true, false}
 use Rattle.clap.specs.Walk.{Row, Text, first_of}
 use Rattle.clap.specs.Simple.{matches_of}
 use Rattle.clap.specs.Takes.{takes}
 use Rattle.fing_words.specs.Numbers.{IsNumberFrom}
 use Rattle.fing_words.specs.SimpleCommand.{simple_command}
 use Rattle.fing_words.specs.declared.command_line.CommandLine.{CommandLine}
-use Rattle.fing_words.specs.declared.command_line.CommandLine.TheVariants.{Check, Emit, Run, Verify, Gen}
+use Rattle.fing_words.specs.declared.command_line.CommandLine.TheVariants.{Check, Emit, Run, Verify, Gen, Link}
 
 -- the steps of `run`: 1,000,000 where no budget is given, or the given number from 0 to 10,000,000
 abbrev pub IsBudget : Option Text → ℕ → Type 0
@@ -18,24 +18,32 @@ abbrev pub IsSize : Option Text → ℕ → Type 0
 IsSize None size = ⊥
 IsSize (Some text) size = IsNumberFrom 1 300 text size
 
--- the table of commands, one row for each: the values of `command`, `n` and `--budget`, and the command line
-abbrev pub Table : Text → Option Text → Option Text → CommandLine → Type 0
-Table command n budget Check = (command ≡ codes "check") × (n ≡ None) × (budget ≡ None)
-Table command n budget Emit = (command ≡ codes "emit") × (n ≡ None) × (budget ≡ None)
-Table command n budget (Run steps) = (command ≡ codes "run") × (n ≡ None) × IsBudget budget steps
-Table command n budget Verify = (command ≡ codes "verify") × (n ≡ None) × (budget ≡ None)
-Table command n budget (Gen size) = (command ≡ codes "gen") × IsSize n size × (budget ≡ None)
+-- whether a flag with this value is given
+abbrev pub IsFlag : Text → Bool → Type 0
+IsFlag value true = value ≡ codes "true"
+IsFlag value false = value ≡ codes "false"
+
+-- the table of commands, one row for each: the values of `command`, `n`, `--budget` and `--simplify`, and the command line
+abbrev pub Table : Text → Option Text → Option Text → Text → CommandLine → Type 0
+Table command n budget simplify Check = (command ≡ codes "check") × (n ≡ None) × (budget ≡ None) × IsFlag simplify false
+Table command n budget simplify (Emit simple) = (command ≡ codes "emit") × (n ≡ None) × (budget ≡ None) × IsFlag simplify simple
+Table command n budget simplify (Run steps) = (command ≡ codes "run") × (n ≡ None) × IsBudget budget steps × IsFlag simplify false
+Table command n budget simplify Verify = (command ≡ codes "verify") × (n ≡ None) × (budget ≡ None) × IsFlag simplify false
+Table command n budget simplify (Gen size) = (command ≡ codes "gen") × IsSize n size × (budget ≡ None) × IsFlag simplify false
+Table command n budget simplify Link = (command ≡ codes "link") × (n ≡ None) × (budget ≡ None) × IsFlag simplify false
 
 -- the row of these values, or no row has them
-abbrev pub IsRow : Text → Option Text → Option Text → Option CommandLine → Type 0
-IsRow command n budget None = (line : CommandLine) → Table command n budget line → ⊥
-IsRow command n budget (Some line) = Table command n budget line
+abbrev pub IsRow : Text → Option Text → Option Text → Text → Option CommandLine → Type 0
+IsRow command n budget simplify None = (line : CommandLine) → Table command n budget simplify line → ⊥
+IsRow command n budget simplify (Some line) = Table command n budget simplify line
 
 -- the values that a parse found are those of a row of the table
 pub record IsLineOf (found : List Row) (line : CommandLine) : Type 0 where
   pub command : Text
   pub given : first_of (codes "command") found ≡ Some command
-  pub row : Table command (first_of (codes "n") found) (first_of (codes "budget") found) line
+  pub simplify : Text
+  pub flagged : first_of (codes "simplify") found ≡ Some simplify
+  pub row : Table command (first_of (codes "n") found) (first_of (codes "budget") found) simplify line
 
 -- the command line of the values that a parse found, or they are those of none
 abbrev pub IsFound : List Row → Option CommandLine → Type 0

@@ -19,12 +19,27 @@ fn reads(
     Ok(())
 }
 
-const LINES: [(&[&str], CommandLine); 13] = [
+const LINES: [(&[&str], CommandLine); 19] = [
     (&["check"], CommandLine::Check),
-    (&["emit"], CommandLine::Emit),
+    (&["emit"], CommandLine::Emit { simplify: false }),
+    (
+        &["emit", "--simplify"],
+        CommandLine::Emit { simplify: true },
+    ),
+    (
+        &["--simplify", "emit"],
+        CommandLine::Emit { simplify: true },
+    ),
+    (
+        &["--simplify", "--", "emit"],
+        CommandLine::Emit { simplify: true },
+    ),
+    (&["link"], CommandLine::Link),
+    (&["link", "--"], CommandLine::Link),
+    (&["--", "link"], CommandLine::Link),
     (&["verify"], CommandLine::Verify),
-    (&["emit", "--"], CommandLine::Emit),
-    (&["--", "emit"], CommandLine::Emit),
+    (&["emit", "--"], CommandLine::Emit { simplify: false }),
+    (&["--", "emit"], CommandLine::Emit { simplify: false }),
     (&["run"], CommandLine::Run { budget: 1000000 }),
     (
         &["run", "--budget", "10000000"],
@@ -46,7 +61,7 @@ fn command_lines(rt: HostRuntime) -> Result<(), Fail> {
     Ok(())
 }
 
-const OTHERS: [&[&str]; 34] = [
+const OTHERS: [&[&str]; 53] = [
     &[],
     &[""],
     &["frobnicate"],
@@ -81,6 +96,25 @@ const OTHERS: [&[&str]; 34] = [
     &["gen", "1", "1"],
     &["gen", "1", "--budget", "1"],
     &["gen", "1x"],
+    &["--simplify"],
+    &["check", "--simplify"],
+    &["run", "--simplify"],
+    &["run", "--budget", "5", "--simplify"],
+    &["verify", "--simplify"],
+    &["gen", "1", "--simplify"],
+    &["link", "--simplify"],
+    &["emit", "--simplify", "--simplify"],
+    &["emit", "--simplify=true"],
+    &["emit", "--simplify", "true"],
+    &["emit", "--simplify", "1"],
+    &["emit", "--simplify", "--budget", "5"],
+    &["emit", "--", "--simplify"],
+    &["emit", "--simpl"],
+    &["emit", "-s"],
+    &["link", "1"],
+    &["link", "--budget", "5"],
+    &["link", "link"],
+    &["Link"],
 ];
 
 #[test]

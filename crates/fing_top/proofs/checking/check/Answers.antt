@@ -10,7 +10,7 @@ pub returns-in-Ok : goal.returns-in-Ok
 returns-in-Ok g c =
     let found = c.in-Ok.found in
     wrote_reply command.Check c.args.bytes.now status.Ok _ _ _ _ c.put_elab-wrote.result c.status_of.result tt
-    (told TellsSignature c.args.bytes.now found status.Ok (elab_text found.effect found.sig) c.in-Ok.ensures.compiled (refl, refl)) refl c.put_elab-wrote.ensures c.status_of.ensures
+    (told TellsSignature c.args.bytes.now found status.Ok (elab_text found.effect found.sig) c.in-Ok.ensures.compiled refl) refl c.put_elab-wrote.ensures c.status_of.ensures
 
 pub returns-in-Err : goal.returns-in-Err
 returns-in-Err g c =

@@ -1,11 +1,12 @@
 use Rattle.fing_top.specs.Compiled.{IsRefused}
+use Rattle.fing_top.specs.Meaning.{one_program}
 use Rattle.fing_top.proofs.Answering.{is_compiled, program_refused}
 use Rattle.fing_top.proofs.compiling.compile.Goals as goal
 use Rattle.elab_phrases.proofs.Given.{exit}
 
 pub returns-in_err-found-clause-refused : goal.returns-in_err-found-clause-refused
 returns-in_err-found-clause-refused c =
-    exit (IsRefused c.args.bytes.now) c.from_residual-in_err-found.result _ c.from_residual-in_err-found.ensures.1
+    exit (IsRefused one_program c.args.bytes.now) c.from_residual-in_err-found.result _ c.from_residual-in_err-found.ensures.1
     (program_refused c.args.bytes.now c.in_ok-program.program c.in_err-found.field-0.0 c.in_ok-program.ensures.spelled c.in_err-found.ensures.refused)
 
 pub returns-clause-compiled : goal.returns-clause-compiled

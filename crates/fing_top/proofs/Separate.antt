@@ -1,0 +1,161 @@
+-- Separate units that are elaborated apart and linked.
+use Rattle.std.proofs.Common.{◌≡◌, ◌∙◌, ℕ, suc, ◌+◌, ◌<◌, ◌≤◌, ◌^◌, false, Option, Some, None, List, [], ◌∷◌, ◌++◌, length, take, drop, get_or, map, arith, refl, sym, ap, subst, length-append, add-one, drop-cons}
+use Rattle.std.specs.Prelude.{MatchOption}
+use Rattle.std.proofs.Math.Seq.{take-suc}
+use Rattle.std.proofs.lemmas.List.{length-map, map-append, take-append-drop, take_all}
+use Rattle.omega_kinds.specs.Name.{Name}
+use Rattle.omega_kinds.specs.declared.effect.Effect.{Effect}
+use Rattle.omega_types.specs.Ty.{Ty}
+use Rattle.omega_terms.specs.Term.{Term}
+use Rattle.omega_terms.specs.Typing.{HasType}
+use Rattle.sig_definitions.specs.Packing.{Packed}
+use Rattle.sig_definitions.specs.Signatures.Encoding.{enc_abs}
+use Rattle.sig_definitions.specs.Signatures.Sig.{Abs, Module, made}
+use Rattle.sig_definitions.specs.Env.{Env}
+use Rattle.sig_laws.specs.Good.{OkEnv, KindedModule}
+use Rattle.sig_laws.proofs.Formed.WellFormedShape.{kinded}
+use Rattle.omega_checker.specs.Judgment.{Judgment}
+use Rattle.fing_lexer.specs.declared.token.Token.{Token}
+use Rattle.fing_syntax.specs.Units.{UnitTree}
+use Rattle.parse_grammar.specs.Grammar.{Units, phrase, more_units, no_units, unit_module}
+use Rattle.parse_grammar.specs.Tree.{Trees, leaf, node, end, spelling, values, Phrase}
+use Rattle.elab_laws.proofs.TypedClaims.{whole_is_typed}
+use Rattle.refusal_reasons.specs.Refusal.{Refusal as PlainRefusal}
+use Rattle.elab_judgments.specs.Judgments.Program.{ProgramRefused}
+use Rattle.unit_judgments.specs.Interfaces.{Interface, env_of}
+use Rattle.unit_judgments.specs.Link.{UnitModule, UnitUnder, Foreign, Links, OkUnits, interface_of}
+use Rattle.sig_definitions.specs.Verdict.{Verdict, holds, refuses}
+use Rattle.unit_judgments.proofs.Walks.{link-is-exact, link-is-good}
+use Rattle.unit_laws.specs.Derived.{UnitMeans, UnitRefused, DerivedUnder, UnitsMean, FirstRefused}
+use Rattle.unit_laws.specs.Units.{unit_name, program_of}
+use Rattle.unit_laws.proofs.InOrder.{so-far, one-more, first-stop}
+use Rattle.unit_laws.proofs.Apart.{derived-under-is-good, first-is-refused, linked-is-derived, linked-means}
+use Rattle.semantic_sigs.specs.Made.{module_of}
+use Rattle.semantic_sigs.specs.declared.made.Module.{Module as CodeModule}
+use Rattle.fing_refusals.specs.Plain.{Says, plain_refusal, want_of_memory}
+use Rattle.fing_refusals.specs.declared.refusal.Refusal.{Refusal}
+use Rattle.fing_elab.specs.Units.{MeansUnit, UnitIsRefused}
+use Rattle.fing_units.specs.Units.{unit_of, units_of}
+use Rattle.fing_units.specs.declared.unit_module.UnitModule.{UnitModule as CodeUnit}
+use Rattle.fing_top.specs.Answer.{limit}
+use Rattle.fing_top.specs.Compiled.{IsConfirmed}
+use Rattle.fing_top.specs.Linked.{IsNext}
+use Rattle.fing_top.specs.Meaning.{separate_units, Spells}
+
+-- ---- there are no more units than tokens
+
+units_within : (ts : Trees (phrase Units ∷ [])) → length (values ts).0 ≤ length (spelling ts)
+units_within (node no_units end end) = omega arith
+units_within (node more_units (node unit_module (leaf t e ps) rest) end) =
+    let front : List Token = t ∷ spelling ps in
+    omega (arith, units_within rest, length-append (front ++ spelling rest) [], length-append front (spelling rest))
+
+pub few_units : {ts : List Token} {us : List UnitTree} → Phrase Units ts us → length us ≤ length ts
+few_units p = omega (arith, units_within p.parts, ap length p.spelled, ap length p.given)
+
+-- ---- one unit after the other
+
+pub good_scope : (under : List Interface) → DerivedUnder under → OkEnv (env_of under)
+good_scope under d = (derived-under-is-good under d).1
+
+-- the interfaces of the units so far are those of derived units
+pub scope_so_far : (units : List UnitTree) (ms : List UnitModule) (under : List Interface) → UnitsMean [] units ms → under ≡ map interface_of ms → DerivedUnder under
+scope_so_far units ms under h e = subst DerivedUnder (sym e) (so-far h)
+
+-- a refusal that says one thing says another
+says : (N : Type 0) (P Q : PlainRefusal → Type 0) (o : Option PlainRefusal) → ((r : PlainRefusal) → P r → Q r) → MatchOption o N P → MatchOption o N Q
+says N P Q None f h = h
+says N P Q (Some r) f h = f r h
+
+pub unit_refused : (g h : Env) (u : UnitTree) (e : Refusal) → g ≡ h → Says e (UnitIsRefused g u) → Says e (UnitRefused h u)
+unit_refused g h u e same s =
+    says (e ≡ want_of_memory) (UnitIsRefused g u) (UnitRefused h u) (plain_refusal e) (λ r q. subst (λ (k : Env). UnitRefused k u r) same q.refused) s
+
+pub is_next : (g : Env) (under own : List Interface) (name : Name) (u : UnitTree) (m : CodeModule) → g ≡ env_of under → own ≡ under → name ≡ unit_name u → MeansUnit g u (module_of m)
+    → IsNext under u (record { under = own; name = name; «module» = m })
+is_next g under own name u m same stands named h = record {
+  stands = stands;
+  name = named;
+  means = subst (λ (k : Env). UnitMeans k u (module_of m)) same h.derived;
+}
+
+-- the item at an index, before the items after it
+first_of : {A : Type 0} (n : ℕ) (items : List A) (item : A) → n < length items → item ≡ get_or items n item → drop n items ≡ item ∷ drop (n + 1) items
+first_of n items item h is = rw (add-one, drop-cons items n item h) (ap (λ x. x ∷ drop (suc n) items) (sym is))
+
+taken_next : {A : Type 0} (n : ℕ) (items : List A) (item : A) → n < length items → item ≡ get_or items n item → take (n + 1) items ≡ take n items ++ item ∷ []
+taken_next n items item h is = rw add-one (take-suc items n item h ∙ ap (λ x. take n items ++ x ∷ []) (sym is))
+
+as_unit : (under : List Interface) (u : UnitTree) (next : CodeUnit) → IsNext under u next → unit_of next ≡ UnitUnder under (unit_name u) (module_of next.module)
+as_unit under u next x = rw (x.stands, x.name) refl
+
+-- one more unit is elaborated
+pub one_more : (units : List UnitTree) (n : ℕ) (u : UnitTree) (ms : List UnitModule) (under : List Interface) (next : CodeUnit) → n < length units → u ≡ get_or units n u
+    → UnitsMean [] (take n units) ms → under ≡ map interface_of ms → IsNext under u next → UnitsMean [] (take (n + 1) units) (ms ++ unit_of next ∷ [])
+one_more units n u ms under next h is before same x =
+    let m = module_of next.module in
+    let means : UnitMeans (env_of (map interface_of ms)) u m = subst (λ (k : List Interface). UnitMeans (env_of k) u m) same x.means in
+    let unit : unit_of next ≡ UnitUnder (map interface_of ms) (unit_name u) m = as_unit under u next x ∙ ap (λ (k : List Interface). UnitUnder k (unit_name u) m) same in
+    subst (λ (us : List UnitTree). UnitsMean [] us (ms ++ unit_of next ∷ [])) (sym (taken_next n units u h is))
+    (subst (λ (v : UnitModule). UnitsMean [] (take n units ++ u ∷ []) (ms ++ v ∷ [])) (sym unit) (one-more u m before means))
+
+pub more_made : (made after : List CodeUnit) (next : CodeUnit) → after ≡ made ++ next ∷ [] → units_of after ≡ units_of made ++ unit_of next ∷ []
+more_made made after next e = ap units_of e ∙ map-append unit_of made (next ∷ [])
+
+pub more_under : (ms : List UnitModule) (under after : List Interface) (u : UnitModule) → under ≡ map interface_of ms → after ≡ under ++ interface_of u ∷ [] → after ≡ map interface_of (ms ++ u ∷ [])
+more_under ms under after u same e = e ∙ ap (λ (k : List Interface). k ++ interface_of u ∷ []) same ∙ sym (map-append interface_of ms (u ∷ []))
+
+-- all units are elaborated
+pub all_units : (units : List UnitTree) (n : ℕ) (ms : List UnitModule) → length units ≤ n → UnitsMean [] (take n units) ms → UnitsMean [] units ms
+all_units units n ms h m = subst (λ (us : List UnitTree). UnitsMean [] us ms) (take_all n units h) m
+
+-- one is refused
+pub stops : (units : List UnitTree) (n : ℕ) (u : UnitTree) (ms : List UnitModule) (under : List Interface) (e : Refusal) → n < length units → u ≡ get_or units n u
+    → UnitsMean [] (take n units) ms → under ≡ map interface_of ms → Says e (UnitRefused (env_of under) u) → Says e (FirstRefused [] units)
+stops units n u ms under e h is before same s =
+    let split : take n units ++ u ∷ drop (n + 1) units ≡ units = ap (λ (rest : List UnitTree). take n units ++ rest) (sym (first_of n units u h is)) ∙ take-append-drop n units in
+    says (e ≡ want_of_memory) (UnitRefused (env_of under) u) (FirstRefused [] units) (plain_refusal e)
+    (λ r q. subst (λ (us : List UnitTree). FirstRefused [] us r) split (first-stop u (drop (n + 1) units) before (subst (λ (k : List Interface). UnitRefused (env_of k) u r) same q))) s
+
+same_length : {under : List Interface} {us : List UnitTree} {ms : List UnitModule} → UnitsMean under us ms → length ms ≡ length us
+same_length UnitsMean.none = refl
+same_length (UnitsMean.next p rest) = ap suc (same_length rest)
+
+pub few_made : (units : List UnitTree) (made : List CodeUnit) → length units ≤ limit → UnitsMean [] units (units_of made) → length made < 2 ^ 32
+few_made units made h m = omega (arith, h, same_length m, length-map made unit_of)
+
+-- ---- the link
+
+pub fits : {us : List UnitTree} {ms : List UnitModule} → UnitsMean [] us ms → OkUnits ms
+fits {us} {ms} h = (linked-is-derived us ms h).fits
+
+-- none is foreign
+pub no_foreign : {us : List UnitTree} {ms : List UnitModule} → UnitsMean [] us ms → (n : ℕ) → Foreign ms n → ⊥
+no_foreign {us} {ms} h n f = go (link-is-exact ms (fits h))
+  where
+    linked : Links ms (linked-is-derived us ms h).whole
+    linked = (linked-is-derived us ms h).links
+
+    go : Verdict (Links ms) (Foreign ms) → ⊥
+    go (holds m w only never) = never n f
+    go (refuses k w only never) = never (linked-is-derived us ms h).whole linked
+
+pub kinded_link : {us : List UnitTree} {ms : List UnitModule} (m : Module) → UnitsMean [] us ms → Links ms m → KindedModule [] m
+kinded_link {us} {ms} m h k = kinded [] m (link-is-good ms m (fits h) k)
+
+pub typed_link : {us : List UnitTree} {ms : List UnitModule} (f : Effect) (x : Abs) (ts : List Ty) (d e : Term) → UnitsMean [] us ms → Links ms (made f x ts d) → Packed [] (made f x ts d) e → HasType [] [] e (enc_abs x)
+typed_link {us} {ms} f x ts d e h k p = whole_is_typed (program_of us) f x ts d e (linked-means us ms (made f x ts d) e h k p)
+
+pub is_linked : {us : List UnitTree} {ms : List UnitModule} (bytes : List ℕ) (f : Effect) (x : Abs) (ts : List Ty) (d e : Term) (j : Judgment)
+    → Spells separate_units bytes (program_of us) → UnitsMean [] us ms → Links ms (made f x ts d) → Packed [] (made f x ts d) e → (j.term ≡ e) × (j.ty ≡ enc_abs x)
+    → IsConfirmed separate_units false bytes j
+is_linked {us} {ms} bytes f x ts d e j s h k p q = record {
+  meaning = record { program = program_of us; effect = f; sig = x; types = ts; term = d; whole = e };
+  means = record { spelled = s; derived = linked-means us ms (made f x ts d) e h k p };
+  term = q.0;
+  ty = q.1;
+}
+
+-- the refusal of the first unit that is refused is that of the program
+pub first_refused : (us : List UnitTree) (r : PlainRefusal) → FirstRefused [] us r → ProgramRefused (program_of us) r
+first_refused us r h = (first-is-refused us r h).0

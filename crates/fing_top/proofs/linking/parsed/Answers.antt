@@ -1,0 +1,34 @@
+use Rattle.std.proofs.Common.{List, arith, refl, sym, subst}
+use Rattle.fing_lexer.specs.declared.token.Token.{Token}
+use Rattle.fing_lexer.specs.Tokens.{TokensOf}
+use Rattle.elab_phrases.proofs.Given.{exit}
+use Rattle.fing_top.specs.Compiled.{IsRefused}
+use Rattle.fing_top.specs.Meaning.{separate_units}
+use Rattle.fing_top.proofs.Answering.{few_tokens, lexed_refused, parsed_refused}
+use Rattle.fing_top.proofs.Separate.{few_units}
+use Rattle.fing_top.proofs.linking.parsed.Goals as goal
+
+pub returns-in_err-tokens-clause-refused : goal.returns-in_err-tokens-clause-refused
+returns-in_err-tokens-clause-refused c = exit (IsRefused separate_units c.args.bytes.now) c.from_residual.result _ c.from_residual.ensures.1 (lexed_refused separate_units c.args.bytes.now c.in_err-tokens.field-0.0 c.in_err-tokens.ensures.refused)
+
+pub units-requires : goal.units-requires
+units-requires c = few_tokens c.args.bytes.now c.deref.result.now c.requires (subst (λ (ts : List Token). TokensOf c.args.bytes.now ts) (sym c.deref.ensures.value) c.in_ok-tokens.ensures.tokens)
+
+pub returns-in_err-units-clause-refused : goal.returns-in_err-units-clause-refused
+returns-in_err-units-clause-refused c =
+    let lexed = subst (λ (ts : List Token). TokensOf c.args.bytes.now ts) (sym c.deref.ensures.value) c.in_ok-tokens.ensures.tokens in
+    exit (IsRefused separate_units c.args.bytes.now) c.from_residual-in_err-units.result _ c.from_residual-in_err-units.ensures.1 (parsed_refused separate_units c.args.bytes.now c.deref.result.now c.in_err-units.field-0.0 lexed c.in_err-units.ensures.refused)
+
+pub returns-clause-spelled : goal.returns-clause-spelled
+returns-clause-spelled c = record {
+  tokens = c.deref.result.now;
+  lexed = subst (λ (ts : List Token). TokensOf c.args.bytes.now ts) (sym c.deref.ensures.value) c.in_ok-tokens.ensures.tokens;
+  tree = c.in_ok-units.field-0;
+  phrase = c.in_ok-units.ensures.units;
+  stands = refl;
+}
+
+pub returns-clause-few : goal.returns-clause-few
+returns-clause-few c =
+    let lexed = subst (λ (ts : List Token). TokensOf c.args.bytes.now ts) (sym c.deref.ensures.value) c.in_ok-tokens.ensures.tokens in
+    omega (arith, few_units c.in_ok-units.ensures.units, few_tokens c.args.bytes.now c.deref.result.now c.requires lexed)
