@@ -28,5 +28,6 @@ mod types;
 mod uses;
 
 pub use bindings::structure;
-pub use phrases::{expression_phrase, module_phrase, signature_phrase, type_phrase};
+pub use modules::sealed_in;
+pub use phrases::{expression_phrase, module_in, module_phrase, signature_phrase, type_phrase};
 pub use sets::NameSet;

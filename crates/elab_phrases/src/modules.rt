@@ -186,3 +186,20 @@ fn mod_unpack(alloc: Global, env: &mut Env, value: &Exp, by: &SigEx) -> Result<M
     let order = norm(alloc, &target)?;
     unpack_rule(alloc, env, value.span, packed, &order)
 }
+
+/// What `X :> S` means in a good environment, which is borrowed as by `module_in`. A refusal of the name has the name's place.
+///
+/// Rossberg, Russo and Dreyer, "F-ing modules", section 4, Elaboration, Modules.
+pub fn sealed_in(
+    alloc: Global,
+    env: &mut Env,
+    name: &SpanName,
+    by: &SigEx,
+) -> Result<Module, Refusal>
+    requires { OkEnv env.old }
+    ensures given { IfOk result (λ m. (at : Place) → ModMeans env.old (ModAt at (ModSeal (spelled name.now) by.now)) (module_of m)) }
+    ensures refused { IfErr result (λ e. (at : Place) → RefusedAs env.old (a_mod (ModAt at (ModSeal (spelled name.now) by.now))) e) }
+    ensures same { OnOk result (env.new ≡ env.old) }
+{
+    mod_seal(alloc, env, name, by)
+}

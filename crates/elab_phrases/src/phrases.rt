@@ -1,5 +1,5 @@
 // One phrase in an environment, apart from a program: a type, an expression, a signature or a module.
-ghost use Rattle.std.specs.Prelude.{IfErr, IfOk};
+ghost use Rattle.std.specs.Prelude.{◌≡◌, IfErr, IfOk, OnOk};
 ghost use Rattle.omega_kinds.specs.View.{kind_tree};
 ghost use Rattle.sig_laws.specs.Good.{OkEnv};
 ghost use Rattle.semantic_sigs.specs.Made.{module_of};
@@ -64,4 +64,17 @@ pub fn module_phrase(alloc: Global, env: Env, phrase: &Mod) -> Result<Module, Re
 {
     let mut own = env;
     module(alloc, &mut own, phrase)
+}
+
+/// The same in an environment that is borrowed. It is as it was where there is an answer; after a refusal it is as far as
+/// elaboration went.
+///
+/// Rossberg, Russo and Dreyer, "F-ing modules", sections 4 and 7, Elaboration, Modules.
+pub fn module_in(alloc: Global, env: &mut Env, phrase: &Mod) -> Result<Module, Refusal>
+    requires { OkEnv env.old }
+    ensures given { IfOk result (λ m. ModMeans env.old phrase.now (module_of m)) }
+    ensures refused { IfErr result (λ e. RefusedAs env.old (a_mod phrase.now) e) }
+    ensures same { OnOk result (env.new ≡ env.old) }
+{
+    module(alloc, env, phrase)
 }
