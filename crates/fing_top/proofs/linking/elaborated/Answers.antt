@@ -16,7 +16,7 @@ returns-in_err-next-clause-refused c =
     (stops c.args.units.now c.loop-unit.unit-index c.unit-item.result _ _ c.in_err-next.field-0.0 c.loop-unit-test.true c.unit-item.is c.loop-unit.invariant.0 c.loop-unit.invariant.1 c.in_err-next.ensures.refused)
 
 pub loop-unit-init : goal.loop-unit-init
-loop-unit-init c = none_yet _ _ _ (search rules) (search rules)
+loop-unit-init c = none_yet c.args.units.now _ _ (search rules) (search rules)
 
 pub loop-unit-preserved : goal.loop-unit-preserved
 loop-unit-preserved c =

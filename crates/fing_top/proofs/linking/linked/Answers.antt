@@ -1,7 +1,5 @@
-use Rattle.std.proofs.Common.{◌≡◌, [], rules, sym, subst}
+use Rattle.std.proofs.Common.{[], arith, rules}
 use Rattle.elab_phrases.proofs.Given.{exit}
-use Rattle.omega_terms.specs.Typing.{HasType}
-use Rattle.sig_definitions.specs.Signatures.Encoding.{enc_abs}
 use Rattle.semantic_sigs.specs.Made.{module_of}
 use Rattle.unit_laws.specs.Derived.{FirstRefused}
 use Rattle.unit_laws.specs.Units.{program_of}
@@ -18,7 +16,9 @@ returns-in_err-made-clause-refused c =
     c.in_ok-units.ensures.spelled (first_refused c.in_ok-units.units) (search rules))
 
 pub joined-requires-clause-few : goal.joined-requires-clause-few
-joined-requires-clause-few c = few_made c.in_ok-units.units c.in_ok-made.made.items c.in_ok-units.ensures.few (search rules)
+joined-requires-clause-few c =
+    let made = c.in_ok-made.made in
+    omega (arith, made.ok.0, few_made c.in_ok-units.units made.items c.in_ok-units.ensures.few (search rules))
 
 pub joined-requires-clause-apart : goal.joined-requires-clause-apart
 joined-requires-clause-apart c = (_, c.in_ok-made.ensures.means)
