@@ -1,10 +1,12 @@
-// Elaboration: what a program means in System Fω, or the one reason why it means nothing.
-// Stands on elab_phrases (phrases in an environment), module_rules (hidden types packed into a term), and on the theorems
-// of elab_laws and elab_exact.
-// Proved (`elab`): an answer is the program's one meaning, whose whole term has the encoding of the signature as its type; a
-// refusal is the program's one refusal. Want of memory alone is free.
+// Elaboration: what a program or a separate unit means in System Fω, or the one reason why it means nothing.
+// Stands on elab_phrases (phrases in an environment), module_rules (hidden types packed into a term), fing_units (interfaces
+// in an environment), and on the theorems of elab_laws, elab_exact and unit_laws.
+// Proved (`elab`, `elab_unit`): an answer is the one meaning, and that of a program has a whole term whose type is the encoding
+// of its signature; a refusal is the one refusal. Want of memory alone is free.
 #![tactic(auto)]
 
+mod units;
 mod whole;
 
+pub use units::elab_unit;
 pub use whole::{Elaborated, elab};

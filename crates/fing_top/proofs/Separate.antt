@@ -89,6 +89,11 @@ taken_next n items item h is = rw add-one (take-suc items n item h ∙ ap (λ x.
 as_unit : (under : List Interface) (u : UnitTree) (next : CodeUnit) → IsNext under u next → unit_of next ≡ UnitUnder under (unit_name u) (module_of next.module)
 as_unit under u next x = rw (x.stands, x.name) refl
 
+-- no unit is elaborated yet
+pub none_yet : (units : List UnitTree) (done : List CodeUnit) (under : List Interface) → done ≡ [] → under ≡ []
+    → UnitsMean [] (take 0 units) (units_of done) × (under ≡ map interface_of (units_of done))
+none_yet units done under p q = rw (p, q) (UnitsMean.none, refl)
+
 -- one more unit is elaborated
 pub one_more : (units : List UnitTree) (n : ℕ) (u : UnitTree) (ms : List UnitModule) (under : List Interface) (next : CodeUnit) → n < length units → u ≡ get_or units n u
     → UnitsMean [] (take n units) ms → under ≡ map interface_of ms → IsNext under u next → UnitsMean [] (take (n + 1) units) (ms ++ unit_of next ∷ [])
@@ -99,8 +104,8 @@ one_more units n u ms under next h is before same x =
     subst (λ (us : List UnitTree). UnitsMean [] us (ms ++ unit_of next ∷ [])) (sym (taken_next n units u h is))
     (subst (λ (v : UnitModule). UnitsMean [] (take n units ++ u ∷ []) (ms ++ v ∷ [])) (sym unit) (one-more u m before means))
 
-pub more_made : (made after : List CodeUnit) (next : CodeUnit) → after ≡ made ++ next ∷ [] → units_of after ≡ units_of made ++ unit_of next ∷ []
-more_made made after next e = ap units_of e ∙ map-append unit_of made (next ∷ [])
+pub more_made : (done after : List CodeUnit) (next : CodeUnit) → after ≡ done ++ next ∷ [] → units_of after ≡ units_of done ++ unit_of next ∷ []
+more_made done after next e = ap units_of e ∙ map-append unit_of done (next ∷ [])
 
 pub more_under : (ms : List UnitModule) (under after : List Interface) (u : UnitModule) → under ≡ map interface_of ms → after ≡ under ++ interface_of u ∷ [] → after ≡ map interface_of (ms ++ u ∷ [])
 more_under ms under after u same e = e ∙ ap (λ (k : List Interface). k ++ interface_of u ∷ []) same ∙ sym (map-append interface_of ms (u ∷ []))
@@ -121,8 +126,8 @@ same_length : {under : List Interface} {us : List UnitTree} {ms : List UnitModul
 same_length UnitsMean.none = refl
 same_length (UnitsMean.next p rest) = ap suc (same_length rest)
 
-pub few_made : (units : List UnitTree) (made : List CodeUnit) → length units ≤ limit → UnitsMean [] units (units_of made) → length made < 2 ^ 32
-few_made units made h m = omega (arith, h, same_length m, length-map made unit_of)
+pub few_made : (units : List UnitTree) (done : List CodeUnit) → length units ≤ limit → UnitsMean [] units (units_of done) → length done < 2 ^ 32
+few_made units done h m = omega (arith, h, same_length m, length-map done unit_of)
 
 -- ---- the link
 

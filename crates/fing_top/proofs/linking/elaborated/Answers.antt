@@ -1,19 +1,22 @@
-use Rattle.std.proofs.Common.{◌+◌, ◌∙◌, List, [], map, take, sym, ap, subst}
+use Rattle.std.proofs.Common.{◌+◌, ◌∙◌, List, [], map, rules, take, sym, ap, subst}
 use Rattle.elab_phrases.proofs.Given.{exit}
 use Rattle.fing_refusals.specs.Plain.{Says}
 use Rattle.unit_judgments.specs.Link.{UnitModule, interface_of}
 use Rattle.unit_laws.specs.Derived.{UnitsMean, FirstRefused}
 use Rattle.fing_units.specs.Units.{unit_of, units_of}
-use Rattle.fing_top.proofs.Separate.{all_units, more_made, more_under, one_more, scope_so_far, stops}
+use Rattle.fing_top.proofs.Separate.{all_units, more_made, more_under, none_yet, one_more, scope_so_far, stops}
 use Rattle.fing_top.proofs.linking.elaborated.Goals as goal
 
-pub next_module-next-requires : goal.next_module-next-requires
-next_module-next-requires c = scope_so_far _ _ _ c.loop-unit.invariant.0 c.loop-unit.invariant.1
+pub next_module-requires : goal.next_module-requires
+next_module-requires c = scope_so_far _ _ _ c.loop-unit.invariant.0 c.loop-unit.invariant.1
 
 pub returns-in_err-next-clause-refused : goal.returns-in_err-next-clause-refused
 returns-in_err-next-clause-refused c =
     exit (λ e. Says e (FirstRefused [] c.args.units.now)) c.from_residual.result _ c.from_residual.ensures.1
     (stops c.args.units.now c.loop-unit.unit-index c.unit-item.result _ _ c.in_err-next.field-0.0 c.loop-unit-test.true c.unit-item.is c.loop-unit.invariant.0 c.loop-unit.invariant.1 c.in_err-next.ensures.refused)
+
+pub loop-unit-init : goal.loop-unit-init
+loop-unit-init c = none_yet c.args.units.now _ _ (search rules) (search rules)
 
 pub loop-unit-preserved : goal.loop-unit-preserved
 loop-unit-preserved c =
