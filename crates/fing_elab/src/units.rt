@@ -49,13 +49,7 @@ pub fn elab_unit(alloc: Global, env: Env, unit: &UnitTree) -> Result<Module, Ref
 
 // A body sealed by a signature, as the derived form has it, whose made phrases stand at a place: both are bound to hidden
 // names in a structure, and the second one is its part that is taken.
-fn sealed_body(
-    alloc: Global,
-    env: Env,
-    at: Span,
-    body: &Mod,
-    by: &SigEx,
-) -> Result<Module, Refusal>
+fn sealed_body(alloc: Global, env: Env, at: Span, body: &Mod, by: &SigEx) -> Result<Module, Refusal>
     requires { OkEnv env }
     ensures given { IfOk result (λ m. ModMeans env (sealed (place at) body.now by.now) (module_of m)) }
     ensures refused { IfErr result (λ e. RefusedAs env (a_mod (sealed (place at) body.now by.now)) e) }

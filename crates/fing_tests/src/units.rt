@@ -16,12 +16,13 @@ use semantic_sigs::{Env, Module};
 use std::alloc::Global;
 use std::test::Fail;
 
-const TWO: &str = "module A : sig type t val x : t end = struct type t = Int val x = 5 end module B : sig val y : A.t end = struct val y = A.x end";
+const TWO: &str =
+    "module A : sig type t val x : t end = struct type t = Int val x = 5 end module B : sig val y : A.t end = struct val y = A.x end";
 
-const TWO_BINDINGS: &str = "module A = struct type t = Int val x = 5 end :> sig type t val x : t end module B = struct val y = A.x end :> sig val y : A.t end";
+const TWO_BINDINGS: &str =
+    "module A = struct type t = Int val x = 5 end :> sig type t val x : t end module B = struct val y = A.x end :> sig val y : A.t end";
 
-const OTHER: &str =
-    "module A : sig type t val x : Int end = struct type t = Int val x = 5 end";
+const OTHER: &str = "module A : sig type t val x : Int end = struct type t = Int val x = 5 end";
 
 // The units of a text.
 fn trees(alloc: Global, text: &str) -> Result<Units, Fail> {
@@ -113,7 +114,9 @@ fn a_unit_after_one_of_another_signature_is_foreign(rt: HostRuntime) -> Result<(
 
 #[test]
 fn no_units_are_the_empty_structure(rt: HostRuntime) -> Result<(), Fail> {
-    let found = link(rt.alloc(), Vec::new(rt.alloc())).ok().ok_or("not linked")?;
+    let found = link(rt.alloc(), Vec::new(rt.alloc()))
+        .ok()
+        .ok_or("not linked")?;
     assert_eq!(rt; nodes(&found.term), 1);
     Ok(())
 }
