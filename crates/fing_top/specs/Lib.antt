@@ -4,6 +4,7 @@ pub mod Refusing
 pub mod Counts
 pub mod Meaning
 pub mod Reply
+pub mod Emission
 pub mod Compiled
 pub mod Linked
 pub mod Ending

@@ -23,4 +23,4 @@ mod top;
 mod verifying;
 
 pub use status::{Status, exit_code};
-pub use top::{fing, one_meaning, one_reply, reply};
+pub use top::{emitted_is_verified, fing, one_meaning, one_reply, reply};

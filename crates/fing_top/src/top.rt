@@ -3,6 +3,7 @@ ghost use Rattle.std.specs.Prelude.{◌≡◌, ◌≤◌, ℕ, List, length, map
 ghost use Rattle.std.specs.String.{string_bytes};
 ghost use Rattle.fing_words.specs.CommandLines.{IsCommandLine};
 ghost use Rattle.fing_top.specs.Meaning.{MeanOrRefused};
+ghost use Rattle.fing_top.specs.Emission.{EmittedIsVerified};
 ghost use Rattle.fing_top.specs.Reply.{OneReply, EachReplied};
 ghost use Rattle.fing_top.specs.Answer.{limit, AnswersBytes, Answers, Completes, Takes, Lacks, change, output};
 ghost use Rattle.fing_top.specs.Words.{IsSized};
@@ -139,4 +140,12 @@ pub fn one_reply()
 /// and never both.
 pub fn one_meaning()
     ensures { MeanOrRefused }
+{}
+
+/// What `emit`, with or without `--simplify`, or `link` writes for a source that means something is a text of the type and the
+/// term that were confirmed for it; and if no more than 4,000 parentheses are open in it, the reply of `verify` to it is
+/// `well typed`. The type is of height 2^64 at most and the term of height 2^63, so that each level of a variable is a number
+/// of 64 bits; no tree of the program is higher than 4,096.
+pub fn emitted_is_verified()
+    ensures { EmittedIsVerified }
 {}

@@ -1,0 +1,95 @@
+-- What `emit` and `link` write is a text of the type and the term that are confirmed, and `verify` finds it well typed.
+use Rattle.std.proofs.Common.{◌≡◌, ◌≤◌, ℕ, List, [], ◌∷◌, Bool, true, false, Option, Some, None, refl, sym, ap, subst, ◌∙◌}
+use Rattle.std.specs.Prelude.{◌^◌}
+use Rattle.omega_types.specs.Ty.{Ty}
+use Rattle.omega_types.specs.Height.{height}
+use Rattle.omega_terms.specs.Height.{term_height}
+use Rattle.omega_checker.specs.Judgment.{Judgment}
+use Rattle.omega_terms.specs.declared.version.Version.TheVariants.{Second}
+use Rattle.omega_terms.specs.Term.{Term}
+use Rattle.omega_terms.specs.OmegaText.{omega_text}
+use Rattle.omega_spelling.specs.Omega.{OmegaText}
+use Rattle.sig_definitions.specs.Signatures.Encoding.{enc_abs}
+use Rattle.fing_syntax.specs.Phrase.{Binds as Program}
+use Rattle.fing_syntax.specs.Units.{UnitTree, UnitAt}
+use Rattle.parse_grammar.specs.Meaning.{Value}
+use Rattle.elab_spelling.specs.Phrases.{BindsSpelled}
+use Rattle.parse_spelling.specs.Values.{UnitsSpelled, ValueSpelled}
+use Rattle.parse_spelling.specs.Claims.{Compiles, Emits}
+use Rattle.parse_spelling.proofs.Theorems.{tokens_are_spelled, phrases_are_spelled, emitted_are_typed, emitted_in_scope, emitted_have_text}
+use Rattle.unit_laws.specs.Units.{program_of}
+use Rattle.fing_top.specs.declared.status.Status.TheVariants as status
+use Rattle.fing_top.specs.Meaning.{Form, one_program, separate_units, class_of, stands_for, Spells, Meaning, BytesMean}
+use Rattle.fing_top.specs.Reply.{Reply, accepted, emitted, omega_reply, TellsTerm, ProgramReplies, VerifyReplies}
+use Rattle.fing_top.specs.Emission.{IsVerified, EmittedIsVerified}
+
+-- the program of units that are spelled is spelled, the hidden names of their sealings too
+units-spelled : (us : List UnitTree) → UnitsSpelled us → BindsSpelled (program_of us)
+units-spelled [] h = tt
+units-spelled (UnitAt at x s m ∷ us) h = ((h.0.0, (((refl, h.0.2), ((refl, (refl, h.0.1)), tt)), refl)), units-spelled us h.1)
+
+program-spelled : (form : Form) (tree : Value (class_of form)) → ValueSpelled (class_of form) tree → BindsSpelled (stands_for form tree)
+program-spelled one_program program h = h
+program-spelled separate_units units h = units-spelled units h
+
+spells-spelled : {form : Form} {bytes : List ℕ} {program : Program} → Spells form bytes program → BindsSpelled program
+spells-spelled {form} {bytes} s =
+    let h = phrases_are_spelled (class_of form) s.tokens s.tree (tokens_are_spelled bytes s.tokens s.lexed) s.phrase in
+    subst BindsSpelled s.stands (program-spelled form s.tree h)
+
+compiles : {form : Form} {bytes : List ℕ} {m : Meaning} → BytesMean form bytes m → Compiles m.sig m.whole
+compiles {m = m} b = record {
+  program = m.program;
+  spelled = spells-spelled b.spelled;
+  effect = m.effect;
+  types = m.types;
+  term = m.term;
+  derived = b.derived;
+}
+
+emits : (simplify : Bool) (whole : Term) → Emits whole (emitted simplify whole)
+emits false whole = Emits.as_it_is
+emits true whole = Emits.simpler
+
+-- what is written for a meaning
+meaning-verified : {form : Form} {bytes : List ℕ} {m : Meaning} (simplify : Bool) → BytesMean form bytes m
+    → height (enc_abs m.sig) ≤ 2 ^ 64 → term_height (emitted simplify m.whole) ≤ 2 ^ 63
+    → IsVerified (omega_text (enc_abs m.sig) (emitted simplify m.whole)) (enc_abs m.sig) (emitted simplify m.whole)
+meaning-verified {m = m} simplify b low shallow =
+    let e : Term = emitted simplify m.whole in
+    let c : Compiles m.sig m.whole = compiles b in
+    let k : Emits m.whole e = emits simplify m.whole in
+    let scope = emitted_in_scope m.sig m.whole e c k low shallow in
+    let spelled : OmegaText (omega_text (enc_abs m.sig) e) (enc_abs m.sig) e = (Second, emitted_have_text Second m.sig m.whole e c k scope.0 scope.1) in
+    record {
+      spelled = spelled;
+      verified = λ fits. VerifyReplies.well_typed spelled fits (emitted_are_typed m.sig m.whole e c k);
+    }
+
+-- the term and the type of a reply, or those given where none are confirmed
+abbrev term_in : Term → Option Judgment → Term
+term_in e None = e
+term_in e (Some j) = j.term
+
+abbrev ty_in : Ty → Option Judgment → Ty
+ty_in t None = t
+ty_in t (Some j) = j.ty
+
+written-verified : {form : Form} {bytes text : List ℕ} {t : Ty} {e : Term} {r : Reply} (simplify : Bool) → ProgramReplies form (TellsTerm simplify) bytes r → r ≡ accepted t e text
+    → height t ≤ 2 ^ 64 → term_height e ≤ 2 ^ 63 → IsVerified text t e
+written-verified {text = text} {t = t} {e = e} simplify (ProgramReplies.meant {m = m} b told) same low shallow =
+    let x : Ty = enc_abs m.sig in
+    let d : Term = emitted simplify m.whole in
+    let whole : omega_reply x d ≡ accepted t e text = sym told ∙ same in
+    let of_text : omega_text x d ≡ text = ap (λ (r : Reply). r.text) whole in
+    let of_ty : x ≡ t = ap (λ (r : Reply). ty_in x r.confirmed) whole in
+    let of_term : d ≡ e = ap (λ (r : Reply). term_in d r.confirmed) whole in
+    let here = meaning-verified simplify b (subst (λ u. height u ≤ 2 ^ 64) (sym of_ty) low) (subst (λ u. term_height u ≤ 2 ^ 63) (sym of_term) shallow) in
+    subst (λ w. IsVerified w t e) of_text (subst (λ u. IsVerified (omega_text x d) u e) of_ty (subst (IsVerified (omega_text x d) x) of_term here))
+written-verified simplify (ProgramReplies.refuses h) same low shallow =
+    let p : status.Refused ≡ status.Ok = ap (λ (r : Reply). r.status) same in
+    absurd (cc)
+
+pub emitted_is_verified : EmittedIsVerified
+emitted_is_verified =
+    (λ simplify bytes text t e told low shallow. written-verified simplify told refl low shallow, λ bytes text t e told low shallow. written-verified false told refl low shallow)
