@@ -1,2 +1,2 @@
 pub mod Programs
-pub mod Units
+pub mod Separate

@@ -1,5 +1,5 @@
 // Separate units.
-ghost use Rattle.std.specs.Prelude.{◌≡◌, ◌∷◌, [], List, IfErr, IfOk, IfSome, OnOk};
+ghost use Rattle.std.specs.Prelude.{◌≡◌, ◌∷◌, [], List, IfErr, IfOk, IfSome, None, OnOk};
 ghost use Rattle.omega_kinds.specs.Kind.{Kind as KindTree};
 ghost use Rattle.omega_kinds.specs.declared.effect.Effect.TheVariants.{Pure};
 ghost use Rattle.omega_terms.specs.Term.{Fields, TermRow};
@@ -15,7 +15,7 @@ ghost use Rattle.fing_syntax.specs.Leaves.{place};
 ghost use Rattle.fing_syntax.specs.Phrase.{ModAt, ModSeal, Spelled};
 ghost use Rattle.elab_judgments.specs.Judgments.Meaning.{ModMeans};
 ghost use Rattle.elab_judgments.specs.Refusals.Task.{a_mod};
-ghost use Rattle.fing_refusals.specs.Plain.{Says};
+ghost use Rattle.fing_refusals.specs.Plain.{Says, want_of_memory};
 ghost use Rattle.elab_phrases.specs.Answered.{RefusedAs};
 ghost use Rattle.unit_laws.specs.Sealing.{Joins};
 ghost use Rattle.unit_laws.specs.Units.{sealed, sealing_name, unit_result, unit_sealing};
@@ -64,8 +64,18 @@ fn sealed_body(alloc: Global, env: Env, at: Span, body: &Mod, by: &SigEx) -> Res
     let end = end_of(alloc, &own, target.share()?, sealing)?;
     match part_of(alloc, found, made, end, &target) {
         Ok(part) => Ok(part),
-        Err(ModRefusal::Mem) => Err(Refusal::from(Mem)),
-        Err(_) => unreachable!(),
+        Err(refusal) => Err(want(refusal)),
+    }
+}
+
+// What a refusal of modules is that has no reason of its own: want of memory.
+fn want(refusal: ModRefusal) -> Refusal
+    requires { plain_why refusal ≡ None }
+    ensures { result ≡ want_of_memory }
+{
+    match refusal {
+        ModRefusal::Mem => Refusal::from(Mem),
+        _ => unreachable!(),
     }
 }
 

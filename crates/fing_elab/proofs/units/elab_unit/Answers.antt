@@ -5,7 +5,7 @@ use Rattle.elab_phrases.specs.Answered.{RefusedAs}
 use Rattle.elab_phrases.proofs.Given.{err-map, ok-map}
 use Rattle.unit_laws.specs.Derived.{UnitMeans}
 use Rattle.unit_laws.specs.Units.{unit_mod}
-use Rattle.fing_elab.proofs.Units.{refused-unit, unit-meaning}
+use Rattle.fing_elab.proofs.Separate.{refused-unit, unit-meaning}
 use Rattle.fing_elab.proofs.units.elab_unit.Goals as goal
 
 pub returns-clause-means : goal.returns-clause-means
