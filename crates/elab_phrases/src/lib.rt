@@ -30,4 +30,5 @@ mod uses;
 pub use bindings::structure;
 pub use modules::sealed_in;
 pub use phrases::{expression_phrase, module_in, module_phrase, signature_phrase, type_phrase};
+pub use scopes::leave;
 pub use sets::NameSet;

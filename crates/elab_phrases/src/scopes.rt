@@ -56,8 +56,8 @@ pub(crate) fn push_fields(env: &mut Env, fields: &SigFields) -> Result<(), Mem>
     Ok(())
 }
 
-/// Takes so many entries away.
-pub(crate) fn leave(env: &mut Env, count: usize)
+/// Takes the last `count` entries of an environment away, and all of them where there are fewer.
+pub fn leave(env: &mut Env, count: usize)
     ensures { env.new ≡ drop count env.old }
 {
     for step in 0..count {

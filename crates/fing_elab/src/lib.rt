@@ -8,5 +8,5 @@
 mod units;
 mod whole;
 
-pub use units::elab_unit;
+pub use units::{elab_unit, unit_in};
 pub use whole::{Elaborated, elab};

@@ -54,7 +54,7 @@ fn module(stack: &mut Stack<'_>, alloc: Global) -> Result<(), BuildRefusal>
         sig: sig.take(),
         body: body.take(),
     };
-    stack.push(Part::OneUnit(unit))
+    stack.push(Part::OneUnit(Box::new(alloc, unit)?))
 }
 
 // Plays a production of separate units.

@@ -11,7 +11,7 @@ use Rattle.parse_stack.specs.Item.{Item, TokenItem, UnitsItem, OneUnitItem, Bind
 abbrev pub part_in : Part → Item
 part_in (a_part.Token t) = TokenItem t.now
 part_in (a_part.Units v) = UnitsItem (reverse v.items)
-part_in (a_part.OneUnit v) = OneUnitItem v
+part_in (a_part.OneUnit v) = OneUnitItem v.value
 part_in (a_part.Binds v) = BindsItem (binds (reverse v.items))
 part_in (a_part.Bind v) = BindItem v
 part_in (a_part.Decls v) = DeclsItem (decls (reverse v.items))

@@ -8,7 +8,8 @@ use parse_forms::{Abstraction, Ascription, KindPart, TypeTail, Where};
 pub enum Part<'a> {
     Token(&'a Token),
     Units(Vec<UnitTree>),
-    OneUnit(UnitTree),
+    // in a box, since it is larger than the other parts
+    OneUnit(Box<UnitTree>),
     Binds(Vec<Bind>),
     Bind(Bind),
     Decls(Vec<Decl>),

@@ -85,7 +85,7 @@ impl<'a> Stack<'a> {
         ensures misfit { IfErr result (λ e. top as_one_unit (held self.old) ≡ None) }
     {
         match self.pop() {
-            Some(Part::OneUnit(found)) => Ok(found),
+            Some(Part::OneUnit(found)) => Ok(Box::into_inner(found)),
             other => Err(misfit(other)),
         }
     }
