@@ -1,7 +1,9 @@
 -- One meaning or one refusal of each separate unit, as the code answers it.
-use Rattle.std.proofs.Common.{◌≡◌, List, ◌∷◌, [], IfSome, Option, Some, None, refl, sym, subst, ◌∙◌}
+use Rattle.std.proofs.Common.{◌≡◌, ◌+◌, List, ◌∷◌, [], IfSome, Option, Some, None, length, drop, map, refl, sym, subst, ◌∙◌}
 use Rattle.omega_kinds.specs.Kind.{Kind}
 use Rattle.omega_kinds.specs.Name.{Name}
+use Rattle.omega_kinds.specs.View.{kind_tree}
+use Rattle.omega_kinds.specs.declared.kind.Kind.{Kind as KindHandle}
 use Rattle.omega_types.specs.Binders.{extend}
 use Rattle.omega_terms.specs.Term.{Term, TermRow}
 use Rattle.omega_kinds.specs.declared.effect.Effect.TheVariants.{Pure}
@@ -30,6 +32,7 @@ use Rattle.elab_exact.proofs.Theorems.{each-answered}
 use Rattle.fing_refusals.specs.Plain.{Says}
 use Rattle.fing_refusals.specs.declared.refusal.Refusal.{Refusal as CodeRefusal}
 use Rattle.elab_phrases.specs.Answered.{RefusedAs}
+use Rattle.elab_phrases.proofs.Included.{left-under}
 use Rattle.elab_phrases.proofs.Placing.{says-map}
 use Rattle.unit_judgments.specs.Interfaces.{hidden_in, sig_in, with_interface}
 use Rattle.unit_judgments.specs.Link.{LinkGives}
@@ -110,6 +113,11 @@ after-body x M p q e = e ∙ (λ i. with_interface (p i) (q i) (sig_in M))
 
 pub after-both : {h k : Env} (g : Env) (x : Name) (M N : Module) → h ≡ after_body g M → x ≡ unit_result → k ≡ with_interface h x (sig_in N) → k ≡ after_both g M N
 after-both g x M N p q e = e ∙ (λ i. with_interface (p i) (q i) (sig_in N))
+
+-- what an interface brought is taken away again
+pub left-interface : (g : Env) (x : Name) (a : Abs) (items : List KindHandle) (before after : Env)
+    → map kind_tree items ≡ kinds_of a → before ≡ with_interface g x a → after ≡ drop (length items + 1) before → after ≡ g
+left-interface g x (Abs.Ex ks s) items before after = left-under g items ks x s before after
 
 pub good-body : {g h : Env} (b : Mod) (M : Module) → h ≡ after_body g M → OkEnv g → ModMeans g b M → OkEnv h
 good-body {g} b M e h p = subst OkEnv (sym e) (body-env g b M h p)

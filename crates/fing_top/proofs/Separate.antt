@@ -1,8 +1,8 @@
 -- Separate units that are elaborated apart and linked.
-use Rattle.std.proofs.Common.{◌≡◌, ◌∙◌, ℕ, suc, ◌+◌, ◌<◌, ◌≤◌, ◌^◌, false, Option, Some, None, List, [], ◌∷◌, ◌++◌, length, take, drop, get_or, map, arith, refl, sym, ap, subst, length-append, add-one, drop-cons}
+use Rattle.std.proofs.Common.{◌≡◌, ◌∙◌, ℕ, suc, ◌+◌, ◌<◌, ◌≤◌, Option, Some, None, List, [], ◌∷◌, ◌++◌, length, take, drop, get_or, map, refl, sym, ap, subst, add-one, drop-cons}
 use Rattle.std.specs.Prelude.{MatchOption}
 use Rattle.std.proofs.Math.Seq.{take-suc}
-use Rattle.std.proofs.lemmas.List.{length-map, map-append, take-append-drop, take_all}
+use Rattle.std.proofs.lemmas.List.{map-append, take-append-drop, take_all}
 use Rattle.omega_kinds.specs.Name.{Name}
 use Rattle.omega_kinds.specs.declared.effect.Effect.{Effect}
 use Rattle.omega_types.specs.Ty.{Ty}
@@ -15,17 +15,14 @@ use Rattle.sig_definitions.specs.Env.{Env}
 use Rattle.sig_laws.specs.Good.{OkEnv, KindedModule}
 use Rattle.sig_laws.proofs.Formed.WellFormedShape.{kinded}
 use Rattle.omega_checker.specs.Judgment.{Judgment}
-use Rattle.fing_lexer.specs.declared.token.Token.{Token}
 use Rattle.fing_syntax.specs.Units.{UnitTree}
-use Rattle.parse_grammar.specs.Grammar.{Units, phrase, more_units, no_units, unit_module}
-use Rattle.parse_grammar.specs.Tree.{Trees, leaf, node, end, spelling, values, Phrase}
 use Rattle.elab_laws.proofs.TypedClaims.{whole_is_typed}
 use Rattle.refusal_reasons.specs.Refusal.{Refusal as PlainRefusal}
 use Rattle.elab_judgments.specs.Judgments.Program.{ProgramRefused}
-use Rattle.unit_judgments.specs.Interfaces.{Interface, env_of}
-use Rattle.unit_judgments.specs.Link.{UnitModule, UnitUnder, Foreign, Links, OkUnits, interface_of}
-use Rattle.sig_definitions.specs.Verdict.{Verdict, holds, refuses}
-use Rattle.unit_judgments.proofs.Walks.{link-is-exact, link-is-good}
+use Rattle.unit_judgments.specs.Interfaces.{Interface, env_of, sig_in, with_interface}
+use Rattle.unit_judgments.specs.Link.{Differs, Links, OkUnits, UnitModule, UnitUnder, interface_of, links}
+use Rattle.unit_judgments.proofs.Scopes.{env-more}
+use Rattle.unit_judgments.proofs.Walks.{link-is-good}
 use Rattle.unit_laws.specs.Derived.{UnitMeans, UnitRefused, DerivedUnder, UnitsMean, FirstRefused}
 use Rattle.unit_laws.specs.Units.{unit_name, program_of}
 use Rattle.unit_laws.proofs.InOrder.{so-far, one-more, first-stop}
@@ -37,21 +34,9 @@ use Rattle.fing_refusals.specs.declared.refusal.Refusal.{Refusal}
 use Rattle.fing_elab.specs.Units.{MeansUnit, UnitIsRefused}
 use Rattle.fing_units.specs.Units.{unit_of, units_of}
 use Rattle.fing_units.specs.declared.unit_module.UnitModule.{UnitModule as CodeUnit}
-use Rattle.fing_top.specs.Answer.{limit}
 use Rattle.fing_top.specs.Compiled.{IsConfirmed}
 use Rattle.fing_top.specs.Linked.{IsNext}
 use Rattle.fing_top.specs.Meaning.{separate_units, Spells}
-
--- ---- there are no more units than tokens
-
-units_within : (ts : Trees (phrase Units ∷ [])) → length (values ts).0 ≤ length (spelling ts)
-units_within (node no_units end end) = omega arith
-units_within (node more_units (node unit_module (leaf t e ps) rest) end) =
-    let front : List Token = t ∷ spelling ps in
-    omega (arith, units_within rest, length-append (front ++ spelling rest) [], length-append front (spelling rest))
-
-pub few_units : {ts : List Token} {us : List UnitTree} → Phrase Units ts us → length us ≤ length ts
-few_units p = omega (arith, units_within p.parts, ap length p.spelled, ap length p.given)
 
 -- ---- one unit after the other
 
@@ -90,9 +75,9 @@ as_unit : (under : List Interface) (u : UnitTree) (next : CodeUnit) → IsNext u
 as_unit under u next x = rw (x.stands, x.name) refl
 
 -- no unit is elaborated yet
-pub none_yet : (units : List UnitTree) (done : List CodeUnit) (under : List Interface) → done ≡ [] → under ≡ []
-    → UnitsMean [] (take 0 units) (units_of done) × (under ≡ map interface_of (units_of done))
-none_yet units done under p q = rw (p, q) (UnitsMean.none, refl)
+pub none_yet : (units : List UnitTree) (done : List CodeUnit) (under : List Interface) (env : Env) → done ≡ [] → under ≡ [] → env ≡ []
+    → UnitsMean [] (take 0 units) (units_of done) × (under ≡ map interface_of (units_of done)) × (env ≡ env_of under)
+none_yet units done under env p q r = rw (p, q, r) (UnitsMean.none, refl, refl)
 
 -- one more unit is elaborated
 pub one_more : (units : List UnitTree) (n : ℕ) (u : UnitTree) (ms : List UnitModule) (under : List Interface) (next : CodeUnit) → n < length units → u ≡ get_or units n u
@@ -110,6 +95,13 @@ more_made done after next e = ap units_of e ∙ map-append unit_of done (next �
 pub more_under : (ms : List UnitModule) (under after : List Interface) (u : UnitModule) → under ≡ map interface_of ms → after ≡ under ++ interface_of u ∷ [] → after ≡ map interface_of (ms ++ u ∷ [])
 more_under ms under after u same e = e ∙ ap (λ (k : List Interface). k ++ interface_of u ∷ []) same ∙ sym (map-append interface_of ms (u ∷ []))
 
+-- its interface stands at the end of the environment too
+pub more_scope : (under after : List Interface) (before same env : Env) (next : CodeUnit) → before ≡ env_of under → same ≡ before
+    → env ≡ with_interface same next.name (sig_in (module_of next.module)) → after ≡ under ++ interface_of (unit_of next) ∷ [] → env ≡ env_of after
+more_scope under after before same env next scope kept pushed more =
+    let y = sig_in (module_of next.module) in
+    pushed ∙ (ap (λ (g : Env). with_interface g next.name y) (kept ∙ scope) ∙ (sym (env-more under next.name y) ∙ sym (ap env_of more)))
+
 -- all units are elaborated
 pub all_units : (units : List UnitTree) (n : ℕ) (ms : List UnitModule) → length units ≤ n → UnitsMean [] (take n units) ms → UnitsMean [] units ms
 all_units units n ms h m = subst (λ (us : List UnitTree). UnitsMean [] us ms) (take_all n units h) m
@@ -122,28 +114,17 @@ stops units n u ms under e h is before same s =
     says (e ≡ want_of_memory) (UnitRefused (env_of under) u) (FirstRefused [] units) (plain_refusal e)
     (λ r q. subst (λ (us : List UnitTree). FirstRefused [] us r) split (first-stop u (drop (n + 1) units) before (subst (λ (k : List Interface). UnitRefused (env_of k) u r) same q))) s
 
-same_length : {under : List Interface} {us : List UnitTree} {ms : List UnitModule} → UnitsMean under us ms → length ms ≡ length us
-same_length UnitsMean.none = refl
-same_length (UnitsMean.next p rest) = ap suc (same_length rest)
-
-pub few_made : (units : List UnitTree) (done : List CodeUnit) → length units ≤ limit → UnitsMean [] units (units_of done) → length done < 2 ^ 32
-few_made units done h m = omega (arith, h, same_length m, length-map done unit_of)
-
 -- ---- the link
 
 pub fits : {us : List UnitTree} {ms : List UnitModule} → UnitsMean [] us ms → OkUnits ms
 fits {us} {ms} h = (linked-is-derived us ms h).fits
 
--- none is foreign
-pub no_foreign : {us : List UnitTree} {ms : List UnitModule} → UnitsMean [] us ms → (n : ℕ) → Foreign ms n → ⊥
-no_foreign {us} {ms} h n f = go (link-is-exact ms (fits h))
+-- each stands under the interfaces of those before it
+pub none_differs : {us : List UnitTree} {ms : List UnitModule} → UnitsMean [] us ms → (n : ℕ) → Differs ms n → ⊥
+none_differs {us} {ms} h = go (linked-is-derived us ms h).links
   where
-    linked : Links ms (linked-is-derived us ms h).whole
-    linked = (linked-is-derived us ms h).links
-
-    go : Verdict (Links ms) (Foreign ms) → ⊥
-    go (holds m w only never) = never n f
-    go (refuses k w only never) = never (linked-is-derived us ms h).whole linked
+    go : {m : Module} → Links ms m → (n : ℕ) → Differs ms n → ⊥
+    go (links own gives) = own
 
 pub kinded_link : {us : List UnitTree} {ms : List UnitModule} (m : Module) → UnitsMean [] us ms → Links ms m → KindedModule [] m
 kinded_link {us} {ms} m h k = kinded [] m (link-is-good ms m (fits h) k)

@@ -1,10 +1,9 @@
 // `link`: separate units, each elaborated apart under the names and signatures of those before it, and linked.
-ghost use Rattle.std.specs.Prelude.{◌≡◌, ◌≤◌, ◌<◌, ◌^◌, ◌++◌, ◌∷◌, [], List, length, false, vec_len, IfErr, IfOk, OnOk};
+ghost use Rattle.std.specs.Prelude.{◌≡◌, ◌≤◌, ◌++◌, ◌∷◌, [], length, false, IfErr, IfOk, OnOk};
 ghost use Rattle.semantic_sigs.specs.Made.{module_of};
 ghost use Rattle.fing_refusals.specs.Plain.{Says};
-ghost use Rattle.fing_syntax.specs.Units.{UnitTree as Tree};
-ghost use Rattle.unit_judgments.specs.Interfaces.{env_of as env_in};
-ghost use Rattle.unit_judgments.specs.Link.{Links, interface_of};
+ghost use Rattle.unit_judgments.specs.Interfaces.{env_of as env_in, sig_in, with_interface};
+ghost use Rattle.unit_judgments.specs.Link.{interface_of};
 ghost use Rattle.unit_laws.specs.Derived.{DerivedUnder, UnitRefused, UnitsMean, FirstRefused};
 ghost use Rattle.unit_laws.specs.Units.{program_of};
 ghost use Rattle.fing_units.specs.Units.{unit_of, units_of};
@@ -18,38 +17,43 @@ use crate::compiling::confirm;
 use crate::emitting::put_emission;
 use crate::refusing::Refused;
 use crate::status::Status;
-use fing_elab::elab_unit;
+use fing_elab::unit_in;
 use fing_lexer::tokens;
 use fing_parser::units;
 use fing_refusals::Refusal;
 use fing_syntax::{UnitTree, Units};
 use fing_text::Sink;
-use fing_units::{Interfaces, LinkRefusal, UnitModule, env_of, link as link_units};
+use fing_units::{Interfaces, UnitModule, join, push_interface};
 use module_rules::packed;
 use omega_checker::Checked;
 use omega_kinds::Mem;
-use semantic_sigs::Module;
+use semantic_sigs::Env;
 use std::alloc::Global;
 
 // The units that a source's bytes are, or why they are none.
 fn parsed(alloc: Global, bytes: &[u8]) -> Result<Units, Refused>
     requires { length bytes.now ≤ limit }
     ensures spelled { IfOk result (λ us. Spells separate_units bytes.now (program_of us)) }
-    ensures few { IfOk result (λ us. length us ≤ limit) }
     ensures refused { IfErr result (IsRefused separate_units bytes.now) }
 {
     let tokens = tokens(alloc, bytes)?;
     Ok(units(alloc, &tokens)?)
 }
 
-// A unit elaborated under the interfaces of those before it.
-fn next_module(alloc: Global, under: &Interfaces, unit: &UnitTree) -> Result<UnitModule, Refusal>
-    requires { DerivedUnder under.now }
+// A unit elaborated under the interfaces of those before it, in their environment.
+fn next_module(
+    alloc: Global,
+    env: &mut Env,
+    under: &Interfaces,
+    unit: &UnitTree,
+) -> Result<UnitModule, Refusal>
+    requires derived { DerivedUnder under.now }
+    requires scope { env.old ≡ env_in under.now }
     ensures means { IfOk result (λ m. IsNext under.now unit.now m) }
     ensures refused { IfErr result (λ e. Says e (UnitRefused (env_in under.now) unit.now)) }
+    ensures same { OnOk result (env.new ≡ env.old) }
 {
-    let env = env_of(alloc, under)?;
-    let module = elab_unit(alloc, env, unit)?;
+    let module = unit_in(alloc, env, unit)?;
     Ok(UnitModule {
         under: under.share(alloc)?,
         name: unit.name.share()?,
@@ -57,11 +61,18 @@ fn next_module(alloc: Global, under: &Interfaces, unit: &UnitTree) -> Result<Uni
     })
 }
 
-// One more unit behind those that were elaborated, and its interface behind theirs.
-fn add(made: &mut Vec<UnitModule>, under: &mut Interfaces, next: UnitModule) -> Result<(), Mem>
+// One more unit behind those that were elaborated, and its interface behind theirs, also in their environment.
+fn add(
+    made: &mut Vec<UnitModule>,
+    under: &mut Interfaces,
+    env: &mut Env,
+    next: UnitModule,
+) -> Result<(), Mem>
     ensures made { OnOk result (made.new.items ≡ made.old.items ++ next ∷ []) }
     ensures under { OnOk result (under.new ≡ under.old ++ interface_of (unit_of next) ∷ []) }
+    ensures env { OnOk result (env.new ≡ with_interface env.old next.name (sig_in (module_of next.module))) }
 {
+    push_interface(env, &next.name, &next.module.sig)?;
     under.push((next.name.share()?, next.module.sig.share()?))?;
     made.push(next)?;
     Ok(())
@@ -74,25 +85,12 @@ fn elaborated(alloc: Global, units: &[UnitTree]) -> Result<Vec<UnitModule>, Refu
 {
     let mut made = Vec::new(alloc);
     let mut under = Interfaces::new(alloc);
+    let mut env = Env::new(alloc);
     for unit in units {
-        let next = next_module(alloc, &under, unit)?;
-        add(&mut made, &mut under, next)?;
+        let next = next_module(alloc, &mut env, &under, unit)?;
+        add(&mut made, &mut under, &mut env, next)?;
     }
     Ok(made)
-}
-
-// The link of units that were elaborated apart. Each stands under the interfaces of those before it. `Err` is want of
-// memory.
-fn joined(alloc: Global, made: Vec<UnitModule>) -> Result<Module, Mem>
-    requires few { vec_len made < 2 ^ 32 }
-    requires apart { (us : List Tree) × UnitsMean [] us (units_of made.items) }
-    ensures { IfOk result (λ m. Links (units_of made.items) (module_of m)) }
-{
-    match link_units(alloc, made) {
-        Ok(module) => Ok(module),
-        Err(LinkRefusal::Foreign { .. }) => unreachable!(),
-        Err(LinkRefusal::Mem) => Err(Mem),
-    }
 }
 
 // What the checker made of the whole term to which a source's units link, or why the source is refused.
@@ -105,7 +103,8 @@ fn linked(alloc: Global, bytes: &[u8]) -> Result<Checked, Refused>
     let made = elaborated(alloc, &units.units)?;
     // Its memory serves the linker and the checker.
     drop(units);
-    let module = joined(alloc, made)?;
+    // Each stands under the interfaces of those before it, so none is foreign.
+    let module = join(alloc, made)?;
     let sig = module.sig.share()?;
     let whole = packed(alloc, module)?;
     Ok(confirm(alloc, &sig, whole)?)

@@ -13,7 +13,7 @@ mod scopes;
 mod unit_module;
 
 pub use interfaces::Interfaces;
-pub use linking::link;
+pub use linking::{join, link};
 pub use refusal::LinkRefusal;
 pub use scopes::{env_of, push_interface};
 pub use unit_module::UnitModule;

@@ -39,7 +39,7 @@ pub fn link(alloc: Global, units: Vec<UnitModule>) -> Result<Module, LinkRefusal
     if let Some(index) = first_foreign(&units) {
         return Err(LinkRefusal::Foreign { index });
     }
-    Ok(linked(alloc, units)?)
+    Ok(join(alloc, units)?)
 }
 
 // The index of the first unit that stands under other interfaces than those of the units before it; `None` exactly where
@@ -80,9 +80,12 @@ fn shows(unit: &UnitModule, name: &Name, sig: &Abs) -> bool
     same_name(name, &unit.name) && same_abs(sig, &unit.module.sig)
 }
 
-// The link of units of which each stands under the interfaces of those before it: the end of the structure, and before it
-// the units from the last one to the first.
-fn linked(alloc: Global, units: Vec<UnitModule>) -> Result<Module, Mem>
+/// The same for units of which each stands under the interfaces of those before it, as those of one text do. Nothing is
+/// compared. `Err` is out of memory.
+///
+/// Rossberg, Russo and Dreyer, "F-ing modules", sections 4 and 7, Elaboration, Bindings; separate units are this project's
+/// own.
+pub fn join(alloc: Global, units: Vec<UnitModule>) -> Result<Module, Mem>
     requires own { (n : ℕ) → Differs (units_of units.items) n → ⊥ }
     requires good { OkUnits (units_of units.items) }
     ensures { IfOk result (λ m. Links (units_of units.items) (module_of m)) }

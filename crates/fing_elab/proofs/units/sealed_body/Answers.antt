@@ -26,8 +26,8 @@ end_of-requires c =
     let m = module_of c.in_ok-found.found in
     let n = module_of c.in_ok-made.made in
     let inner = after-body c.in_ok-sealing.sealing m c.in_ok-found.ensures.same c.in_ok-sealing.ensures c.in_ok-push_interface.ensures in
-    let outer = after-both c.args.env c.in_ok-target.target m n (c.in_ok-made.ensures.same ∙ inner) c.in_ok-target.ensures c.in_ok-push_interface-2.ensures in
-    good-names c.args.env c.in_ok-share.field-0 c.in_ok-sealing.sealing m n outer (c.in_ok-share.ensures ∙ c.in_ok-target.ensures) c.in_ok-sealing.ensures
+    let outer = after-both c.args.env.now c.in_ok-target.target m n (c.in_ok-made.ensures.same ∙ inner) c.in_ok-target.ensures c.in_ok-push_interface-2.ensures in
+    good-names c.args.env.now c.in_ok-share.field-0 c.in_ok-sealing.sealing m n outer (c.in_ok-share.ensures ∙ c.in_ok-target.ensures) c.in_ok-sealing.ensures
 
 pub want-requires : goal.want-requires
 want-requires c =
@@ -35,7 +35,7 @@ want-requires c =
     let n = module_of c.in_ok-made.made in
     let e = c.in_ok-end.ensures in
     let inner = after-body c.in_ok-sealing.sealing m c.in_ok-found.ensures.same c.in_ok-sealing.ensures c.in_ok-push_interface.ensures in
-    let outer = after-both c.args.env c.in_ok-target.target m n (c.in_ok-made.ensures.same ∙ inner) c.in_ok-target.ensures c.in_ok-push_interface-2.ensures in
+    let outer = after-both c.args.env.now c.in_ok-target.target m n (c.in_ok-made.ensures.same ∙ inner) c.in_ok-target.ensures c.in_ok-push_interface-2.ensures in
     let parts = parts-of c.in_ok-sealing.sealing c.in_ok-share.field-0 m n (module_of c.in_ok-end.end) e.0 e.1 c.requires c.in_ok-found.ensures.given c.in_ok-sealing.ensures inner c.in_ok-made.ensures.given (c.in_ok-share.ensures ∙ c.in_ok-target.ensures) outer e.2 e.3 in
     part-found c.in_ok-target.target c.in_ok-target.ensures parts c.in-Err.refusal c.in-Err.ensures.refused
 
@@ -45,6 +45,11 @@ returns-in-Ok-clause-given c =
     let n = module_of c.in_ok-made.made in
     let e = c.in_ok-end.ensures in
     let inner = after-body c.in_ok-sealing.sealing m c.in_ok-found.ensures.same c.in_ok-sealing.ensures c.in_ok-push_interface.ensures in
-    let outer = after-both c.args.env c.in_ok-target.target m n (c.in_ok-made.ensures.same ∙ inner) c.in_ok-target.ensures c.in_ok-push_interface-2.ensures in
+    let outer = after-both c.args.env.now c.in_ok-target.target m n (c.in_ok-made.ensures.same ∙ inner) c.in_ok-target.ensures c.in_ok-push_interface-2.ensures in
     let parts = parts-of c.in_ok-sealing.sealing c.in_ok-share.field-0 m n (module_of c.in_ok-end.end) e.0 e.1 c.requires c.in_ok-found.ensures.given c.in_ok-sealing.ensures inner c.in_ok-made.ensures.given (c.in_ok-share.ensures ∙ c.in_ok-target.ensures) outer e.2 e.3 in
     part-is c.in_ok-target.target c.in_ok-target.ensures parts c.in-Ok.ensures.given
+
+pub returns-in-Ok-clause-same : goal.returns-in-Ok-clause-same
+returns-in-Ok-clause-same c =
+    let back = c.leave_interface.ensures c.sealed_name.new.env c.in_ok-target.target c.in_ok-push_interface-2.ensures ∙ (c.in_ok-made.ensures.same ∙ c.in_ok-push_interface.ensures) in
+    c.leave_interface-2.ensures c.module_in.new.env c.in_ok-sealing.sealing back ∙ c.in_ok-found.ensures.same

@@ -6,7 +6,7 @@ use Rattle.unit_laws.specs.Units.{program_of}
 use Rattle.fing_top.specs.Compiled.{IsRefused}
 use Rattle.fing_top.specs.Meaning.{separate_units}
 use Rattle.fing_top.proofs.Answering.{meaning_refused}
-use Rattle.fing_top.proofs.Separate.{few_made, first_refused, is_linked, kinded_link, typed_link}
+use Rattle.fing_top.proofs.Separate.{first_refused, fits, is_linked, kinded_link, none_differs, typed_link}
 use Rattle.fing_top.proofs.linking.linked.Goals as goal
 
 pub returns-in_err-made-clause-refused : goal.returns-in_err-made-clause-refused
@@ -15,13 +15,11 @@ returns-in_err-made-clause-refused c =
     (meaning_refused (FirstRefused [] c.in_ok-units.units) separate_units c.args.bytes.now (program_of c.in_ok-units.units) c.in_err-made.field-0.0
     c.in_ok-units.ensures.spelled (first_refused c.in_ok-units.units) (search rules))
 
-pub joined-requires-clause-few : goal.joined-requires-clause-few
-joined-requires-clause-few c =
-    let made = c.in_ok-made.made in
-    omega (arith, made.ok.0, few_made c.in_ok-units.units made.items c.in_ok-units.ensures.few (search rules))
+pub join-requires-clause-own : goal.join-requires-clause-own
+join-requires-clause-own c = none_differs c.in_ok-made.ensures.means
 
-pub joined-requires-clause-apart : goal.joined-requires-clause-apart
-joined-requires-clause-apart c = (_, c.in_ok-made.ensures.means)
+pub join-requires-clause-good : goal.join-requires-clause-good
+join-requires-clause-good c = fits c.in_ok-made.ensures.means
 
 pub confirm-requires : goal.confirm-requires
 confirm-requires c =

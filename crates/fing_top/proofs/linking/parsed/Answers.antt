@@ -1,11 +1,10 @@
-use Rattle.std.proofs.Common.{List, arith, refl, sym, subst}
+use Rattle.std.proofs.Common.{List, refl, sym, subst}
 use Rattle.fing_lexer.specs.declared.token.Token.{Token}
 use Rattle.fing_lexer.specs.Tokens.{TokensOf}
 use Rattle.elab_phrases.proofs.Given.{exit}
 use Rattle.fing_top.specs.Compiled.{IsRefused}
 use Rattle.fing_top.specs.Meaning.{separate_units}
 use Rattle.fing_top.proofs.Answering.{few_tokens, lexed_refused, parsed_refused}
-use Rattle.fing_top.proofs.Separate.{few_units}
 use Rattle.fing_top.proofs.linking.parsed.Goals as goal
 
 pub returns-in_err-tokens-clause-refused : goal.returns-in_err-tokens-clause-refused
@@ -27,8 +26,3 @@ returns-clause-spelled c = record {
   phrase = c.in_ok-units.ensures.units;
   stands = refl;
 }
-
-pub returns-clause-few : goal.returns-clause-few
-returns-clause-few c =
-    let lexed = subst (λ (ts : List Token). TokensOf c.args.bytes.now ts) (sym c.deref.ensures.value) c.in_ok-tokens.ensures.tokens in
-    omega (arith, few_units c.in_ok-units.ensures.units, few_tokens c.args.bytes.now c.deref.result.now c.requires lexed)

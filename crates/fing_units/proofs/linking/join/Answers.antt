@@ -7,7 +7,7 @@ use Rattle.unit_judgments.specs.Link.{interface_of, names_after}
 use Rattle.unit_judgments.proofs.Places.{front-all}
 use Rattle.fing_units.specs.Units.{units_of}
 use Rattle.fing_units.proofs.Linked.{linked-start, linked-step}
-use Rattle.fing_units.proofs.linking.linked.Goals as goal
+use Rattle.fing_units.proofs.linking.join.Goals as goal
 
 pub end_of-requires : goal.end_of-requires
 end_of-requires c =
