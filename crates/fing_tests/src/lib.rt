@@ -34,4 +34,6 @@ mod simplify;
 #[cfg(test)]
 mod spelling;
 #[cfg(test)]
+mod units;
+#[cfg(test)]
 mod verify;
