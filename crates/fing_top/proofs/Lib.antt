@@ -6,3 +6,4 @@ pub mod Emitted
 pub mod Answering
 pub mod Separate
 pub mod Simplest
+pub mod Scopes
