@@ -7,3 +7,4 @@ pub mod Answering
 pub mod Separate
 pub mod Simplest
 pub mod Scopes
+pub mod TextDepth
