@@ -7,11 +7,11 @@ use Rattle.fing_top.proofs.Answering.{told, wrote_reply}
 use Rattle.fing_top.proofs.Scopes.{compiled-normal}
 use Rattle.fing_top.proofs.checking.check.Goals as goal
 
-pub put_signature-requires-clause-normal : goal.put_signature-requires-clause-normal
-put_signature-requires-clause-normal g c = compiled-normal c.args.bytes.now c.in-Ok.found c.in-Ok.ensures.compiled
+pub put_signature-wrote-requires-clause-normal : goal.put_signature-wrote-requires-clause-normal
+put_signature-wrote-requires-clause-normal g c = compiled-normal c.args.bytes.now c.in-Ok.found c.in-Ok.ensures.compiled
 
-pub put_signature-requires-clause-encoded : goal.put_signature-requires-clause-encoded
-put_signature-requires-clause-encoded g c = c.in-Ok.ensures.compiled.ty
+pub put_signature-wrote-requires-clause-encoded : goal.put_signature-wrote-requires-clause-encoded
+put_signature-wrote-requires-clause-encoded g c = c.in-Ok.ensures.compiled.ty
 
 pub returns-in-Ok : goal.returns-in-Ok
 returns-in-Ok g c =
