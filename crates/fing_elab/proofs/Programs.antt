@@ -3,6 +3,7 @@ use Rattle.std.proofs.Common.{◌≡◌, List, [], sym, ap, ◌∙◌}
 use Rattle.omega_kinds.specs.Name.{Name}
 use Rattle.omega_terms.specs.Term.{Term}
 use Rattle.omega_terms.specs.Typing.{HasType}
+use Rattle.omega_terms.specs.declared.version.Version.{Version}
 use Rattle.sig_definitions.specs.Env.{Env}
 use Rattle.sig_definitions.specs.Packing.{Packed}
 use Rattle.sig_definitions.specs.Signatures.Sig.{Module}
@@ -19,6 +20,9 @@ use Rattle.elab_laws.proofs.Kept.{binds_ok}
 use Rattle.elab_laws.proofs.TypedClaims.{whole_is_typed}
 use Rattle.elab_exact.specs.Claims.{ProgramExactly}
 use Rattle.elab_exact.proofs.Theorems.{each-program}
+use Rattle.elab_spelling.specs.Legible.{TyLegible, TermLegible}
+use Rattle.elab_spelling.specs.Phrases.{BindsSpelled}
+use Rattle.elab_spelling.proofs.Theorems.{encodings_are_legible, programs_mean_legible}
 use Rattle.fing_refusals.specs.Plain.{Says}
 use Rattle.fing_refusals.specs.declared.refusal.Refusal.{Refusal as CodeRefusal}
 use Rattle.elab_phrases.specs.Answered.{RefusedAs}
@@ -52,6 +56,12 @@ meaning bs o p q = go (each-program bs)
 
 pub typed : (bs : Binds) (o : Elaborated) → BindsMean [] [] bs (module_in o) → Packed [] (module_in o) o.whole → HasType [] [] o.whole (enc_abs o.sig)
 typed bs o p q = whole_is_typed bs o.effect o.sig o.types o.term o.whole (ProgramMeans.program p q)
+
+-- the encoding of the signature and the whole term have a spelling, apart from the scope of variables, where the program's
+-- names, texts and numbers have one
+pub legible : (bs : Binds) (o : Elaborated) → BindsMean [] [] bs (module_in o) → Packed [] (module_in o) o.whole → BindsSpelled bs → (v : Version)
+    → TyLegible v (enc_abs o.sig) × TermLegible v o.whole
+legible bs o p q s v = let h = programs_mean_legible v bs (module_in o) o.whole s (ProgramMeans.program p q) in (encodings_are_legible v o.sig h.0.0, h.1)
 
 refusal : (bs : Binds) (r : Refusal) → ProgramRefused bs r → IsRefused bs r
 refusal bs r h = go (each-program bs)

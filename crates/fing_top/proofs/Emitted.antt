@@ -1,5 +1,5 @@
 -- What `emit` and `link` write is a text of the type and the term that are confirmed, and `verify` finds it well typed.
-use Rattle.std.proofs.Common.{◌≡◌, ◌≤◌, ℕ, List, [], ◌∷◌, Bool, true, false, Option, Some, None, refl, sym, ap, subst, ◌∙◌}
+use Rattle.std.proofs.Common.{◌≡◌, ◌≤◌, ℕ, List, [], ◌∷◌, Bool, true, false, Option, Some, None, arith, refl, sym, ap, subst, ◌∙◌}
 use Rattle.std.specs.Prelude.{◌^◌}
 use Rattle.omega_types.specs.Ty.{Ty}
 use Rattle.omega_types.specs.Height.{height}
@@ -9,19 +9,25 @@ use Rattle.omega_terms.specs.declared.version.Version.TheVariants.{Second}
 use Rattle.omega_terms.specs.Term.{Term}
 use Rattle.omega_terms.specs.OmegaText.{omega_text}
 use Rattle.omega_spelling.specs.Omega.{OmegaText}
+use Rattle.omega_spelling.specs.Refusals.{is_too_deep}
+use Rattle.sig_definitions.specs.Signatures.Sig.{Abs, made}
 use Rattle.sig_definitions.specs.Signatures.Encoding.{enc_abs}
 use Rattle.fing_syntax.specs.Phrase.{Binds as Program}
 use Rattle.fing_syntax.specs.Units.{UnitTree, UnitAt}
 use Rattle.parse_grammar.specs.Meaning.{Value}
+use Rattle.elab_spelling.specs.Legible.{TyLegible, TermLegible}
 use Rattle.elab_spelling.specs.Phrases.{BindsSpelled}
+use Rattle.elab_spelling.proofs.Theorems.{encodings_are_legible, programs_mean_legible}
 use Rattle.parse_spelling.specs.Values.{UnitsSpelled, ValueSpelled}
 use Rattle.parse_spelling.specs.Claims.{Compiles, Emits}
+use Rattle.parse_spelling.proofs.Simplified.{emits-legible}
 use Rattle.parse_spelling.proofs.Theorems.{tokens_are_spelled, phrases_are_spelled, emitted_are_typed, emitted_in_scope, emitted_have_text}
 use Rattle.unit_laws.specs.Units.{program_of}
 use Rattle.fing_top.specs.declared.status.Status.TheVariants as status
 use Rattle.fing_top.specs.Meaning.{Form, one_program, separate_units, class_of, stands_for, Spells, Meaning, BytesMean}
 use Rattle.fing_top.specs.Reply.{Reply, accepted, emitted, omega_reply, TellsTerm, ProgramReplies, VerifyReplies}
-use Rattle.fing_top.specs.Emission.{IsVerified, EmittedIsVerified}
+use Rattle.fing_top.specs.Emission.{IsVerified, IsEmitted, EmittedIsVerified}
+use Rattle.fing_top.proofs.TextDepth.{not-high}
 
 -- the program of units that are spelled is spelled, the hidden names of their sealings too
 units-spelled : (us : List UnitTree) → UnitsSpelled us → BindsSpelled (program_of us)
@@ -51,20 +57,29 @@ emits : (simplify : Bool) (whole : Term) → Emits whole (emitted simplify whole
 emits false whole = Emits.as_it_is
 emits true whole = Emits.simpler
 
+module _ {x : Abs} {whole e : Term} (c : Compiles x whole) (k : Emits whole e) where
+  -- what is emitted is legible
+  legible : TyLegible Second (enc_abs x) × TermLegible Second e
+  legible =
+      let h = programs_mean_legible Second c.program (made c.effect x c.types c.term) whole c.spelled c.derived in
+      (encodings_are_legible Second x h.0.0, emits-legible Second k h.1)
+
+  low-spelled : height (enc_abs x) ≤ 2 ^ 64 → term_height e ≤ 2 ^ 63 → OmegaText (omega_text (enc_abs x) e) (enc_abs x) e
+  low-spelled low shallow = let scope = emitted_in_scope x whole e c k low shallow in (Second, emitted_have_text Second x whole e c k scope.0 scope.1)
+
+  fits-verified : is_too_deep (omega_text (enc_abs x) e) ≡ false → IsVerified (omega_text (enc_abs x) e) (enc_abs x) e
+  fits-verified fits =
+      let high = not-high Second (enc_abs x) e legible.0 legible.1 fits in
+      let spelled = low-spelled (omega (arith, high.0)) (omega (arith, high.1)) in
+      record { spelled = spelled; verified = VerifyReplies.well_typed spelled fits (emitted_are_typed x whole e c k) }
+
 -- what is written for a meaning
-meaning-verified : {form : Form} {bytes : List ℕ} {m : Meaning} (simplify : Bool) → BytesMean form bytes m
-    → height (enc_abs m.sig) ≤ 2 ^ 64 → term_height (emitted simplify m.whole) ≤ 2 ^ 63
-    → IsVerified (omega_text (enc_abs m.sig) (emitted simplify m.whole)) (enc_abs m.sig) (emitted simplify m.whole)
-meaning-verified {m = m} simplify b low shallow =
-    let e : Term = emitted simplify m.whole in
+meaning-emitted : {form : Form} {bytes : List ℕ} {m : Meaning} (simplify : Bool) → BytesMean form bytes m
+    → IsEmitted (omega_text (enc_abs m.sig) (emitted simplify m.whole)) (enc_abs m.sig) (emitted simplify m.whole)
+meaning-emitted {m = m} simplify b =
     let c : Compiles m.sig m.whole = compiles b in
-    let k : Emits m.whole e = emits simplify m.whole in
-    let scope = emitted_in_scope m.sig m.whole e c k low shallow in
-    let spelled : OmegaText (omega_text (enc_abs m.sig) e) (enc_abs m.sig) e = (Second, emitted_have_text Second m.sig m.whole e c k scope.0 scope.1) in
-    record {
-      spelled = spelled;
-      verified = λ fits. VerifyReplies.well_typed spelled fits (emitted_are_typed m.sig m.whole e c k);
-    }
+    let k : Emits m.whole (emitted simplify m.whole) = emits simplify m.whole in
+    record { verified = fits-verified c k; spelled = low-spelled c k }
 
 -- the term and the type of a reply, or those given where none are confirmed
 abbrev term_in : Term → Option Judgment → Term
@@ -75,21 +90,20 @@ abbrev ty_in : Ty → Option Judgment → Ty
 ty_in t None = t
 ty_in t (Some j) = j.ty
 
-written-verified : {form : Form} {bytes text : List ℕ} {t : Ty} {e : Term} {r : Reply} (simplify : Bool) → ProgramReplies form (TellsTerm simplify) bytes r → r ≡ accepted t e text
-    → height t ≤ 2 ^ 64 → term_height e ≤ 2 ^ 63 → IsVerified text t e
-written-verified {text = text} {t = t} {e = e} simplify (ProgramReplies.meant {m = m} b told) same low shallow =
+written-emitted : {form : Form} {bytes text : List ℕ} {t : Ty} {e : Term} {r : Reply} (simplify : Bool) → ProgramReplies form (TellsTerm simplify) bytes r → r ≡ accepted t e text
+    → IsEmitted text t e
+written-emitted {text = text} {t = t} {e = e} simplify (ProgramReplies.meant {m = m} b told) same =
     let x : Ty = enc_abs m.sig in
     let d : Term = emitted simplify m.whole in
     let whole : omega_reply x d ≡ accepted t e text = sym told ∙ same in
     let of_text : omega_text x d ≡ text = ap (λ (r : Reply). r.text) whole in
     let of_ty : x ≡ t = ap (λ (r : Reply). ty_in x r.confirmed) whole in
     let of_term : d ≡ e = ap (λ (r : Reply). term_in d r.confirmed) whole in
-    let here = meaning-verified simplify b (subst (λ u. height u ≤ 2 ^ 64) (sym of_ty) low) (subst (λ u. term_height u ≤ 2 ^ 63) (sym of_term) shallow) in
-    subst (λ w. IsVerified w t e) of_text (subst (λ u. IsVerified (omega_text x d) u e) of_ty (subst (IsVerified (omega_text x d) x) of_term here))
-written-verified simplify (ProgramReplies.refuses h) same low shallow =
+    let here : IsEmitted (omega_text x d) x d = meaning-emitted simplify b in
+    subst (λ w. IsEmitted w t e) of_text (subst (λ u. IsEmitted (omega_text x d) u e) of_ty (subst (IsEmitted (omega_text x d) x) of_term here))
+written-emitted simplify (ProgramReplies.refuses h) same =
     let p : status.Refused ≡ status.Ok = ap (λ (r : Reply). r.status) same in
     absurd (cc)
 
 pub emitted_is_verified : EmittedIsVerified
-emitted_is_verified =
-    (λ simplify bytes text t e told low shallow. written-verified simplify told refl low shallow, λ bytes text t e told low shallow. written-verified false told refl low shallow)
+emitted_is_verified = (λ simplify bytes text t e told. written-emitted simplify told refl, λ bytes text t e told. written-emitted false told refl)

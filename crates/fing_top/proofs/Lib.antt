@@ -6,3 +6,5 @@ pub mod Emitted
 pub mod Answering
 pub mod Separate
 pub mod Simplest
+pub mod Scopes
+pub mod TextDepth

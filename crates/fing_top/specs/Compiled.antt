@@ -1,9 +1,8 @@
 -- What the code makes of a source, and why it refuses one.
-use Rattle.std.specs.Prelude.{◌≡◌, ℕ, ◌^◌, ◌<◌, Bool, List, Ok, Err, Result}
+use Rattle.std.specs.Prelude.{◌≡◌, ℕ, Bool, List, Ok, Err, Result}
 use Rattle.omega_types.specs.Ty.{Ty}
 use Rattle.omega_terms.specs.Term.{Term}
 use Rattle.omega_checker.specs.Judgment.{Judgment}
-use Rattle.omega_scopes.specs.Depth.{ty_depth, type_depth, term_depth}
 use Rattle.sig_definitions.specs.Signatures.Encoding.{enc_abs}
 use Rattle.fing_syntax.specs.Phrase.{Binds as Program}
 use Rattle.fing_top.specs.Counts.{bind_count}
@@ -42,7 +41,3 @@ pub record IsConfirmed (form : Form) (simplify : Bool) (bytes : List ℕ) (j : J
 abbrev pub IsEmission : CommandLine → (bytes : List ℕ) → Result Judgment Refused → Type 0
 IsEmission c bytes (Ok j) = Replies c bytes (omega_reply j.ty j.term)
 IsEmission c bytes (Err why) = HasLine why → Replies c bytes (refused (refusal_line why))
-
--- fewer than 2^64 binders of a sort stand one in another in the type and in the term
-abbrev pub IsShallow : Judgment → Type 0
-IsShallow j = (ty_depth j.ty < 2 ^ 64) × (type_depth j.term < 2 ^ 64) × (term_depth j.term < 2 ^ 64)

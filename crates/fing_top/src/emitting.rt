@@ -1,19 +1,19 @@
 // `emit`: the encoded signature and the whole term of a program as Omega text, or its simplified term.
-ghost use Rattle.std.specs.Prelude.{◌≤◌, ℕ, List, length, true, false, IfErr, IfOk, IsTrue};
-ghost use Rattle.omega_terms.specs.InScope.{TermInScope, TyInScope};
+ghost use Rattle.std.specs.Prelude.{◌≤◌, ℕ, List, length, true, false, IfErr, IfOk};
+ghost use Rattle.fing_text.specs.Writes.{Wrote};
+ghost use Rattle.omega_terms.specs.OmegaText.{omega_text};
 ghost use Rattle.fing_words.specs.declared.command_line.CommandLine.{CommandLine};
 ghost use Rattle.fing_words.specs.declared.command_line.CommandLine.TheVariants as command;
 ghost use Rattle.fing_top.specs.Answer.{limit, AnswersBytes, change, output};
-ghost use Rattle.fing_top.specs.Compiled.{IsConfirmed, IsEmission, IsRefused, IsShallow};
+ghost use Rattle.fing_top.specs.Compiled.{IsConfirmed, IsEmission, IsRefused};
 ghost use Rattle.fing_top.specs.Meaning.{one_program};
 
 use crate::compiling::{compile, compile_simplified};
 use crate::pages::put_omega;
 use crate::refusing::{Refused, has_line, write_line};
 use crate::status::{Status, status_of};
-use fing_text::Sink;
+use fing_text::{Sink, WriteFault};
 use omega_checker::Checked;
-use omega_scopes::{term_in_scope, ty_in_scope};
 use std::alloc::Global;
 
 /// Answers `emit` for all the bytes of a source, of which there are at most 1,048,576: writes the Omega text of the
@@ -70,21 +70,23 @@ pub(crate) fn put_emission<K: Sink>(
         (output (change (K.told sink.old) (K.told sink.new)) (change confirmed.old confirmed.new)) result }
 {
     match made {
-        Ok(checked) if is_closed(&checked) => {
-            let wrote = put_omega(alloc, sink, checked.ty(), checked.term());
+        Ok(checked) => {
+            let wrote = put_checked(alloc, sink, &checked);
             *confirmed = Some(checked);
             status_of(wrote, Status::Ok)
         }
         Err(why) if has_line(&why) => status_of(write_line(sink, &why), Status::Refused),
-        _ => Status::NoMemory,
+        Err(_) => Status::NoMemory,
     }
 }
 
-// Whether the type and the term can be written: no level in them passes the last number of 64 bits. It may be false also
-// where 2^64 binders of a sort or more stand one in another.
-fn is_closed(checked: &Checked) -> bool
-    ensures sound { IsTrue result → TyInScope 0 checked.now.ty × TermInScope 0 0 checked.now.term }
-    ensures complete { TyInScope 0 checked.now.ty × TermInScope 0 0 checked.now.term → IsShallow checked.now → IsTrue result }
+// Writes a type and a term that were confirmed as Omega text. Both are closed, and no tree is higher than 4,096, so each
+// variable in them is in scope, with a level below 2^64.
+fn put_checked<K: Sink>(alloc: Global, sink: &mut K, checked: &Checked) -> Result<(), WriteFault>
+    ensures { Wrote (K.told sink.old) (K.told sink.new) (omega_text checked.now.ty checked.now.term) result }
 {
-    ty_in_scope(0, checked.ty()) && term_in_scope(0, 0, checked.term())
+    let ty = checked.ty();
+    let term = checked.term();
+    let _heights = (ty.extent(), term.extent());
+    put_omega(alloc, sink, ty, term)
 }

@@ -142,10 +142,10 @@ pub fn one_meaning()
     ensures { MeanOrRefused }
 {}
 
-/// What `emit`, with or without `--simplify`, or `link` writes for a source that means something is a text of the type and the
-/// term that were confirmed for it; and if no more than 4,000 parentheses are open in it, the reply of `verify` to it is
-/// `well typed`. The type is of height 2^64 at most and the term of height 2^63, so that each level of a variable is a number
-/// of 64 bits; no tree of the program is higher than 4,096.
+/// Let `emit`, with or without `--simplify`, or `link` write a text for a source that means something. If no more than 4,000
+/// parentheses are open in it, it is a text of the type and the term that were confirmed for it, and the reply of `verify` to
+/// it is `well typed`. However many are open, it is such a text if the type is of height 2^64 at most and the term of height
+/// 2^63, so that each level of a variable is a number of 64 bits; no tree of the program is higher than 4,096.
 pub fn emitted_is_verified()
     ensures { EmittedIsVerified }
 {}

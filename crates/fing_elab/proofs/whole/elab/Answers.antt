@@ -7,7 +7,7 @@ use Rattle.fing_refusals.specs.Plain.{Says}
 use Rattle.elab_phrases.specs.Answered.{RefusedAs}
 use Rattle.elab_phrases.proofs.Given.{exit}
 use Rattle.fing_elab.specs.Exactly.{IsRefused}
-use Rattle.fing_elab.proofs.Programs.{entered, good, meaning, typed, refused}
+use Rattle.fing_elab.proofs.Programs.{entered, good, legible, meaning, typed, refused}
 use Rattle.fing_elab.proofs.whole.elab.Goals as goal
 
 pub returns-in_err-found-clause-refused : goal.returns-in_err-found-clause-refused
@@ -34,3 +34,9 @@ returns-clause-typed c =
     let m = module_of c.in_ok-found.found in
     let same = ap binds_of c.deref.ensures.value ∙ c.program.view_is in
     typed c.args.program.now _ (entered (λ g ns bs. BindsMean g ns bs m) c.new-env.ensures c.new.ensures same c.in_ok-found.ensures.given) c.in_ok-whole.ensures
+
+pub returns-clause-spelled : goal.returns-clause-spelled
+returns-clause-spelled c =
+    let m = module_of c.in_ok-found.found in
+    let same = ap binds_of c.deref.ensures.value ∙ c.program.view_is in
+    legible c.args.program.now _ (entered (λ g ns bs. BindsMean g ns bs m) c.new-env.ensures c.new.ensures same c.in_ok-found.ensures.given) c.in_ok-whole.ensures

@@ -7,8 +7,8 @@ use Rattle.fing_top.proofs.emitting.put_emission.Goals as goal
 pub returns-in-Ok : goal.returns-in-Ok
 returns-in-Ok g c = λ command bytes emission.
     let reply = subst (IsEmission command bytes) c.in-Ok.is emission in
-    wrote_reply command bytes status.Ok _ _ _ _ c.put_omega-wrote.result c.status_of.result tt
-    reply refl (rw (c.ty.ensures.ty, c.term.ensures.term) at c.put_omega-wrote.ensures) c.status_of.ensures
+    wrote_reply command bytes status.Ok _ _ _ _ c.put_checked-wrote.result c.status_of.result tt
+    reply refl c.put_checked-wrote.ensures c.status_of.ensures
 
 pub returns-in-Err : goal.returns-in-Err
 returns-in-Err g c = λ command bytes emission.
