@@ -67,7 +67,7 @@ async function tryLongReply(fing) {
 
 // With a small stack the engine breaks the call off, and the next call is answered.
 async function tryStack() {
-  const {fing, stop} = workerOf({stack: 0.25});
+  const {fing, stop} = workerOf({stack: 0.3});
   const functor = "module F = fun (X : sig type t end) => struct type t = X.t end module M = struct type t = Int end ";
   const {status, broken} = await fing(["check"], functor + "module N = " + "F (".repeat(480) + "M" + ")".repeat(480));
   expect("a stack that is too small", {status, broken}, {status: -1, broken: "stack"});

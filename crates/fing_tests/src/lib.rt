@@ -34,6 +34,4 @@ mod simplify;
 #[cfg(test)]
 mod spelling;
 #[cfg(test)]
-mod units;
-#[cfg(test)]
 mod verify;
