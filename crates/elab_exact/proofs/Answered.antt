@@ -17,7 +17,6 @@ use Rattle.sig_definitions.specs.Matching.Subtyping.{Match}
 use Rattle.sig_definitions.specs.Env.{Env, Value, kinds, find, type_vars, with_module, named_fields}
 use Rattle.sig_definitions.specs.Signatures.FieldOrder.{with_name, with_names}
 use Rattle.sig_definitions.specs.Matching.MatchRefusal.{MatchRefusal, RefusesMatch}
-use Rattle.sig_match_laws.proofs.LookUp.Good.{explicit-left}
 use Rattle.sig_laws.proofs.Formed.Conditions.{abs-body, structure-row}
 use Rattle.fing_syntax.specs.Phrase.{Span, SpanName, Mod, ModAt, ModName, ModStruct, ModProject, ModFunctor, ModApply, ModSeal, ModUnpack, Bind, BindAt, BindVal, BindTy, BindModule, BindSignature, BindInclude, Binds, NoBinds, MoreBinds, SigEx, SigAt, PathSig, SigDecls, SigFun, SigRefine, Decl, DeclAt, DeclVal, DeclTyIs, DeclTyOf, DeclModule, DeclSignature, DeclInclude, Decls, NoDecls, MoreDecls, TyEx, TyAt, PathTy, TyInt, TyBool, TyText, TyArrow, TyApply, TyFields, TyAll, TyLam, TyPack, TyExs, NoTys, MoreTys, FieldTyExs, NoFieldTys, MoreFieldTys, Exp, ExpAt, PathExp, ExpInt, ExpBool, ExpText, ExpLam, ExpTyLam, ExpFix, ExpIf, ExpOps, ExpApply, ExpFields, ExpGet, ExpPack, OpExps, NoOps, MoreOps, ArgExp, ArgTy, Args, NoArgs, MoreArgs, FieldExps, NoFieldExps, MoreFieldExps}
 use Rattle.fing_syntax.specs.Place.{name_of, name_span, ty_span, exp_span, sig_span, up_to}
@@ -33,7 +32,7 @@ use Rattle.module_judgments.proofs.Verdicts.{str-same, one_named, one_projected,
 use Rattle.module_judgments.specs.ModWhy.{ModWhy}
 use Rattle.module_judgments.specs.ModRules.{NamedRefuses}
 use Rattle.functor_judgments.proofs.Verdicts.{one_pure_functor}
-use Rattle.package_judgments.proofs.Verdicts.{one_pack_type, one_pack, one_unpack}
+use Rattle.package_judgments.proofs.Verdicts.{one_pack_type, one_pack_matched, one_unpack}
 use Rattle.elab_judgments.specs.Operators.{names_of, with_type, include_name, omega_op}
 use Rattle.refusal_reasons.specs.Refusal.{Refusal}
 use Rattle.elab_judgments.specs.Refusals.Refusal.{refuse, refuse_match, of_mod}
@@ -56,6 +55,7 @@ use Rattle.sig_premise_laws.proofs.Environments.{body-ok, good-module, good-fiel
 use Rattle.sig_premise_laws.proofs.Determined.{lift-one, match-verdict, norm-one}
 use Rattle.module_judgments.proofs.Determined.{collected-one, seq-one}
 use Rattle.sig_laws.proofs.Encoded.EnvTyping.{kinds-named_fields}
+use Rattle.sig_laws.proofs.Formed.WellFormedShape.{kinded}
 use Rattle.sig_laws.proofs.Algebra.FormLaws.{kinds-type_vars, module-under}
 
 done : (g : Env) (a : Task) → Ready (steps g a) → Exactly g a
@@ -125,20 +125,20 @@ decls_from-ready g h before d ds (Abs.Ex ks s) w p go = (
   ),
 )
 
-refined-ready : (g : Env) (z : SpanName) (path : List SpanName) (b : TyEx) (x : Abs) (u : Ty × Kind) → OkRight (kinds g) x → HasKind (kinds g) u.0 u.1 → Ready (refined g z path b x u)
-refined-ready g z path b (Abs.Ex ks s) u w h = (placed g ks s z path b u (one_where (kinds g) (Abs.Ex ks s) (names_of (z ∷ path)) u.0 u.1 w h), λ y r. tt)
+refined-ready : (g : Env) (z : SpanName) (path : List SpanName) (b : TyEx) (x : Abs) (u : Ty × Kind) → OkRight (kinds g) x → Normal (kinds g) u.0 u.1 → Ready (refined g z path b x u)
+refined-ready g z path b (Abs.Ex ks s) u w h = (placed g ks s z path b u (one_where (kinds g) (Abs.Ex ks s) (names_of (z ∷ path)) u.0 u.1 w.1 h), λ y r. tt)
 
 functor_sig-ready : (g : Env) → OkEnv g → (pure : Bool) (x : SpanName) (b : SigEx) (y : Abs) → OkRight (kinds g) y → ((k : Env) → OkEnv k → Exactly k (a_sig b)) → Ready (functor_sig g pure x b y)
 functor_sig-ready g h false x b (Abs.Ex ks s) w go = (go (with_module g ks (name_of x) s) (good-module g ks (name_of x) s h (body-ok w)), λ y p. (one-the (one_generative (Abs.Ex ks s) y), λ z r. tt))
 functor_sig-ready g h true x b (Abs.Ex ks s) w go =
     let good = good-module g ks (name_of x) s h (body-ok w) in
-    (go (with_module g ks (name_of x) s) good, λ y p. (one-the (lift-one (kinds g) ks s y w (explicit-left (right-under g ks (sig_ok (with_module g ks (name_of x) s) b y good p)))), λ z l. tt))
+    (go (with_module g ks (name_of x) s) good, λ y p. (one-the (lift-one (kinds g) ks s y w.1 (right-under g ks (sig_ok (with_module g ks (name_of x) s) b y good p)).1), λ z l. tt))
 
 generative-ready : (g : Env) (ks : List Kind) (s : Sig) (M : Module) → OkModule (extend (kinds g) ks) M → Ready (generative g ks s M)
-generative-ready g ks s M w = (one-the (one_generative_module (kinds g) ks s M w), λ N r. tt)
+generative-ready g ks s M w = (one-the (one_generative_module (kinds g) ks s M (kinded (extend (kinds g) ks) M w)), λ N r. tt)
 
 functor_of-ready : (g : Env) (ks : List Kind) (s : Sig) (gen : Bool) (M : Module) → OkRight (kinds g) (Abs.Ex ks s) → OkModule (extend (kinds g) ks) M → Ready (functor_of g ks s gen M)
-functor_of-ready g ks s false (made Pure (Abs.Ex js t) ts e) v w = (one-the (one_pure_functor (kinds g) ks s (Abs.Ex js t) ts e v w.0), λ N r. tt)
+functor_of-ready g ks s false (made Pure (Abs.Ex js t) ts e) v w = (one-the (one_pure_functor (kinds g) ks s (Abs.Ex js t) ts e v.1 w.0.1), λ N r. tt)
 functor_of-ready g ks s false (made Impure (Abs.Ex js t) ts e) v w = generative-ready g ks s (made Impure (Abs.Ex js t) ts e) w
 functor_of-ready g ks s true (made f y ts e) v w = generative-ready g ks s (made f y ts e) w
 
@@ -175,7 +175,7 @@ matched-one g h at s y w v = mapped (refuse_match g at) (match-verdict (kinds g)
 
 mutual
   pub type-one : (g : Env) → OkEnv g → (a : TyEx) → Exactly g (a_type a)
-  type-one g h (TyAt at (PathTy m)) = done g (a_type (TyAt at (PathTy m))) (mod-one g h m, λ M p. (mapped _ (one_type_path (kinds g) M (mod_ok g m M h p)), λ o r. tt))
+  type-one g h (TyAt at (PathTy m)) = done g (a_type (TyAt at (PathTy m))) (mod-one g h m, λ M p. (mapped _ (one_type_path (kinds g) M (kinded (kinds g) M (mod_ok g m M h p))), λ o r. tt))
   type-one g h (TyAt at TyInt) = done g (a_type (TyAt at TyInt)) (never-refused (one_base Base.Int), λ o r. tt)
   type-one g h (TyAt at TyBool) = done g (a_type (TyAt at TyBool)) (never-refused (one_base Base.Bool), λ o r. tt)
   type-one g h (TyAt at TyText) = done g (a_type (TyAt at TyText)) (never-refused (one_base Base.Text), λ o r. tt)
@@ -205,7 +205,7 @@ mutual
   type_fields-one g h before (MoreFieldTys x a rest) = done g (type_fields before (MoreFieldTys x a rest)) (dec-test _ (new_dec (name_of x) before), λ u n. (type-one g h a, λ t p. (star-one t.1, λ v e. (type_fields-one g h (name_of x ∷ before) rest, λ row q. tt))))
 
   pub exp-one : (g : Env) → OkEnv g → (a : Exp) → Exactly g (an_exp a)
-  exp-one g h (ExpAt at (PathExp m)) = done g (an_exp (ExpAt at (PathExp m))) (mod-one g h m, λ M p. (mapped _ (one_value_path (kinds g) M (mod_ok g m M h p)), λ o r. tt))
+  exp-one g h (ExpAt at (PathExp m)) = done g (an_exp (ExpAt at (PathExp m))) (mod-one g h m, λ M p. (mapped _ (one_value_path (kinds g) M (kinded (kinds g) M (mod_ok g m M h p))), λ o r. tt))
   exp-one g h (ExpAt at (ExpInt z)) = done g (an_exp (ExpAt at (ExpInt z))) (never-refused (one_literal (Literal.Int z)), λ o r. tt)
   exp-one g h (ExpAt at (ExpBool b)) = done g (an_exp (ExpAt at (ExpBool b))) (never-refused (one_literal (Literal.Bool b)), λ o r. tt)
   exp-one g h (ExpAt at (ExpText w)) = done g (an_exp (ExpAt at (ExpText w))) (never-refused (one_literal (Literal.Text w)), λ o r. tt)
@@ -244,7 +244,7 @@ mutual
             one-the (norm-one (kinds g) y (sig_ok g a y h p)),
             λ z n.
                 let w = norm_ok (kinds g) y z (sig_ok g a y h p) n in
-                (matched-one g h (sig_span a) o.0 z (find-good g (name_of x) h o f) w, λ m k. (one-the (one_pack (kinds g) o.0 o.1 z m.0 m.1 w k), λ d j. tt)),
+                (matched-one g h (sig_span a) o.0 z (find-good g (name_of x) h o f) w, λ m k. (one-the (one_pack_matched (kinds g) o.0 o.1 z m.0 m.1 w k), λ d j. tt)),
           ),
         ),
       )
@@ -279,10 +279,10 @@ mutual
   fields-one g h before (MoreFieldExps x a rest) = done g (fields before (MoreFieldExps x a rest)) (dec-test _ (new_dec (name_of x) before), λ u n. (exp-one g h a, λ t p. (fields-one g h (name_of x ∷ before) rest, λ o q. tt)))
 
   pub sig-one : (g : Env) → OkEnv g → (a : SigEx) → Exactly g (a_sig a)
-  sig-one g h (SigAt at (PathSig m)) = done g (a_sig (SigAt at (PathSig m))) (mod-one g h m, λ M p. (mapped _ (one_sig_path (kinds g) M (mod_ok g m M h p)), λ x r. tt))
+  sig-one g h (SigAt at (PathSig m)) = done g (a_sig (SigAt at (PathSig m))) (mod-one g h m, λ M p. (mapped _ (one_sig_path (kinds g) M (kinded (kinds g) M (mod_ok g m M h p))), λ x r. tt))
   sig-one g h (SigAt at (SigDecls ds)) = done g (a_sig (SigAt at (SigDecls ds))) (decls-one g h [] ds, λ x p. tt)
   sig-one g h (SigAt at (SigFun pure x a b)) = done g (a_sig (SigAt at (SigFun pure x a b))) (sig-one g h a, λ y p. functor_sig-ready g h pure x b y (sig_ok g a y h p) (λ k w. sig-one k w b))
-  sig-one g h (SigAt at (SigRefine a z path b)) = done g (a_sig (SigAt at (SigRefine a z path b))) (sig-one g h a, λ x p. (type-one g h b, λ u q. refined-ready g z path b x u (sig_ok g a x h p) (normal-kind (type_ok g b u.0 u.1 h q))))
+  sig-one g h (SigAt at (SigRefine a z path b)) = done g (a_sig (SigAt at (SigRefine a z path b))) (sig-one g h a, λ x p. (type-one g h b, λ u q. refined-ready g z path b x u (sig_ok g a x h p) (type_ok g b u.0 u.1 h q)))
 
   pub decl-one : (g : Env) → OkEnv g → (d : Decl) → Exactly g (a_decl d)
   decl-one g h (DeclAt at (DeclVal x a)) = done g (a_decl (DeclAt at (DeclVal x a))) (type-one g h a, λ t p. (mapped _ (one_value (name_of x) t.0 t.1), λ y r. tt))
@@ -299,7 +299,7 @@ mutual
   pub mod-one : (g : Env) → OkEnv g → (m : Mod) → Exactly g (a_mod m)
   mod-one g h (ModAt at (ModName x)) = done g (a_mod (ModAt at (ModName x))) (mapped _ (one_named g (name_of x)), λ M r. tt)
   mod-one g h (ModAt at (ModStruct bs)) = done g (a_mod (ModAt at (ModStruct bs))) (binds-one g h [] (tt, tt) bs, λ M p. tt)
-  mod-one g h (ModAt at (ModProject m x)) = done g (a_mod (ModAt at (ModProject m x))) (mod-one g h m, λ M p. (mapped _ (one_projected (kinds g) M (name_of x) (mod_ok g m M h p)), λ N r. tt))
+  mod-one g h (ModAt at (ModProject m x)) = done g (a_mod (ModAt at (ModProject m x))) (mod-one g h m, λ M p. (mapped _ (one_projected (kinds g) M (name_of x) (kinded (kinds g) M (mod_ok g m M h p))), λ N r. tt))
   mod-one g h (ModAt at (ModFunctor gen x a b)) = done g (a_mod (ModAt at (ModFunctor gen x a b))) (sig-one g h a, λ y p. functor_body-ready g h gen x b y (sig_ok g a y h p) (λ k w. mod-one k w b))
   mod-one g h (ModAt at (ModApply x z)) =
       done g (a_mod (ModAt at (ModApply x z))) (

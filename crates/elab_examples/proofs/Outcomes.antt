@@ -63,7 +63,7 @@ projected-sig {ks = ks} {fs = fs} {e = e} h (Projected.impure {d = d} i p) = let
 pub show-project : {g : Env} {at : Span} {m : Mod} {x : SpanName} {f : Effect} {ks : List Kind} {fs : SigRow} {s : Sig} → OkEnv g → ModShows g m f (Abs.Ex ks (Sig.Str fs)) → HasField fs (name_of x) s → ModShows g (ModAt at (ModProject m x)) f (Abs.Ex ks s)
 unfolding ProjectedSig
 show-project {g} {at} {m} {x} {f} {ks} {fs} {s} ok p h =
-    let q = projected-one (kinds g) ks f fs p.0 p.1 (name_of x) s (mod_ok g m (made f (Abs.Ex ks (Sig.Str fs)) p.0 p.1) ok p.2).0.0 h in
+    let q = projected-one (kinds g) ks f fs p.0 p.1 (name_of x) s (mod_ok g m (made f (Abs.Ex ks (Sig.Str fs)) p.0 p.1) ok p.2).0 h in
     let v = projected-sig h q.1 in
     (v.0, v.1, subst (λ N. ModMeans g (ModAt at (ModProject m x)) N) v.2 (ModMeans.mod_project p.2 q.1))
 

@@ -8,7 +8,7 @@ use Rattle.omega_types.specs.Kinding.{Lookup, HasKind, HasKinds}
 use Rattle.omega_types.specs.Height.{height, height_row}
 use Rattle.omega_types.proofs.Preservation.{conv-kinds}
 use Rattle.omega_terms.specs.Term.{Term, TermRow}
-use Rattle.omega_terms.specs.Typing.{At, HasType, FieldsHave, shift_all}
+use Rattle.omega_terms.specs.Typing.{At, HasType, FieldsHave, BranchesHave, shift_all}
 use Rattle.omega_terms.specs.Height.{term_height, row_height}
 use Rattle.omega_terms.specs.InScope.{IndexInScope, TyInScope, RowInScope, TermInScope, TermRowInScope}
 
@@ -91,6 +91,14 @@ mutual
   )
   term-scope {vars = vars} n m p q h g (HasType.fix k l e) =
       (ty-scope n p (omega (arith, h)) k, ty-scope n p (omega (arith, h)) l, term-scope n (m + 2) p (omega (arith, q)) (omega (arith, h)) (omega (arith, g)) e)
+  term-scope n m p q h g (HasType.inj c l e) = (term-scope n m p q (omega (arith, h)) (omega (arith, g)) e, ty-scope n p (omega (arith, h)) (conv-kinds c).0)
+  term-scope {vars = vars} n m p q h g (HasType.case e k f) = (
+    term-scope n m p q (omega (arith, h)) (omega (arith, g)) e,
+    ty-scope n p (omega (arith, h)) k,
+    branches-scope n (m + 1) p (more m (length vars) q) (omega (arith, h)) (omega (arith, g)) f,
+  )
+  term-scope n m p q h g (HasType.roll c e) = (term-scope n m p q (omega (arith, h)) (omega (arith, g)) e, ty-scope n p (omega (arith, h)) (conv-kinds c).0)
+  term-scope n m p q h g (HasType.unroll e) = term-scope n m p q (omega (arith, h)) (omega (arith, g)) e
   term-scope n m p q h g (HasType.conv e c) = term-scope n m p q h g e
 
   term_row-scope : {ctx : List Kind} {vars : List Ty} {fields : TermRow} {row : Row} (n m : ℕ) → n ≡ length ctx → m ≡ length vars
@@ -100,6 +108,15 @@ mutual
     term-scope n m p q (omega (arith, h)) (omega (arith, g)) e,
     term_row-scope n m p q
         (omega (arith, h)) (omega (arith, g)) rest,
+  )
+
+  -- each branch binds a variable
+  branches-scope : {ctx : List Kind} {vars : List Ty} {branches : TermRow} {row : Row} {t : Ty} (n m : ℕ) → n ≡ length ctx → m ≡ suc (length vars)
+      → n + row_height branches ≤ 2 ^ 63 → m + 2 * row_height branches ≤ 2 ^ 64 → BranchesHave ctx vars branches row t → TermRowInScope n m branches
+  branches-scope n m p q h g BranchesHave.none = tt
+  branches-scope n m p q h g (BranchesHave.branch e rest) = (
+    term-scope n m p q (omega (arith, h)) (omega (arith, g)) e,
+    branches-scope n m p q (omega (arith, h)) (omega (arith, g)) rest,
   )
 
 pub closed-type : {t : Ty} {k : Kind} → HasKind [] t k → height t ≤ 2 ^ 64 → TyInScope 0 t

@@ -65,6 +65,10 @@ module _ (v : Version) where
     term-spelled n m (Term.If a b c) h g = (term-spelled n m a h.0 g.0, term-spelled n m b h.1 g.1, term-spelled n m c h.2 g.2)
     term-spelled n m (Term.Arith o a b) h g = (term-spelled n m a h.0 g.0, term-spelled n m b h.1 g.1)
     term-spelled n m (Term.Fix t u e) h g = (ty-spelled n t h.0 g.0, ty-spelled n u h.1 g.1, term-spelled n (m + 2) e h.2 g.2)
+    term-spelled n m (Term.Inj l e t) h g = (h.0, h.1, term-spelled n m e h.2 g.0, ty-spelled n t h.3 g.1)
+    term-spelled n m (Term.Case e t row) h g = (h.0, term-spelled n m e h.1 g.0, ty-spelled n t h.2 g.1, term_row-spelled n (m + 1) None row h.3 g.2)
+    term-spelled n m (Term.Roll e t) h g = (h.0, term-spelled n m e h.1 g.0, ty-spelled n t h.2 g.1)
+    term-spelled n m (Term.Unroll e) h g = (h.0, term-spelled n m e h.1 g)
 
     term_row-spelled : (n m : ℕ) (last : Option Label) (row : TermRow) → TermRowLegible v last row → TermRowInScope n m row → TermRowSpelled v n m last row
     term_row-spelled n m last TermRow.End h g = tt
@@ -99,6 +103,14 @@ module _ (v : Version) where
         let q = spelled-ty n u h.1 in
         let r = spelled-term n (m + 2) e h.2 in
         ((p.0, q.0, r.0), (p.1, q.1, r.1))
+    spelled-term n m (Term.Inj l e t) h = let p = spelled-term n m e h.2 in let q = spelled-ty n t h.3 in ((h.0, h.1, p.0, q.0), (p.1, q.1))
+    spelled-term n m (Term.Case e t row) h =
+        let p = spelled-term n m e h.1 in
+        let q = spelled-ty n t h.2 in
+        let r = spelled-term_row n (m + 1) None row h.3 in
+        ((h.0, p.0, q.0, r.0), (p.1, q.1, r.1))
+    spelled-term n m (Term.Roll e t) h = let p = spelled-term n m e h.1 in let q = spelled-ty n t h.2 in ((h.0, p.0, q.0), (p.1, q.1))
+    spelled-term n m (Term.Unroll e) h = let p = spelled-term n m e h.1 in ((h.0, p.0), p.1)
 
     spelled-term_row : (n m : ℕ) (last : Option Label) (row : TermRow) → TermRowSpelled v n m last row → TermRowLegible v last row × TermRowInScope n m row
     spelled-term_row n m last TermRow.End h = (tt, tt)

@@ -36,6 +36,10 @@ module _ (v : Version) where
     ren_term-legible q r (Term.If a b c) h = (ren_term-legible q r a h.0, ren_term-legible q r b h.1, ren_term-legible q r c h.2)
     ren_term-legible q r (Term.Arith o a b) h = (ren_term-legible q r a h.0, ren_term-legible q r b h.1)
     ren_term-legible q r (Term.Fix t u e) h = (rename-legible v q t h.0, rename-legible v q u h.1, ren_term-legible q (lift (lift r)) e h.2)
+    ren_term-legible q r (Term.Inj l e t) h = (h.0, h.1, ren_term-legible q r e h.2, rename-legible v q t h.3)
+    ren_term-legible q r (Term.Case e t row) h = (h.0, ren_term-legible q r e h.1, rename-legible v q t h.2, ren_fields-legible q (lift r) None row h.3)
+    ren_term-legible q r (Term.Roll e t) h = (h.0, ren_term-legible q r e h.1, rename-legible v q t h.2)
+    ren_term-legible q r (Term.Unroll e) h = (h.0, ren_term-legible q r e h.1)
 
     ren_fields-legible : (q r : ℕ → ℕ) (last : Option Label) (row : TermRow) → TermRowLegible v last row → TermRowLegible v last (ren_fields q r row)
     ren_fields-legible q r last TermRow.End h = tt
@@ -61,6 +65,10 @@ module _ (v : Version) where
     instance-legible f (Instance.if_ a b c) h = (instance-legible f a h.0, instance-legible f b h.1, instance-legible f c h.2)
     instance-legible f (Instance.arith a b) h = (instance-legible f a h.0, instance-legible f b h.1)
     instance-legible f (Instance.fix t u e) h = (ty_instance-legible f t h.0, ty_instance-legible f u h.1, instance-legible f e h.2)
+    instance-legible f (Instance.inj e t) h = (h.0, h.1, instance-legible f e h.2, ty_instance-legible f t h.3)
+    instance-legible f (Instance.case e t row) h = (h.0, instance-legible f e h.1, ty_instance-legible f t h.2, instances-legible None f row h.3)
+    instance-legible f (Instance.roll e t) h = (h.0, instance-legible f e h.1, ty_instance-legible f t h.2)
+    instance-legible f (Instance.unroll e) h = (h.0, instance-legible f e h.1)
 
     instances-legible : {from to : List Kind} {s : ℕ → Ty} {row other : TermRow} (last : Option Label) → AllLegible v s → Instances from to s row other
         → TermRowLegible v last row → TermRowLegible v last other

@@ -1,6 +1,6 @@
 -- Which types and terms have a spelling in the text of System Fω as far as no variable is concerned: each label, number and
--- text in them has one, the fields of each record stand in strictly rising order, and sums and recursive types stand in the
--- second version only.
+-- text in them has one, the fields of each record and the branches of each case stand in strictly rising order, and sums and
+-- recursive types, and their terms, stand in the second version only.
 use Rattle.std.specs.Prelude.{◌≡◌, List, [], ◌∷◌, true, Option, Some, None}
 use Rattle.omega_kinds.specs.declared.label.Label.{Label}
 use Rattle.omega_types.specs.Ty.{Ty, Row}
@@ -52,6 +52,10 @@ abbrev mutual
   TermLegible v (Term.If a b c) = TermLegible v a × TermLegible v b × TermLegible v c
   TermLegible v (Term.Arith op a b) = TermLegible v a × TermLegible v b
   TermLegible v (Term.Fix t u e) = TyLegible v t × TyLegible v u × TermLegible v e
+  TermLegible v (Term.Inj l e t) = (v ≡ Second) × LabelSpelled l × TermLegible v e × TyLegible v t
+  TermLegible v (Term.Case e t row) = (v ≡ Second) × TermLegible v e × TyLegible v t × TermRowLegible v None row
+  TermLegible v (Term.Roll e t) = (v ≡ Second) × TermLegible v e × TyLegible v t
+  TermLegible v (Term.Unroll e) = (v ≡ Second) × TermLegible v e
 
   pub TermRowLegible : Version → Option Label → TermRow → Type 0
   TermRowLegible v last TermRow.End = Unit {0}

@@ -127,6 +127,18 @@ fn sources_that_mean_nothing(rt: HostRuntime) -> Result<(), Fail> {
     all_reply(&rt, rt.alloc(), "check", Status::Refused, &REFUSED)
 }
 
+// An operator and its flip: each signature matches the other, as the seals of C and D show, and yet they have two
+// package types.
+const FLIPPED: [(&str, &str); 1] = [(
+    "signature S = sig type f : Type -> Type -> Type type g = fun (a : Type) => fun (b : Type) => f b a end signature R = sig type g : Type -> Type -> Type type f = fun (a : Type) => fun (b : Type) => g b a end module A = struct type f = fun (a : Type) => fun (b : Type) => a type g = fun (a : Type) => fun (b : Type) => b end module B = A :> S module C = B :> R module D = C :> S val p = pack D : S module E = unpack p : R",
+    "refused 413-414 Differ (some (> * (> * *)) (rec (f (rec (.typ (all (> (> * (> * *)) *) (-> (@ a4 (lam * (lam * (@ (@ a3 a5) a6)))) (@ a4 (lam * (lam * (@ (@ a3 a5) a6))))))))) (g (rec (.typ (all (> (> * (> * *)) *) (-> (@ a4 (lam * (lam * (@ (@ a3 a6) a5)))) (@ a4 (lam * (lam * (@ (@ a3 a6) a5))))))))))) (some (> * (> * *)) (rec (f (rec (.typ (all (> (> * (> * *)) *) (-> (@ a4 (lam * (lam * (@ (@ a3 a6) a5)))) (@ a4 (lam * (lam * (@ (@ a3 a6) a5))))))))) (g (rec (.typ (all (> (> * (> * *)) *) (-> (@ a4 (lam * (lam * (@ (@ a3 a5) a6)))) (@ a4 (lam * (lam * (@ (@ a3 a5) a6)))))))))))\n",
+)];
+
+#[test]
+fn an_operator_and_its_flip(rt: HostRuntime) -> Result<(), Fail> {
+    all_reply(&rt, rt.alloc(), "check", Status::Refused, &FLIPPED)
+}
+
 // The same source is accepted with an applicative functor, whose two results have one hidden type.
 #[test]
 fn two_results_of_one_functor(rt: HostRuntime) -> Result<(), Fail> {

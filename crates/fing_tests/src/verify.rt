@@ -11,7 +11,7 @@ use std::test::Fail;
 const LOOP: &str =
     "(all * (-> (sum (a int) (b a0)) (mu (-> a1 int))))\n(tfn * (fix (sum (a int) (b a0)) (mu (-> a1 int)) (call x0 x1)))\n";
 
-const WELL_TYPED: [&str; 9] = [
+const WELL_TYPED: [&str; 15] = [
     SEALED,
     "omega 1\n(rec (x (rec (.val int))))\n(call (fn (rec (.val int)) (rec (x x0))) (rec (.val (+ 1 2))))\n",
     "omega 1\n(all * (-> a0 a0))\n(tfn * (fn a0 (open (pack a0 x0 (some * a1)) x0)))\n",
@@ -21,6 +21,12 @@ const WELL_TYPED: [&str; 9] = [
     "omega 2\n(rec (x (rec (.val int))))\n(call (fn (rec (.val int)) (rec (x x0))) (rec (.val (+ 1 2))))\n",
     "omega 2\n(-> (sum (a int) (b bool)) (sum (a int) (b bool)))\n(fn (sum (a (@ (lam * a0) int)) (b bool)) x0)\n",
     "omega 2\n(-> (sum) (mu a0))\n(fix (sum) (mu (@ (lam * a1) a0)) (call x0 x1))\n",
+    "omega 2\n(sum (a int) (b bool))\n(inj a 1 (sum (a int) (b bool)))\n",
+    "omega 2\nint\n(case (inj a 1 (sum (a int))) int (a x0))\n",
+    "omega 2\n(-> (sum) text)\n(fn (sum) (case x0 text))\n",
+    "omega 2\n(-> (sum (no int) (yes (rec))) bool)\n(fn (sum (no int) (yes (rec))) (case x0 bool (no (< x1 0)) (yes true)))\n",
+    "omega 2\n(-> (mu (-> a0 int)) int)\n(fn (mu (-> a0 int)) (call (unroll x0) x0))\n",
+    "omega 2\n(mu (-> a0 int))\n(roll (fn (mu (-> a0 int)) (call (unroll x0) x0)) (@ (lam * (mu (-> a1 a0))) int))\n",
 ];
 
 #[test]
@@ -60,8 +66,9 @@ fn well_typed_texts(rt: HostRuntime) -> Result<(), Fail> {
     Ok(())
 }
 
-const REFUSED: [(&str, &str); 14] = [
+const REFUSED: [(&str, &str); 23] = [
     ("omega 7\n", "refused Version\n"),
+    ("omega 3\n", "refused Version\n"),
     ("omega 3\n(sum)\n0\n", "refused Version\n"),
     ("omega 1\n(sum)\n0\n", "refused NotOmega\n"),
     (
@@ -94,6 +101,35 @@ const REFUSED: [(&str, &str); 14] = [
     ),
     (
         "omega 1\n(all * (-> a0 a0))\n(tfn * (fn a0 (open (pack a0 x0 (some * a1)) x1)))\n",
+        "refused IllTyped\n",
+    ),
+    (
+        "omega 1\n(sum (a int) (b bool))\n(inj a 1 (sum (a int) (b bool)))\n",
+        "refused NotOmega\n",
+    ),
+    ("omega 1\nint\n(unroll 1)\n", "refused NotOmega\n"),
+    (
+        "omega 2\nint\n(case (inj a 1 (sum (a int) (b int))) int (b x0) (a x0))\n",
+        "refused NotOmega\n",
+    ),
+    (
+        "omega 2\nint\n(case (inj a 1 (sum (a int))) int (b x0))\n",
+        "refused IllTyped\n",
+    ),
+    (
+        "omega 2\nint\n(case (inj a 1 (sum (a int))) int (a x0) (b x0))\n",
+        "refused IllTyped\n",
+    ),
+    (
+        "omega 2\n(-> (sum (a int) (b int)) int)\n(fn (sum (a int) (b int)) (case x0 int (a x1)))\n",
+        "refused IllTyped\n",
+    ),
+    (
+        "omega 2\n(-> (mu (-> a0 int)) int)\n(fn (mu (-> a0 int)) (call x0 x0))\n",
+        "refused IllTyped\n",
+    ),
+    (
+        "omega 2\n(-> (rec) (mu (sum (a a0))))\n(fix (rec) (mu (sum (a a0))) (roll (call x0 x1) (mu (sum (a a0)))))\n",
         "refused IllTyped\n",
     ),
     ("omega 1\nbool\n1\n", "refused IllTyped\n"),

@@ -82,6 +82,9 @@ one-form front a da q s = λ o c rest e. closed-shows front a da q s o c rest (s
 two-form : (front a b : List ℕ) (da db : ℕ) → passes quiet front ≡ true → Shows a da → Shows b db → Shows ((40 ∷ front) then a then codes " " then b then codes ")") (max da db + 1)
 two-form front a b da db q s t = λ o c rest e. two-shows front a b da db q s t o c rest (subst (Fits o c) (built-is (40 ∷ front) a b rest) e)
 
+deepest : (o c da db m : ℕ) → 0 < max da db → (0 < da → o + da ≤ c + 4000) → (0 < db → o + m + db ≤ c + m + 4000) → o + max da db ≤ c + 4000
+deepest o c da db m some x y = grind arith
+
 -- two parts with a space between them
 beside : (a b : List ℕ) (da db : ℕ) → Shows a da → Shows b db → Shows (a ++ (32 ∷ b)) (max da db)
 beside a b da db s t o c rest e =
@@ -95,9 +98,6 @@ beside a b da db s t o c rest e =
     apart : (a b rest : List ℕ) → (a ++ (32 ∷ b)) ++ rest ≡ a ++ (32 ∷ (b ++ rest))
     apart a b rest = simp append_assoc
 
-    deepest : (o c da db m : ℕ) → 0 < max da db → (0 < da → o + da ≤ c + 4000) → (0 < db → o + m + db ≤ c + m + 4000) → o + max da db ≤ c + 4000
-    deepest o c da db m some x y = grind arith
-
 three-is : (p a b d rest : List ℕ) → (p then a then codes " " then b then codes " " then d then codes ")") ++ rest ≡ p ++ (a ++ (32 ∷ ((b ++ (32 ∷ d)) ++ (41 ∷ rest))))
 unfolding ◌then◌
 three-is p a b d rest = simp append_assoc
@@ -106,6 +106,27 @@ three-form : (front a b d : List ℕ) (da db dd : ℕ) → passes quiet front �
     → Shows ((40 ∷ front) then a then codes " " then b then codes " " then d then codes ")") (max da (max db dd) + 1)
 three-form front a b d da db dd q s t u = λ o c rest e.
     two-shows front a (b ++ (32 ∷ d)) da (max db dd) q s (beside b d db dd t u) o c rest (subst (Fits o c) (three-is (40 ∷ front) a b d rest) e)
+
+-- one part right before another
+joined : (a b : List ℕ) (da db : ℕ) → Shows a da → Shows b db → Shows (a ++ b) (max da db)
+joined a b da db s t o c rest e =
+    let s1 = s o c (b ++ rest) (subst (Fits o c) (apart a b rest) e) in
+    let s2 = t (o + s1.more) (c + s1.more) rest s1.later in
+    let j : o + (s1.more + s2.more) ≡ o + s1.more + s2.more = omega arith in
+    let k : c + (s1.more + s2.more) ≡ c + s1.more + s2.more = omega arith in
+    record { fits = λ some. deepest o c da db s1.more some s1.fits s2.fits; more = s1.more + s2.more; later = rw (j, k) s2.later }
+  where
+    apart : (a b rest : List ℕ) → (a ++ b) ++ rest ≡ a ++ (b ++ rest)
+    apart a b rest = simp append_assoc
+
+branches-is : (p a b d rest : List ℕ) → (p then a then codes " " then b then d then codes ")") ++ rest ≡ p ++ (a ++ (32 ∷ ((b ++ d) ++ (41 ∷ rest))))
+unfolding ◌then◌
+branches-is p a b d rest = simp append_assoc
+
+branched-form : (front a b d : List ℕ) (da db dd : ℕ) → passes quiet front ≡ true → Shows a da → Shows b db → Shows d dd
+    → Shows ((40 ∷ front) then a then codes " " then b then d then codes ")") (max da (max db dd) + 1)
+branched-form front a b d da db dd q s t u = λ o c rest e.
+    two-shows front a (b ++ d) da (max db dd) q s (joined b d db dd t u) o c rest (subst (Fits o c) (branches-is (40 ∷ front) a b d rest) e)
 
 field-form : (l a b : List ℕ) (da db : ℕ) → passes quiet l ≡ true → Shows a da → Shows b db → Shows (codes " (" then l then codes " " then a then codes ")" then b) (max da db)
 field-form l a b da db q s t = λ o c rest e. field-shows l a b da db q s t o c rest (subst (Fits o c) (field-is (codes " (") l a b rest) e)
@@ -166,6 +187,14 @@ module _ (v : Version) where
     term-shows (Term.Arith op a b) n m h = op-form op (term_text n m a) (term_text n m b) (term_deep a) (term_deep b) (term-shows a n m h.0) (term-shows b n m h.1)
     term-shows (Term.Fix t u e) n m h =
         three-form (codes "fix ") (ty_text n t) (ty_text n u) (term_text n (m + 2) e) (deep t) (deep u) (term_deep e) refl (ty-shows t n h.0) (ty-shows u n h.1) (term-shows e n (m + 2) h.2)
+    term-shows (Term.Inj l e t) n m h =
+        let k : max 0 (max (term_deep e) (deep t)) ≡ max (term_deep e) (deep t) = omega arith in
+        subst (λ (d : ℕ). Shows (term_text n m (Term.Inj l e t)) (d + 1)) k
+        (three-form (codes "inj ") (label_text l) (term_text n m e) (ty_text n t) 0 (term_deep e) (deep t) refl (quiet-shows (label_text l) (label-quiet l h.1)) (term-shows e n m h.2) (ty-shows t n h.3))
+    term-shows (Term.Case e t row) n m h =
+        branched-form (codes "case ") (term_text n m e) (ty_text n t) (term_row_text n (m + 1) row) (term_deep e) (deep t) (term_deep_row row) refl (term-shows e n m h.1) (ty-shows t n h.2) (term_row-shows row n (m + 1) None h.3)
+    term-shows (Term.Roll e t) n m h = two-form (codes "roll ") (term_text n m e) (ty_text n t) (term_deep e) (deep t) refl (term-shows e n m h.1) (ty-shows t n h.2)
+    term-shows (Term.Unroll e) n m h = one-form (codes "unroll ") (term_text n m e) (term_deep e) refl (term-shows e n m h.1)
 
     term_row-shows : (row : TermRow) (n m : ℕ) (last : Option Label) → TermRowLegible v last row → Shows (term_row_text n m row) (term_deep_row row)
     term_row-shows TermRow.End n m last h = quiet-shows [] refl
@@ -210,6 +239,10 @@ mutual
   term-low (Term.If a b c) = omega (arith, term-low a, term-low b, term-low c)
   term-low (Term.Arith op a b) = omega (arith, term-low a, term-low b)
   term-low (Term.Fix t u e) = omega (arith, low t, low u, term-low e)
+  term-low (Term.Inj l e t) = omega (arith, term-low e, low t)
+  term-low (Term.Case e t row) = omega (arith, term-low e, low t, term_row-low row)
+  term-low (Term.Roll e t) = omega (arith, term-low e, low t)
+  term-low (Term.Unroll e) = omega (arith, term-low e)
 
   term_row-low : (row : TermRow) → row_height row ≤ term_deep_row row + 1
   term_row-low TermRow.End = omega arith

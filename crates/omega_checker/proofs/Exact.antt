@@ -1,5 +1,5 @@
 -- The type that is found is the normal form of each type that the rules give, and there is none where they give none.
-use Rattle.std.proofs.Common.{◌≡◌, ℕ, zero, suc, List, [], ◌∷◌, Option, Some, None, Bool as Truth, true, false, if◌then◌else◌, not, ◌||◌, ◌==◌, ◌-◌, eqb-true, map, slice_get, arith, refl, sym, ap, ap₂, ◌∙◌, subst}
+use Rattle.std.proofs.Common.{◌≡◌, ℕ, zero, suc, List, [], ◌∷◌, Option, Some, None, Bool as Truth, true, false, if◌then◌else◌, not, ◌&&◌, ◌||◌, ◌==◌, ◌-◌, eqb-true, map, slice_get, arith, refl, sym, ap, ap₂, ◌∙◌, subst}
 use Rattle.std.specs.Option.{option_map}
 use Rattle.std.specs.Ordering.{is_eq}
 use Rattle.omega_kinds.specs.Kind.{Kind}
@@ -9,12 +9,12 @@ use Rattle.omega_kinds.proofs.LabelLaws.{label-yes, label-self}
 use Rattle.std.proofs.Math.Path.{fun_ext}
 use Rattle.omega_types.specs.Ty.{Ty, Row, lift}
 use Rattle.omega_types.specs.Index.{i_here}
-use Rattle.omega_types.specs.Kinding.{HasKind, Fresh}
+use Rattle.omega_types.specs.Kinding.{HasKind, HasKinds, Fresh}
 use Rattle.omega_types.specs.Kinding.HasKind.{k_arrow}
-use Rattle.omega_types.specs.Normaliser.{normal, hsubst}
+use Rattle.omega_types.specs.Normaliser.{normal, normal_row, hsubst}
 use Rattle.omega_types.specs.Substitution.{rename, rename_row, substitute, instantiate}
 use Rattle.omega_types.specs.Mentions.{lower}
-use Rattle.omega_types.proofs.Inverse.{ex-kinds, all-kinds}
+use Rattle.omega_types.proofs.Inverse.{ex-kinds, all-kinds, sum-kinds, mu-kinds}
 use Rattle.omega_types.proofs.LawProofs.{normal_of_substitute}
 use Rattle.omega_types.proofs.Single.{put-zero}
 use Rattle.omega_types.proofs.Algebra.{rename-rename, rename-id}
@@ -23,12 +23,12 @@ use Rattle.omega_terms.specs.Term.{Term, TermRow}
 use Rattle.omega_terms.specs.Typing.{At, HasType, GoodVars, shift_all}
 use Rattle.omega_terms.proofs.NormalTyping.{shift-at}
 use Rattle.omega_terms.proofs.TypingLaws.{good-none, good-more, good-shift, type-kind}
-use Rattle.omega_laws.specs.Synthesis.{Synth, SynthFields}
+use Rattle.omega_laws.specs.Synthesis.{Synth, SynthFields, SynthBranches}
 use Rattle.omega_laws.proofs.Synthesised.{sound, exact, synth-normal, synth_cast, revar, same_cons, same_refl, nf_nf, nf_kind, nf_shifted, all_body}
-use Rattle.omega_checker.specs.Found.{and_then, normal_at, put_normal, call_type, let_type, inst_type, get_type, if_same, pack_type, lowered, of_package, if_type, op_type, fix_type, more_type, is_new, labels_differ, synth_in, synth_row}
+use Rattle.omega_checker.specs.Found.{and_then, normal_at, put_normal, call_type, let_type, inst_type, get_type, if_same, pack_type, lowered, of_package, if_type, op_type, fix_type, inj_type, case_type, is_found, unfolded, roll_type, unroll_type, more_type, is_new, labels_differ, synth_in, synth_row, synth_branches}
 use Rattle.omega_checker.specs.SameTy.{same_ty}
 use Rattle.omega_checker.proofs.Trees.{truths, both-true, true-both, same_ty-yes, same_ty-self, no}
-use Rattle.omega_checker.proofs.Inverted.{some-same, if-yes, and_then-yes, map-yes, normal_at-yes, normal_at-of, call-yes, let-cases, inst-yes, part_at-of, get-yes, pack-yes, package-yes, lowered-yes, if_type-yes, op-yes, fix-yes, more-yes, get-at}
+use Rattle.omega_checker.proofs.Inverted.{some-same, if-yes, and_then-yes, map-yes, normal_at-yes, normal_at-of, call-yes, let-cases, inst-yes, part_at-of, get-yes, pack-yes, package-yes, lowered-yes, if_type-yes, op-yes, fix-yes, inj-yes, case-yes, is_found-yes, roll-yes, unroll-yes, more-yes, get-at}
 
 -- ---- normal types in the context
 
@@ -51,6 +51,33 @@ ex_body p = cc
 filled : {ctx : List Kind} {k : Kind} {t b : Ty} → HasKind ctx t k → HasKind (k ∷ ctx) b Kind.Star → normal (k ∷ ctx) b ≡ b → hsubst k zero (normal ctx t) b ≡ normal ctx (instantiate b t)
 filled {ctx} {k} {t} {b} h i e =
     sym (ap (λ s. normal ctx (substitute s b)) (sym (put-zero t)) ∙ (normal_of_substitute ctx (k ∷ ctx) zero t b k Kind.Star i_here h i ∙ ap (hsubst k zero (normal ctx t)) e))
+
+mu_body : {b c : Ty} → Ty.Mu b ≡ Ty.Mu c → b ≡ c
+mu_body p = cc
+
+sum_row : {r q : Row} → Ty.Sum r ≡ Ty.Sum q → r ≡ q
+sum_row p = cc
+
+first_type : {l m : Label} {t u : Ty} {r q : Row} → Row.More l t r ≡ Row.More m u q → t ≡ u
+first_type p = cc
+
+rest_row : {l m : Label} {t u : Ty} {r q : Row} → Row.More l t r ≡ Row.More m u q → r ≡ q
+rest_row p = cc
+
+-- a normal recursive type put into its body
+unfolds : {ctx : List Kind} {b : Ty} → HasKind ctx (Ty.Mu b) Kind.Star → normal ctx (Ty.Mu b) ≡ Ty.Mu b → unfolded b ≡ normal ctx (instantiate b (Ty.Mu b))
+unfolds {ctx} {b} h e = ap (λ s. hsubst Kind.Star zero s b) (sym e) ∙ filled h (mu-kinds h) (mu_body e)
+
+-- the normal form of a type is normal where it is named
+nf_named : {ctx : List Kind} {t n : Ty} → HasKind ctx t Kind.Star → normal ctx t ≡ n → HasKind ctx n Kind.Star × (normal ctx n ≡ n)
+nf_named {ctx} h e = (subst (λ s. HasKind ctx s Kind.Star) e (nf_kind h), ap (normal ctx) (sym e) ∙ (nf_nf h ∙ e))
+
+-- the type at the first label of a row of types of kind *
+first-kind : {ctx : List Kind} {l : Label} {t : Ty} {r : Row} → HasKinds ctx (Row.More l t r) → HasKind ctx t Kind.Star
+first-kind (HasKinds.k_more f k rest) = k
+
+rest-kinds : {ctx : List Kind} {l : Label} {t : Ty} {r : Row} → HasKinds ctx (Row.More l t r) → HasKinds ctx r
+rest-kinds (HasKinds.k_more f k rest) = rest
 
 -- ---- labels
 
@@ -151,6 +178,25 @@ mutual
       synth_cast (ap₂ Ty.Arrow x.1 y.1 ∙ z.1)
       (Synth.fix x.0 y.0 (synth_cast (sym y.1)
       (revar (a ∷ (Ty.Arrow a u ∷ vars)) (good-more k (good-more (k_arrow k j) g)) (good-more x.0 (good-more (k_arrow x.0 y.0) g)) (same_cons m (same_cons (ap₂ Ty.Arrow m n) (same_refl ctx vars))) i)))
+  found-sound (Term.Inj l e u) ctx vars t g f h =
+      let p = inj-yes l (normal_at ctx u Kind.Star) (synth_in ctx vars e) t h in
+      let q = normal_at-yes ctx u Kind.Star (Ty.Sum p.0) p.2 in
+      synth_cast (q.1 ∙ p.5) (Synth.inj q.0 q.1 p.3 (found-sound e ctx vars p.1 g f p.4))
+  found-sound (Term.Case e u row) ctx vars t g f h =
+      let p = case-yes (synth_in ctx vars e) (normal_at ctx u Kind.Star) (synth_branches ctx vars row) t h in
+      let q = normal_at-yes ctx u Kind.Star t p.2 in
+      let i = found-sound e ctx vars (Ty.Sum p.0) g f p.1 in
+      let k = sum-kinds (type-kind g (sound g i)) in
+      synth_cast q.1 (Synth.case i q.0 (branches-sound row ctx vars p.0 (normal ctx u) g f k (sum_row (synth-normal g i)) (subst (λ n. synth_branches ctx vars row p.0 n ≡ true) (sym q.1) p.3)))
+  found-sound (Term.Roll e u) ctx vars t g f h =
+      let p = roll-yes (normal_at ctx u Kind.Star) (synth_in ctx vars e) t h in
+      let q = normal_at-yes ctx u Kind.Star (Ty.Mu p.0) p.1 in
+      let n = nf_named q.0 q.1 in
+      synth_cast (q.1 ∙ p.3) (Synth.roll q.0 q.1 (synth_cast (unfolds n.0 n.1) (found-sound e ctx vars (unfolded p.0) g f p.2)))
+  found-sound (Term.Unroll e) ctx vars t g f h =
+      let p = unroll-yes (synth_in ctx vars e) t h in
+      let i = found-sound e ctx vars (Ty.Mu p.0) g f p.1 in
+      synth_cast (sym (unfolds (type-kind g (sound g i)) (synth-normal g i)) ∙ p.2) (Synth.unroll i)
 
   row-sound : (row : TermRow) (ctx : List Kind) (vars : List Ty) (r : Row) → GoodVars ctx vars → NormalVars ctx vars → labels_differ row ≡ true → synth_row ctx vars row ≡ Some r → SynthFields ctx vars row r
   row-sound TermRow.End ctx vars r g f d h = subst (SynthFields ctx vars TermRow.End) (some-same h) SynthFields.end
@@ -158,6 +204,17 @@ mutual
       let p = more-yes l (synth_in ctx vars e) (synth_row ctx vars rest) r h in
       let q = both-true (is_new l rest) (labels_differ rest) d in
       subst (SynthFields ctx vars (TermRow.More l e rest)) p.4 (SynthFields.more (found-sound e ctx vars p.0 g f p.2) (new-fresh l ctx vars rest p.1 q.0 p.3) (row-sound rest ctx vars p.1 g f q.1 p.3))
+
+  branches-sound : (row : TermRow) (ctx : List Kind) (vars : List Ty) (r : Row) (t : Ty) → GoodVars ctx vars → NormalVars ctx vars → HasKinds ctx r → normal_row ctx r ≡ r → synth_branches ctx vars row r t ≡ true → SynthBranches ctx vars row r t
+  branches-sound TermRow.End ctx vars Row.End t g f k n h = SynthBranches.none
+  branches-sound TermRow.End ctx vars (Row.More m u r) t g f k n h = no h
+  branches-sound (TermRow.More l e rest) ctx vars Row.End t g f k n h = no h
+  branches-sound (TermRow.More l e rest) ctx vars (Row.More m u r) t g f k n h =
+      let p = both-true (is_eq (label_cmp l m)) (is_found t (synth_in ctx (u ∷ vars) e) && synth_branches ctx vars rest r t) h in
+      let q = both-true (is_found t (synth_in ctx (u ∷ vars) e)) (synth_branches ctx vars rest r t) p.1 in
+      let i = found-sound e ctx (u ∷ vars) t (good-more (first-kind k) g) (normal-more (first_type n) f) (is_found-yes t (synth_in ctx (u ∷ vars) e) q.0) in
+      subst (λ j. SynthBranches ctx vars (TermRow.More l e rest) (Row.More j u r) t) (label-yes l m p.0)
+      (SynthBranches.branch i (branches-sound rest ctx vars r t g f (rest-kinds k) (rest_row n) q.1))
 
 -- ---- what is synthesised is found
 
@@ -272,10 +329,31 @@ mutual
       ap (λ o. and_then o (λ n. and_then (normal_at ctx u Kind.Star) (λ m. fix_type n m (synth_in ctx (n ∷ (Ty.Arrow n m ∷ map (normal ctx) vars)) e)))) (normal_at-of k) ∙
       (ap (λ o. and_then o (λ m. fix_type (normal ctx t) m (synth_in ctx (normal ctx t ∷ (Ty.Arrow (normal ctx t) m ∷ map (normal ctx) vars)) e))) (normal_at-of j) ∙
       (ap (fix_type (normal ctx t) (normal ctx u)) (complete (good-more k (good-more (k_arrow k j) g)) h) ∙ when-same (normal ctx u) (Some (Ty.Arrow (normal ctx t) (normal ctx u)))))
+  complete {ctx} g (Synth.inj {l = l} {t = t} {u = u} {r = r} k p q h) =
+      ap₂ (inj_type l) (normal_at-of k ∙ ap Some p) (complete g h) ∙
+      (ap (λ o. if_same (Ty.Sum r) o (Some u)) (part_at-of q) ∙ (when-same u (Some (Ty.Sum r)) ∙ ap Some (sym p)))
+  complete {ctx} {vars} g (Synth.case {t = t} {r = r} {f = f} h k b) =
+      ap₂ (λ o p. case_type o p (synth_branches ctx (map (normal ctx) vars) f)) (complete g h) (normal_at-of k) ∙
+      ap (λ y. if y then Some (normal ctx t) else None) (branches-complete g (sum-kinds (type-kind g (sound g h))) (sum_row (synth-normal g h)) b)
+  complete {ctx} g (Synth.roll {t = t} {body = b} k p h) =
+      let n = nf_named k p in
+      let s = normal ctx (instantiate b (Ty.Mu b)) in
+      ap₂ roll_type (normal_at-of k ∙ ap Some p) (complete g h) ∙
+      (ap (λ u. if_same (Ty.Mu b) (Some u) (Some s)) (unfolds n.0 n.1) ∙ (when-same s (Some (Ty.Mu b)) ∙ ap Some (sym p)))
+  complete g (Synth.unroll h) =
+      ap unroll_type (complete g h) ∙ ap Some (unfolds (type-kind g (sound g h)) (synth-normal g h))
 
   row-complete : {ctx : List Kind} {vars : List Ty} {f : TermRow} {r : Row} → GoodVars ctx vars → SynthFields ctx vars f r → synth_row ctx (map (normal ctx) vars) f ≡ Some r
   row-complete g SynthFields.end = refl
   row-complete g (SynthFields.more {l = l} h d i) = ap₂ (more_type l) (complete g h) (row-complete g i)
+
+  branches-complete : {ctx : List Kind} {vars : List Ty} {f : TermRow} {r : Row} {t : Ty} → GoodVars ctx vars → HasKinds ctx r → normal_row ctx r ≡ r → SynthBranches ctx vars f r t → synth_branches ctx (map (normal ctx) vars) f r t ≡ true
+  branches-complete g k n SynthBranches.none = refl
+  branches-complete {ctx} {vars} g k n (SynthBranches.branch {l = l} {e = e} {t = t} {u = u} {f = f} {r = r} h i) =
+      let vs = map (normal ctx) vars in
+      let found = ap (λ s. synth_in ctx (s ∷ vs) e) (sym (first_type n)) ∙ complete (good-more (first-kind k) g) h in
+      true-both (is_eq (label_cmp l l)) (is_found t (synth_in ctx (u ∷ vs) e) && synth_branches ctx vs f r t) (label-self l)
+      (true-both (is_found t (synth_in ctx (u ∷ vs) e)) (synth_branches ctx vs f r t) (ap (is_found t) found ∙ same_ty-self t) (branches-complete g (rest-kinds k) (rest_row n) i))
 
 -- ---- closed terms
 

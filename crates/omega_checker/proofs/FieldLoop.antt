@@ -1,5 +1,5 @@
--- The types of a record's fields, found one after the other.
-use Rattle.std.proofs.Common.{◌≡◌, ℕ, zero, suc, ◌+◌, ◌<◌, ◌≤◌, [], ◌∷◌, ◌++◌, List, Option, Some, None, true, if◌then◌else◌, length, get_or, take, drop, map, refl, sym, ap, ap₂, ◌∙◌, subst, arith, drop-cons}
+-- The types of a record's fields and of a case's branches, found one after the other.
+use Rattle.std.proofs.Common.{◌≡◌, ℕ, zero, suc, ◌+◌, ◌<◌, ◌≤◌, [], ◌∷◌, ◌++◌, List, Option, Some, None, Bool as Truth, true, false, ◌&&◌, if◌then◌else◌, length, get_or, take, drop, map, refl, sym, ap, ap₂, ◌∙◌, subst, arith, drop-cons}
 use Rattle.std.proofs.lemmas.List.{drop_all}
 use Rattle.std.proofs.Math.Seq.{take-suc}
 use Rattle.std.specs.Option.{option_map}
@@ -7,13 +7,13 @@ use Rattle.std.specs.Ordering.{is_eq}
 use Rattle.omega_kinds.specs.Kind.{Kind}
 use Rattle.omega_kinds.specs.LabelOrder.{LabelBefore, label_cmp}
 use Rattle.omega_kinds.specs.declared.label.Label.{Label}
-use Rattle.omega_kinds.proofs.LabelLaws.{transitive}
+use Rattle.omega_kinds.proofs.LabelLaws.{label-self, label-yes, transitive}
 use Rattle.omega_types.specs.Ty.{Ty, Row}
 use Rattle.omega_types.specs.Fields.{Pairs, row, Rises, MayFollow, at_label}
 use Rattle.omega_types.proofs.KindsFound.{before-not}
 use Rattle.omega_terms.specs.Term.{Term, TermRow}
 use Rattle.omega_terms.specs.Fields.{TermPairs, term_row}
-use Rattle.omega_checker.specs.Found.{synth_in, synth_row, more_type, part_at, is_new, labels_differ}
+use Rattle.omega_checker.specs.Found.{synth_in, synth_row, synth_branches, is_found, more_type, part_at, is_new, labels_differ}
 
 next : (n : ℕ) → suc n ≡ n + 1
 next n = omega arith
@@ -115,3 +115,64 @@ none-is (Some x) h = absurd (h x refl)
 pub part_at-row : (xs : Pairs) (l : Label) → part_at (row xs) l ≡ at_label xs l
 part_at-row [] l = refl
 part_at-row (x ∷ xs) l = ap (λ (o : Option Ty). if is_eq (label_cmp x.0 l) then Some x.1 else o) (part_at-row xs l)
+
+-- ---- the branches of a case and the labels of a sum, side by side
+
+last-false : (a b c : Truth) → c ≡ false → (a && (b && c)) ≡ false
+last-false true true c e = e
+last-false true false c e = refl
+last-false false b c e = refl
+
+-- both or neither have one more
+pub branches-length : (ctx : List Kind) (vars : List Ty) (n : Ty) (xs : TermPairs) (ys : Pairs) → (length xs ≡ length ys → ⊥) → false ≡ synth_branches ctx vars (term_row xs) (row ys) n
+branches-length ctx vars n [] [] h = absurd (h refl)
+branches-length ctx vars n [] (y ∷ ys) h = refl
+branches-length ctx vars n (x ∷ xs) [] h = refl
+branches-length ctx vars n (x ∷ xs) (y ∷ ys) h =
+    sym (last-false (is_eq (label_cmp x.0 y.0)) (is_found n (synth_in ctx (y.1 ∷ vars) x.1)) (synth_branches ctx vars (term_row xs) (row ys) n) (sym (branches-length ctx vars n xs ys (λ e. h (ap suc e)))))
+
+parts-more : (i : ℕ) (ys : Pairs) (y : Label × Ty) → i < length ys → y ≡ get_or ys i y → row (drop i ys) ≡ Row.More y.0 y.1 (row (drop (i + 1) ys))
+parts-more i ys y h e = ap row (drop-cons ys i y h ∙ ap₂ (λ z m. z ∷ drop m ys) (sym e) (next i))
+
+-- whether the branches from a place on pass
+abbrev pub pass_from : List Kind → List Ty → Ty → ℕ → TermPairs → Pairs → Truth
+pass_from ctx vars n i xs ys = synth_branches ctx vars (term_row (drop i xs)) (row (drop i ys)) n
+
+-- whether one branch passes
+abbrev pub passes : List Kind → List Ty → Ty → Label × Term → Label × Ty → Truth
+passes ctx vars n x y = is_found n (synth_in ctx (y.1 ∷ vars) x.1)
+
+branches-more : (ctx : List Kind) (vars : List Ty) (n : Ty) (i : ℕ) (xs : TermPairs) (ys : Pairs) (x : Label × Term) (y : Label × Ty) → i < length xs → i < length ys → x ≡ get_or xs i x → y ≡ get_or ys i y
+    → pass_from ctx vars n i xs ys ≡ (is_eq (label_cmp x.0 y.0) && (passes ctx vars n x y && pass_from ctx vars n (i + 1) xs ys))
+branches-more ctx vars n i xs ys x y h j e f = ap₂ (λ p q. synth_branches ctx vars p q n) (left-more i xs x h e) (parts-more i ys y j f)
+
+-- one more branch passes
+pub branch-passes : (ctx : List Kind) (vars : List Ty) (n : Ty) (i : ℕ) (xs : TermPairs) (ys : Pairs) (x : Label × Term) (y : Label × Ty) (whole : Truth) → i < length xs → i < length ys → x ≡ get_or xs i x → y ≡ get_or ys i y
+    → pass_from ctx vars n i xs ys ≡ whole → x.0 ≡ y.0 → true ≡ passes ctx vars n x y → pass_from ctx vars n (i + 1) xs ys ≡ whole
+branch-passes ctx vars n i xs ys x y whole h j e f w l p =
+    let rest = pass_from ctx vars n (i + 1) xs ys in
+    ap₂ (λ a b. a && (b && rest)) (sym (ap (λ k. is_eq (label_cmp x.0 k)) (sym l) ∙ label-self x.0)) p ∙ (sym (branches-more ctx vars n i xs ys x y h j e f) ∙ w)
+
+-- a branch of another label, and one that does not pass
+pub label-differs : (ctx : List Kind) (vars : List Ty) (n : Ty) (i : ℕ) (xs : TermPairs) (ys : Pairs) (x : Label × Term) (y : Label × Ty) (whole : Truth) → i < length xs → i < length ys → x ≡ get_or xs i x → y ≡ get_or ys i y
+    → pass_from ctx vars n i xs ys ≡ whole → (x.0 ≡ y.0 → ⊥) → false ≡ whole
+label-differs ctx vars n i xs ys x y whole h j e f w d = differ (is_eq (label_cmp x.0 y.0)) refl ∙ (sym (branches-more ctx vars n i xs ys x y h j e f) ∙ w)
+  where
+    differ : (b : Truth) → is_eq (label_cmp x.0 y.0) ≡ b → false ≡ (is_eq (label_cmp x.0 y.0) && (passes ctx vars n x y && pass_from ctx vars n (i + 1) xs ys))
+    differ true q = absurd (d (label-yes x.0 y.0 q))
+    differ false q = ap (λ b. b && (passes ctx vars n x y && pass_from ctx vars n (i + 1) xs ys)) (sym q)
+
+pub branch-fails : (ctx : List Kind) (vars : List Ty) (n : Ty) (i : ℕ) (xs : TermPairs) (ys : Pairs) (x : Label × Term) (y : Label × Ty) (whole : Truth) → i < length xs → i < length ys → x ≡ get_or xs i x → y ≡ get_or ys i y
+    → pass_from ctx vars n i xs ys ≡ whole → false ≡ passes ctx vars n x y → false ≡ whole
+branch-fails ctx vars n i xs ys x y whole h j e f w p =
+    let rest = pass_from ctx vars n (i + 1) xs ys in
+    fails (is_eq (label_cmp x.0 y.0)) ∙ (ap (λ b. is_eq (label_cmp x.0 y.0) && (b && rest)) p ∙ (sym (branches-more ctx vars n i xs ys x y h j e f) ∙ w))
+  where
+    fails : (b : Truth) → false ≡ (b && false)
+    fails true = refl
+    fails false = refl
+
+-- all branches passed
+pub all-pass : (ctx : List Kind) (vars : List Ty) (n : Ty) (i : ℕ) (xs : TermPairs) (ys : Pairs) (whole : Truth) → length xs ≡ length ys → length ys ≤ i → pass_from ctx vars n i xs ys ≡ whole → true ≡ whole
+all-pass ctx vars n i xs ys whole l h w =
+    ap₂ (λ p q. synth_branches ctx vars (term_row p) (row q) n) (sym (drop_all i xs (subst (λ m. m ≤ i) (sym l) h))) (sym (drop_all i ys h)) ∙ w

@@ -19,7 +19,7 @@ use Rattle.type_normal.proofs.MentionedBelow.{mentioned-complete}
 use Rattle.type_normal.proofs.LiftedSteps.{raised-back}
 use Rattle.omega_terms.specs.declared.op.Op.{Op}
 use Rattle.omega_terms.specs.Typing.{At, HasPart, result_type}
-use Rattle.omega_checker.specs.Found.{and_then, if_kind, normal_at, put_normal, called, call_type, let_type, instantiated, inst_type, part_at, part_of, get_type, if_same, packed, pack_type, lowered, of_package, if_type, op_type, fix_type, more_type}
+use Rattle.omega_checker.specs.Found.{and_then, if_kind, normal_at, put_normal, called, call_type, let_type, instantiated, inst_type, part_at, part_of, get_type, if_same, packed, pack_type, lowered, of_package, if_type, op_type, fix_type, injected, inj_type, if_sum, case_type, is_found, unfolded, rolled, roll_type, unrolled, unroll_type, more_type}
 use Rattle.omega_checker.specs.SameTy.{same_ty}
 use Rattle.omega_checker.proofs.Trees.{both-true, kind_eq-yes, kind_eq-self, same_ty-yes, no}
 
@@ -171,6 +171,48 @@ pub fix-yes : (n m : Ty) (o : Option Ty) (t : Ty) → fix_type n m o ≡ Some t 
 fix-yes n m None t e = none-some e
 fix-yes n m (Some s) t e =
     let y = if-yes (same_ty m s) (Some (Ty.Arrow n m)) t e in (ap Some (sym (same_ty-yes m s y.0)), some-same y.1)
+
+injected-yes : (l : Label) (n : Ty) (o : Option Ty) (v : Ty) → injected l n o ≡ Some v → (r : Row) × (u : Ty) × (n ≡ Ty.Sum r) × HasPart r l u × (o ≡ Some u) × (n ≡ v)
+injected-yes l (Ty.Sum r) o v e =
+    let p = if_same-yes (Ty.Sum r) (part_at r l) o v e in (r, p.0, refl, part_at-yes r l p.0 p.1, p.2, p.3)
+injected-yes l _ o v e = none-some e
+
+pub inj-yes : (l : Label) (o p : Option Ty) (v : Ty) → inj_type l o p ≡ Some v → (r : Row) × (u : Ty) × (o ≡ Some (Ty.Sum r)) × HasPart r l u × (p ≡ Some u) × (Ty.Sum r ≡ v)
+inj-yes l None p v e = none-some e
+inj-yes l (Some n) p v e =
+    let q = injected-yes l n p v e in (q.0, q.1, ap Some q.2, q.3, q.4, sym q.2 ∙ q.5)
+
+if_sum-yes : (s n : Ty) (f : Row → Truth) (v : Ty) → if_sum s n f ≡ Some v → (r : Row) × (s ≡ Ty.Sum r) × (n ≡ v) × (f r ≡ true)
+if_sum-yes (Ty.Sum r) n f v e = let p = if-yes (f r) (Some n) v e in (r, refl, some-same p.1, p.0)
+if_sum-yes _ n f v e = none-some e
+
+pub case-yes : (o p : Option Ty) (f : Row → Ty → Truth) (v : Ty) → case_type o p f ≡ Some v → (r : Row) × (o ≡ Some (Ty.Sum r)) × (p ≡ Some v) × (f r v ≡ true)
+case-yes None p f v e = none-some e
+case-yes (Some s) None f v e = none-some e
+case-yes (Some s) (Some n) f v e =
+    let q = if_sum-yes s n (λ r. f r n) v e in
+    (q.0, ap Some q.1, ap Some q.2, subst (λ t. f q.0 t ≡ true) q.2 q.3)
+
+pub is_found-yes : (n : Ty) (o : Option Ty) → is_found n o ≡ true → o ≡ Some n
+is_found-yes n None e = no e
+is_found-yes n (Some s) e = ap Some (sym (same_ty-yes n s e))
+
+rolled-yes : (n : Ty) (o : Option Ty) (v : Ty) → rolled n o ≡ Some v → (b : Ty) × (n ≡ Ty.Mu b) × (o ≡ Some (unfolded b)) × (n ≡ v)
+rolled-yes (Ty.Mu b) o v e =
+    let p = if_same-yes (Ty.Mu b) (Some (unfolded b)) o v e in (b, refl, p.2 ∙ sym p.1, p.3)
+rolled-yes _ o v e = none-some e
+
+pub roll-yes : (o p : Option Ty) (v : Ty) → roll_type o p ≡ Some v → (b : Ty) × (o ≡ Some (Ty.Mu b)) × (p ≡ Some (unfolded b)) × (Ty.Mu b ≡ v)
+roll-yes None p v e = none-some e
+roll-yes (Some n) p v e = let q = rolled-yes n p v e in (q.0, ap Some q.1, q.2, sym q.1 ∙ q.3)
+
+unrolled-yes : (s v : Ty) → unrolled s ≡ Some v → (b : Ty) × (s ≡ Ty.Mu b) × (unfolded b ≡ v)
+unrolled-yes (Ty.Mu b) v e = (b, refl, some-same e)
+unrolled-yes _ v e = none-some e
+
+pub unroll-yes : (o : Option Ty) (v : Ty) → unroll_type o ≡ Some v → (b : Ty) × (o ≡ Some (Ty.Mu b)) × (unfolded b ≡ v)
+unroll-yes None v e = none-some e
+unroll-yes (Some s) v e = let p = unrolled-yes s v e in (p.0, ap Some p.1, p.2)
 
 pub more-yes : (l : Label) (o : Option Ty) (p : Option Row) (r : Row) → more_type l o p ≡ Some r → (t : Ty) × (q : Row) × (o ≡ Some t) × (p ≡ Some q) × (Row.More l t q ≡ r)
 more-yes l None p r e = none-some e

@@ -1,5 +1,5 @@
 -- The type of a term in normal form, found by recursion on the term. The types of the term variables are normal too.
-use Rattle.std.specs.Prelude.{zero, List, ◌∷◌, Option, Some, None, Bool as Truth, true, ◌&&◌, if◌then◌else◌, not, slice_get}
+use Rattle.std.specs.Prelude.{zero, List, ◌∷◌, Option, Some, None, Bool as Truth, true, false, ◌&&◌, if◌then◌else◌, not, slice_get}
 use Rattle.std.specs.Option.{option_map}
 use Rattle.std.specs.Ordering.{is_eq}
 use Rattle.omega_kinds.specs.Kind.{Kind, kind_eq}
@@ -107,6 +107,51 @@ abbrev pub fix_type : Ty → Ty → Option Ty → Option Ty
 fix_type n m None = None
 fix_type n m (Some s) = if same_ty m s then Some (Ty.Arrow n m) else None
 
+-- the type that an injection names, where it is a sum that has the part's type at the label
+abbrev pub injected : Label → Ty → Option Ty → Option Ty
+injected l (Ty.Sum r) o = if_same (Ty.Sum r) (part_at r l) o
+injected l _ o = None
+
+abbrev pub inj_type : Label → Option Ty → Option Ty → Option Ty
+inj_type l None o = None
+inj_type l (Some n) o = injected l n o
+
+-- the type that a case names, where what is taken apart is of a sum whose branches pass
+abbrev pub if_sum : Ty → Ty → (Row → Truth) → Option Ty
+if_sum (Ty.Sum r) n f = if f r then Some n else None
+if_sum _ n f = None
+
+abbrev pub case_type : Option Ty → Option Ty → (Row → Ty → Truth) → Option Ty
+case_type None o f = None
+case_type (Some s) None f = None
+case_type (Some s) (Some n) f = if_sum s n (λ r. f r n)
+
+-- whether a type was found, and is this one
+abbrev pub is_found : Ty → Option Ty → Truth
+is_found n None = false
+is_found n (Some s) = same_ty n s
+
+-- the body of a recursive type with that type put in for its variable
+abbrev pub unfolded : Ty → Ty
+unfolded b = hsubst Kind.Star zero (Ty.Mu b) b
+
+-- the type that a roll names, where it is recursive and the part has the type that it unfolds to
+abbrev pub rolled : Ty → Option Ty → Option Ty
+rolled (Ty.Mu b) o = if_same (Ty.Mu b) (Some (unfolded b)) o
+rolled _ o = None
+
+abbrev pub roll_type : Option Ty → Option Ty → Option Ty
+roll_type None o = None
+roll_type (Some n) o = rolled n o
+
+abbrev pub unrolled : Ty → Option Ty
+unrolled (Ty.Mu b) = Some (unfolded b)
+unrolled _ = None
+
+abbrev pub unroll_type : Option Ty → Option Ty
+unroll_type None = None
+unroll_type (Some s) = unrolled s
+
 abbrev pub more_type : Label → Option Ty → Option Row → Option Row
 more_type l None r = None
 more_type l (Some t) None = None
@@ -141,7 +186,18 @@ abbrev mutual
   synth_in ctx vars (Term.If a b c) = if_type (synth_in ctx vars a) (synth_in ctx vars b) (synth_in ctx vars c)
   synth_in ctx vars (Term.Arith op a b) = op_type op (synth_in ctx vars a) (synth_in ctx vars b)
   synth_in ctx vars (Term.Fix t u e) = and_then (normal_at ctx t Kind.Star) (λ n. and_then (normal_at ctx u Kind.Star) (λ m. fix_type n m (synth_in ctx (n ∷ (Ty.Arrow n m ∷ vars)) e)))
+  synth_in ctx vars (Term.Inj l e t) = inj_type l (normal_at ctx t Kind.Star) (synth_in ctx vars e)
+  synth_in ctx vars (Term.Case e t row) = case_type (synth_in ctx vars e) (normal_at ctx t Kind.Star) (synth_branches ctx vars row)
+  synth_in ctx vars (Term.Roll e t) = roll_type (normal_at ctx t Kind.Star) (synth_in ctx vars e)
+  synth_in ctx vars (Term.Unroll e) = unroll_type (synth_in ctx vars e)
 
   pub synth_row : List Kind → List Ty → TermRow → Option Row
   synth_row ctx vars TermRow.End = Some Row.End
   synth_row ctx vars (TermRow.More l e rest) = more_type l (synth_in ctx vars e) (synth_row ctx vars rest)
+
+  -- whether the branches have the labels of the row, one by one, and each has the type under a variable of its label's
+  pub synth_branches : List Kind → List Ty → TermRow → Row → Ty → Truth
+  synth_branches ctx vars TermRow.End Row.End n = true
+  synth_branches ctx vars TermRow.End (Row.More m u r) n = false
+  synth_branches ctx vars (TermRow.More l e rest) Row.End n = false
+  synth_branches ctx vars (TermRow.More l e rest) (Row.More m u r) n = is_eq (label_cmp l m) && (is_found n (synth_in ctx (u ∷ vars) e) && synth_branches ctx vars rest r n)

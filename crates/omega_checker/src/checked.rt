@@ -53,7 +53,8 @@ impl Checked {
 /// of the two. A term or type with free variables has none. `Err` is out of memory.
 ///
 /// Pierce, "Types and Programming Languages", figure 30-1, Higher-order polymorphic lambda-calculus, with records,
-/// existential types (figure 24-1) and fixed points (figure 11-12).
+/// variants (figure 11-11), iso-recursive types (figure 20-1), existential types (figure 24-1) and fixed points
+/// (figure 11-12).
 pub fn check(alloc: Global, term: Term, ty: Ty) -> Result<Option<Checked>, Mem>
     ensures { IfOk result (λ o. MatchOption o
         (HasType [] [] term ty → ⊥)

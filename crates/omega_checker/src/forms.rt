@@ -9,7 +9,7 @@ ghost use Rattle.omega_types.specs.Ty.{Ty as TyTree};
 ghost use Rattle.omega_types.specs.View.{ty_of};
 ghost use Rattle.type_normal.specs.Mentioned.{is_mentioned};
 ghost use Rattle.omega_terms.specs.Typing.{result_type};
-ghost use Rattle.omega_checker.specs.Found.{normal_at as normal_at_of, put_normal as put_normal_of, call_type, inst_type, part_at as part_at_of, get_type, pack_type, lowered as lowered_of, if_type, op_type, fix_type};
+ghost use Rattle.omega_checker.specs.Found.{normal_at as normal_at_of, put_normal as put_normal_of, call_type, inst_type, part_at as part_at_of, get_type, pack_type, lowered as lowered_of, if_type, op_type, fix_type, inj_type, roll_type, unroll_type, is_found as is_found_of};
 ghost use Rattle.omega_checker.specs.SameTy.{same_ty};
 
 use crate::normality::is_normal;
@@ -274,6 +274,69 @@ pub(crate) fn fixed(
     };
     if agree(to, &body) {
         return Ok(Some(arrow(alloc, from, to)?));
+    }
+    Ok(None)
+}
+
+/// The type of a term injected at a label: the target, where it is a sum that has the term's type there.
+pub(crate) fn injected(
+    label: &Label,
+    target: Option<NormalTy>,
+    body: Option<NormalTy>,
+) -> Result<Option<NormalTy>, Mem>
+    ensures { IfOk result (λ o. o ≡ inj_type label.now target body) }
+{
+    let (Some(target), Some(body)) = (target, body) else {
+        return Ok(None);
+    };
+    if let TyNode::Sum(parts) = plain(&target).node() {
+        if let Some(wanted) = part_at(parts, label)? {
+            if agree(&wanted, &body) {
+                return Ok(Some(target.share()?));
+            }
+        }
+    }
+    Ok(None)
+}
+
+/// Whether a type was found, and is this one.
+pub(crate) fn is_found(wanted: &NormalTy, found: &Option<NormalTy>) -> bool
+    ensures { result ≡ is_found_of wanted.now found.now }
+{
+    match found {
+        Some(found) => agree(wanted, found),
+        None => false,
+    }
+}
+
+/// The type of a rolled term: the target, where it is recursive and the term has the type that it unfolds to.
+pub(crate) fn rolled(
+    alloc: Global,
+    target: Option<NormalTy>,
+    body: Option<NormalTy>,
+) -> Result<Option<NormalTy>, Mem>
+    ensures { IfOk result (λ o. o ≡ roll_type target body) }
+{
+    let (Some(target), Some(body)) = (target, body) else {
+        return Ok(None);
+    };
+    if let TyNode::Mu(inner) = plain(&target).node() {
+        if is_put(alloc, &Kind::Star, inner, &target, &body)? {
+            return Ok(Some(target.share()?));
+        }
+    }
+    Ok(None)
+}
+
+/// The type of an unrolled term: what the term's recursive type unfolds to.
+pub(crate) fn unrolled(alloc: Global, whole: Option<NormalTy>) -> Result<Option<NormalTy>, Mem>
+    ensures { IfOk result (λ o. o ≡ unroll_type whole) }
+{
+    let Some(whole) = whole else {
+        return Ok(None);
+    };
+    if let TyNode::Mu(inner) = plain(&whole).node() {
+        return Ok(Some(hsubst(alloc, &part(inner)?, 0, &whole, &Kind::Star)?));
     }
     Ok(None)
 }

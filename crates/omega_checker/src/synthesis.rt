@@ -2,20 +2,21 @@
 ghost use Rattle.std.specs.Prelude.{◌≡◌, ◌∷◌, [], IfOk, OnOk, if◌then◌else◌, None, Some};
 ghost use Rattle.std.specs.Option.{option_map};
 ghost use Rattle.omega_kinds.specs.View.{kind_tree};
+ghost use Rattle.omega_types.specs.Fields.{row};
 ghost use Rattle.omega_types.specs.Scope.{scope_of};
 ghost use Rattle.omega_types.specs.Ty.{Ty as TyTree};
 ghost use Rattle.omega_terms.specs.Fields.{term_row};
 ghost use Rattle.omega_terms.specs.Term.{Term as TermTree};
 ghost use Rattle.omega_terms.specs.Typing.{shift_all};
-ghost use Rattle.omega_checker.specs.Found.{synth_in, synth_row, and_then, call_type, of_package, lowered as lowered_of, fix_type, labels_differ};
+ghost use Rattle.omega_checker.specs.Found.{synth_in, synth_row, and_then, call_type, of_package, lowered as lowered_of, fix_type, labels_differ, case_type, synth_branches as synth_branches_of, is_found as is_found_of};
 ghost use Rattle.omega_checker.specs.Vars.{types_of};
 
 use crate::forms::{
-    agree, arrow, called, chosen, computed, field_type, fixed, instantiated, lowered, make,
-    normal_at, packed, part,
+    agree, arrow, called, chosen, computed, field_type, fixed, injected, instantiated, is_found,
+    lowered, make, normal_at, packed, part, rolled, unrolled,
 };
 use crate::vars::Vars;
-use omega_kinds::{Kind, Mem};
+use omega_kinds::{Kind, Label, Mem, same_label};
 use omega_terms::{Op, Term, TermFields, TermNode};
 use omega_types::{Ty, TyFields, TyNode};
 use std::alloc::Global;
@@ -74,6 +75,10 @@ fn synth(
             let to = normal_at(alloc, kinds, u, &Kind::Star)?;
             synth_fix(alloc, kinds, vars, from, to, e)
         }
+        TermNode::Inj(l, e, t) => synth_injected(alloc, kinds, vars, l, e, t),
+        TermNode::Case(e, t, branches) => synth_case(alloc, kinds, vars, e, t, branches),
+        TermNode::Roll(e, t) => synth_rolled(alloc, kinds, vars, e, t),
+        TermNode::Unroll(e) => synth_unrolled(alloc, kinds, vars, e),
     }
 }
 
@@ -330,4 +335,157 @@ fn synth_fields(
         types.push((field.0.share()?, plain(&ty).share()?))?;
     }
     Ok(Some(make(alloc, TyNode::Fields(types))?))
+}
+
+// The type of an injection.
+#[cycle(synth)]
+#[inline(never)]
+fn synth_injected(
+    alloc: Global,
+    kinds: &mut Vec<Kind>,
+    vars: &mut Vars,
+    label: &Label,
+    body: &Term,
+    target: &Ty,
+) -> Result<Option<NormalTy>, Mem>
+    ensures kinds { OnOk result (scope_of kinds.new.items ≡ scope_of kinds.old.items) }
+    ensures vars { OnOk result (vars.new ≡ vars.old) }
+    ensures found { IfOk result (λ o. o ≡ synth_in (scope_of kinds.old.items) (types_of vars.old) (TermTree.Inj label.now body.now target.now)) }
+{
+    let target = normal_at(alloc, kinds, target, &Kind::Star)?;
+    let body = synth(alloc, kinds, vars, body)?;
+    injected(label, target, body)
+}
+
+// The type of a rolled term.
+#[cycle(synth)]
+#[inline(never)]
+fn synth_rolled(
+    alloc: Global,
+    kinds: &mut Vec<Kind>,
+    vars: &mut Vars,
+    body: &Term,
+    target: &Ty,
+) -> Result<Option<NormalTy>, Mem>
+    ensures kinds { OnOk result (scope_of kinds.new.items ≡ scope_of kinds.old.items) }
+    ensures vars { OnOk result (vars.new ≡ vars.old) }
+    ensures found { IfOk result (λ o. o ≡ synth_in (scope_of kinds.old.items) (types_of vars.old) (TermTree.Roll body.now target.now)) }
+{
+    let target = normal_at(alloc, kinds, target, &Kind::Star)?;
+    let body = synth(alloc, kinds, vars, body)?;
+    rolled(alloc, target, body)
+}
+
+// The type of an unrolled term.
+#[cycle(synth)]
+#[inline(never)]
+fn synth_unrolled(
+    alloc: Global,
+    kinds: &mut Vec<Kind>,
+    vars: &mut Vars,
+    whole: &Term,
+) -> Result<Option<NormalTy>, Mem>
+    ensures kinds { OnOk result (scope_of kinds.new.items ≡ scope_of kinds.old.items) }
+    ensures vars { OnOk result (vars.new ≡ vars.old) }
+    ensures found { IfOk result (λ o. o ≡ synth_in (scope_of kinds.old.items) (types_of vars.old) (TermTree.Unroll whole.now)) }
+{
+    let whole = synth(alloc, kinds, vars, whole)?;
+    unrolled(alloc, whole)
+}
+
+// The type of a case.
+#[cycle(synth)]
+#[inline(never)]
+fn synth_case(
+    alloc: Global,
+    kinds: &mut Vec<Kind>,
+    vars: &mut Vars,
+    whole: &Term,
+    target: &Ty,
+    branches: &TermFields,
+) -> Result<Option<NormalTy>, Mem>
+    ensures kinds { OnOk result (scope_of kinds.new.items ≡ scope_of kinds.old.items) }
+    ensures vars { OnOk result (vars.new ≡ vars.old) }
+    ensures found { IfOk result (λ o. o ≡ synth_in (scope_of kinds.old.items) (types_of vars.old) (TermTree.Case whole.now target.now (term_row branches.now))) }
+{
+    let target = normal_at(alloc, kinds, target, &Kind::Star)?;
+    let whole = synth(alloc, kinds, vars, whole)?;
+    synth_cases(alloc, kinds, vars, whole, target, branches)
+}
+
+// The type of a case, from that of what is taken apart and the one that is named.
+#[cycle(synth)]
+fn synth_cases(
+    alloc: Global,
+    kinds: &mut Vec<Kind>,
+    vars: &mut Vars,
+    whole: Option<NormalTy>,
+    target: Option<NormalTy>,
+    branches: &TermFields,
+) -> Result<Option<NormalTy>, Mem>
+    ensures kinds { OnOk result (scope_of kinds.new.items ≡ scope_of kinds.old.items) }
+    ensures vars { OnOk result (vars.new ≡ vars.old) }
+    ensures found { IfOk result (λ o. o ≡ case_type whole target (synth_branches_of (scope_of kinds.old.items) (types_of vars.old) (term_row branches.now))) }
+{
+    let (Some(whole), Some(target)) = (whole, target) else {
+        return Ok(None);
+    };
+    let TyNode::Sum(parts) = plain(&whole).node() else {
+        return Ok(None);
+    };
+    if synth_branches(alloc, kinds, vars, branches, parts, &target)? {
+        Ok(Some(target))
+    } else {
+        Ok(None)
+    }
+}
+
+// Whether the branches have the labels of a sum, one by one, and each has the target's type. Labels rise on both sides.
+#[cycle(synth)]
+fn synth_branches(
+    alloc: Global,
+    kinds: &mut Vec<Kind>,
+    vars: &mut Vars,
+    branches: &TermFields,
+    parts: &TyFields,
+    target: &NormalTy,
+) -> Result<bool, Mem>
+    ensures kinds { OnOk result (scope_of kinds.new.items ≡ scope_of kinds.old.items) }
+    ensures vars { OnOk result (vars.new ≡ vars.old) }
+    ensures value { IfOk result (λ b. b ≡ synth_branches_of (scope_of kinds.old.items) (types_of vars.old) (term_row branches.now) (row parts.now) target.now) }
+{
+    let terms = branches.items();
+    let types = parts.items();
+    if terms.len() != types.len() {
+        return Ok(false);
+    }
+    for i in 0..types.len() {
+        let branch = &terms[i];
+        let ty = &types[i];
+        if !same_label(&branch.0, &ty.0) {
+            return Ok(false);
+        }
+        if !synth_branch(alloc, kinds, vars, &ty.1, &branch.1, target)? {
+            return Ok(false);
+        }
+    }
+    Ok(true)
+}
+
+// Whether a branch has the target's type, under a variable of this type.
+#[cycle(synth)]
+fn synth_branch(
+    alloc: Global,
+    kinds: &mut Vec<Kind>,
+    vars: &mut Vars,
+    ty: &Ty,
+    body: &Term,
+    target: &NormalTy,
+) -> Result<bool, Mem>
+    ensures kinds { OnOk result (scope_of kinds.new.items ≡ scope_of kinds.old.items) }
+    ensures vars { OnOk result (vars.new ≡ vars.old) }
+    ensures value { IfOk result (λ b. b ≡ is_found_of target.now (synth_in (scope_of kinds.old.items) (ty.now ∷ types_of vars.old) body.now)) }
+{
+    let found = synth_bound(alloc, kinds, vars, part(ty)?, body)?;
+    Ok(is_found(target, &found))
 }

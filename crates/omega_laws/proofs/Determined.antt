@@ -2,7 +2,7 @@
 use Rattle.std.proofs.Common.{◌≡◌, refl, sym, ap}
 use Rattle.omega_kinds.specs.declared.label.Label.{Label}
 use Rattle.omega_terms.specs.Term.{Term, TermRow}
-use Rattle.omega_terms.specs.Steps.{IsValue, AreValues, HasField, Step, FieldStep, Faults, FieldFaults, Fault, Answer}
+use Rattle.omega_terms.specs.Steps.{IsValue, AreValues, HasField, Step, FieldStep, Faults, FieldFaults, Fault, Answer, put_arg}
 
 mutual
   pub value_step : {v d : Term} → IsValue v → Step v d → ⊥
@@ -14,6 +14,8 @@ mutual
   value_step IsValue.fix s = elim s [ ]
   value_step (IsValue.fields v) (Step.fields s) = values_step v s
   value_step (IsValue.pack v) (Step.pack_body s) = value_step v s
+  value_step (IsValue.inj v) (Step.inj_part s) = value_step v s
+  value_step (IsValue.roll v) (Step.roll_part s) = value_step v s
 
   pub values_step : {f g : TermRow} → AreValues f → FieldStep f g → ⊥
   values_step AreValues.end s = elim s [ ]
@@ -30,6 +32,8 @@ mutual
   value_fault IsValue.fix s = elim s [ ]
   value_fault (IsValue.fields v) (Faults.fields s) = values_fault v s
   value_fault (IsValue.pack v) (Faults.pack_body s) = value_fault v s
+  value_fault (IsValue.inj v) (Faults.inj_part s) = value_fault v s
+  value_fault (IsValue.roll v) (Faults.roll_part s) = value_fault v s
 
   pub values_fault : {f : TermRow} {x : Fault} → AreValues f → FieldFaults f x → ⊥
   values_fault AreValues.end s = elim s [ ]
@@ -97,6 +101,16 @@ mutual
   step_step (Step.arith p) (Step.arith_left r) = absurd (value_step IsValue.int r)
   step_step (Step.arith p) (Step.arith_right w r) = absurd (value_step IsValue.int r)
   step_step (Step.arith p) (Step.arith q) = gives_unique _ _ _ p q
+  step_step (Step.inj_part {l = l} {t = t} s) (Step.inj_part r) = ap (λ x. Term.Inj l x t) (step_step s r)
+  step_step (Step.case_whole {t = t} {f = f} s) (Step.case_whole r) = ap (λ x. Term.Case x t f) (step_step s r)
+  step_step (Step.case_whole s) (Step.case_inj v x) = absurd (value_step (IsValue.inj v) s)
+  step_step (Step.case_inj v x) (Step.case_whole r) = absurd (value_step (IsValue.inj v) r)
+  step_step (Step.case_inj {v = a} v x) (Step.case_inj w y) = ap (put_arg a) (field_unique refl x y)
+  step_step (Step.roll_part {t = t} s) (Step.roll_part r) = ap (λ x. Term.Roll x t) (step_step s r)
+  step_step (Step.unroll_whole s) (Step.unroll_whole r) = ap Term.Unroll (step_step s r)
+  step_step (Step.unroll_whole s) (Step.unroll_roll v) = absurd (value_step (IsValue.roll v) s)
+  step_step (Step.unroll_roll v) (Step.unroll_whole r) = absurd (value_step (IsValue.roll v) r)
+  step_step (Step.unroll_roll v) (Step.unroll_roll w) = refl
 
   pub field_step : {f g h : TermRow} → FieldStep f g → FieldStep f h → g ≡ h
   field_step (FieldStep.here {l = l} {f = f} s) (FieldStep.here r) = ap (λ x. TermRow.More l x f) (step_step s r)
@@ -134,6 +148,12 @@ mutual
   step_fault (Step.arith p) (Faults.arith_left r) = value_fault IsValue.int r
   step_fault (Step.arith p) (Faults.arith_right w r) = value_fault IsValue.int r
   step_fault (Step.arith p) (Faults.arith q) = gives_fails _ _ _ p q
+  step_fault (Step.inj_part s) (Faults.inj_part r) = step_fault s r
+  step_fault (Step.case_whole s) (Faults.case_whole r) = step_fault s r
+  step_fault (Step.case_inj v x) (Faults.case_whole r) = value_fault (IsValue.inj v) r
+  step_fault (Step.roll_part s) (Faults.roll_part r) = step_fault s r
+  step_fault (Step.unroll_whole s) (Faults.unroll_whole r) = step_fault s r
+  step_fault (Step.unroll_roll v) (Faults.unroll_whole r) = value_fault (IsValue.roll v) r
 
   pub field_fault : {f g : TermRow} {x : Fault} → FieldStep f g → FieldFaults f x → ⊥
   field_fault (FieldStep.here s) (FieldFaults.here r) = step_fault s r
@@ -162,6 +182,10 @@ mutual
   fault_fault (Faults.arith p) (Faults.arith_left r) = absurd (value_fault IsValue.int r)
   fault_fault (Faults.arith p) (Faults.arith_right w r) = absurd (value_fault IsValue.int r)
   fault_fault (Faults.arith p) (Faults.arith q) = fails_unique _ _ _ p q
+  fault_fault (Faults.inj_part s) (Faults.inj_part r) = fault_fault s r
+  fault_fault (Faults.case_whole s) (Faults.case_whole r) = fault_fault s r
+  fault_fault (Faults.roll_part s) (Faults.roll_part r) = fault_fault s r
+  fault_fault (Faults.unroll_whole s) (Faults.unroll_whole r) = fault_fault s r
 
   pub fields_fault : {f : TermRow} {x y : Fault} → FieldFaults f x → FieldFaults f y → x ≡ y
   fields_fault (FieldFaults.here s) (FieldFaults.here r) = fault_fault s r

@@ -12,14 +12,14 @@ use Rattle.omega_types.specs.Conversion.Conv.{c_sym, c_trans}
 use Rattle.omega_types.specs.Conversion.Convs.{c_more}
 use Rattle.omega_types.proofs.Algebra.{substitute-id}
 use Rattle.omega_types.proofs.Preservation.{single-substitutes}
-use Rattle.omega_types.proofs.Inverse.{arrow_parts, all_parts, ex_parts, fields_parts}
+use Rattle.omega_types.proofs.Inverse.{arrow_parts, all_parts, ex_parts, fields_parts, sum_parts, mu_parts}
 use Rattle.omega_terms.proofs.NormalTyping.{shift-at}
 use Rattle.omega_terms.proofs.TypingLaws.{substitute-type, cast-type}
-use Rattle.omega_laws.proofs.Common.{shift, put, put_shift, put_conv}
+use Rattle.omega_laws.proofs.Common.{shift, put, put_shift, put_conv, unrolled, unrolled_conv}
 use Rattle.omega_terms.specs.declared.op.Op.{Op}
 use Rattle.omega_terms.specs.Term.{Term, TermRow}
 use Rattle.omega_terms.specs.TermSubst.{first_term}
-use Rattle.omega_terms.specs.Typing.{At, HasType, FieldsHave, HasPart, shift_all, result_type, GoodVars}
+use Rattle.omega_terms.specs.Typing.{At, HasType, FieldsHave, BranchesHave, HasPart, shift_all, result_type, GoodVars}
 use Rattle.omega_terms.specs.Steps.{Step, FieldStep, HasField, Answer, Fault, compute, if_fits, fits, is_zero, put_arg, put_fix, put_ty, put_both}
 use Rattle.omega_laws.proofs.Unique.{Own, invert}
 
@@ -180,6 +180,38 @@ arith_right_keeps o a b d x ctx vars t g (Own.arith h i) = HasType.arith h (x ct
 arith_keeps : (o : Op) (m n : ℤ) (e : Term) → compute o m n ≡ Answer.gives e → OwnKeeps (Term.Arith o (Term.Int m) (Term.Int n)) e
 arith_keeps o m n e p ctx vars t g (Own.arith h i) = computed_type o m n e p
 
+inj_part_keeps : (l : Label) (e d : Term) (a : Ty) → Keeps e d → OwnKeeps (Term.Inj l e a) (Term.Inj l d a)
+inj_part_keeps l e d a x ctx vars t g (Own.inj {u = u} c p h) = HasType.inj c p (x ctx vars u g h)
+
+case_whole_keeps : (e d : Term) (a : Ty) (f : TermRow) → Keeps e d → OwnKeeps (Term.Case e a f) (Term.Case d a f)
+case_whole_keeps e d a f x ctx vars t g (Own.case {r = r} h k b) = HasType.case (x ctx vars (Ty.Sum r) g h) k b
+
+-- the branch at one label, given as two, with a value of the label's type put in
+branch_type : {ctx : List Kind} {vars : List Ty} {f : TermRow} {q r : Row} {l m : Label} {e v : Term} {t u : Ty} → BranchesHave ctx vars f r t → Convs ctx q r → l ≡ m → HasField f l e → HasPart q m u → HasType ctx vars v u → HasType ctx vars (put_arg v e) t
+branch_type BranchesHave.none c p x y i = elim x [ ]
+branch_type {t = t} (BranchesHave.branch {u = w} h b) (c_more _ _ c k) p HasField.here HasPart.here i = put_arg_type w t h (HasType.conv i c)
+branch_type (BranchesHave.branch h b) (c_more _ _ c k) p HasField.here (HasPart.there n y) i = absurd (n (sym p))
+branch_type (BranchesHave.branch h b) (c_more _ _ c k) p (HasField.there n x) HasPart.here i = absurd (n p)
+branch_type (BranchesHave.branch h b) (c_more _ _ c k) p (HasField.there n x) (HasPart.there o y) i = branch_type b k p x y i
+
+inj_case : {ctx : List Kind} {vars : List Ty} (l : Label) (v e : Term) (a s t : Ty) (r : Row) (f : TermRow) → Own ctx vars (Term.Inj l v a) s → Conv ctx s (Ty.Sum r) Kind.Star → BranchesHave ctx vars f r t → HasField f l e → HasType ctx vars (put_arg v e) t
+inj_case l v e a s t r f (Own.inj d p i) c b x = branch_type b (sum_parts _ _ _ (c_trans (c_sym d) c)) refl x p i
+
+case_inj_keeps : (l : Label) (v e : Term) (a w : Ty) (f : TermRow) → HasField f l e → OwnKeeps (Term.Case (Term.Inj l v w) a f) (put_arg v e)
+case_inj_keeps l v e a w f x ctx vars t g (Own.case {r = r} h k b) = let i = invert g h in inj_case l v e w i.ty t r f i.own i.to b x
+
+roll_part_keeps : (e d : Term) (a : Ty) → Keeps e d → OwnKeeps (Term.Roll e a) (Term.Roll d a)
+roll_part_keeps e d a x ctx vars t g (Own.roll {body = b} c h) = HasType.roll c (x ctx vars (unrolled b) g h)
+
+unroll_whole_keeps : (e d : Term) → Keeps e d → OwnKeeps (Term.Unroll e) (Term.Unroll d)
+unroll_whole_keeps e d x ctx vars t g (Own.unroll {body = b} h) = HasType.unroll (x ctx vars (Ty.Mu b) g h)
+
+roll_case : {ctx : List Kind} {vars : List Ty} (v : Term) (a s b : Ty) → Own ctx vars (Term.Roll v a) s → Conv ctx s (Ty.Mu b) Kind.Star → HasType ctx vars v (unrolled b)
+roll_case v a s b (Own.roll d i) c = HasType.conv i (unrolled_conv (mu_parts _ _ _ (c_trans (c_sym d) c)))
+
+unroll_roll_keeps : (v : Term) (a : Ty) → OwnKeeps (Term.Unroll (Term.Roll v a)) v
+unroll_roll_keeps v a ctx vars t g (Own.unroll {body = b} h) = let i = invert g h in roll_case v a i.ty b i.own i.to
+
 here_keeps : (l : Label) (e d : Term) (f : TermRow) → Keeps e d → KeepFields (TermRow.More l e f) (TermRow.More l d f)
 here_keeps l e d f x ctx vars r g (FieldsHave.more {t = t} h n i) = FieldsHave.more (x ctx vars t g h) n i
 
@@ -207,6 +239,12 @@ mutual
   keeps (Step.arith_left {o = o} {a = a} {b = b} {d = d} s) = by_rule _ _ (arith_left_keeps o a b d (keeps s))
   keeps (Step.arith_right {o = o} {a = a} {b = b} {d = d} v s) = by_rule _ _ (arith_right_keeps o a b d (keeps s))
   keeps (Step.arith {o = o} {m = m} {n = n} {e = e} p) = by_rule _ _ (arith_keeps o m n e p)
+  keeps (Step.inj_part {l = l} {e = e} {d = d} {t = t} s) = by_rule _ _ (inj_part_keeps l e d t (keeps s))
+  keeps (Step.case_whole {e = e} {d = d} {t = t} {f = f} s) = by_rule _ _ (case_whole_keeps e d t f (keeps s))
+  keeps (Step.case_inj {l = l} {v = x} {e = e} {t = t} {u = u} {f = f} v y) = by_rule _ _ (case_inj_keeps l x e t u f y)
+  keeps (Step.roll_part {e = e} {d = d} {t = t} s) = by_rule _ _ (roll_part_keeps e d t (keeps s))
+  keeps (Step.unroll_whole {e = e} {d = d} s) = by_rule _ _ (unroll_whole_keeps e d (keeps s))
+  keeps (Step.unroll_roll {v = x} {t = t} v) = by_rule _ _ (unroll_roll_keeps x t)
 
   pub field_keeps : {f h : TermRow} → FieldStep f h → KeepFields f h
   field_keeps (FieldStep.here {l = l} {e = e} {d = d} {f = f} s) = here_keeps l e d f (keeps s)

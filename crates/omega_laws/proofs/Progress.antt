@@ -6,12 +6,12 @@ use Rattle.omega_types.specs.Ty.{Ty, Row}
 use Rattle.omega_types.specs.Conversion.{Conv, Convs}
 use Rattle.omega_types.specs.Conversion.Conv.{c_sym, c_trans}
 use Rattle.omega_types.specs.Conversion.Convs.{c_end, c_more}
-use Rattle.omega_types.proofs.Inverse.{fields_parts}
+use Rattle.omega_types.proofs.Inverse.{fields_parts, sum_parts}
 use Rattle.omega_terms.proofs.TypingLaws.{good-none}
 use Rattle.omega_laws.proofs.Common.{Form, form, Canon, one_form}
 use Rattle.omega_terms.specs.declared.op.Op.{Op}
 use Rattle.omega_terms.specs.Term.{Term, TermRow}
-use Rattle.omega_terms.specs.Typing.{HasType, FieldsHave, HasPart}
+use Rattle.omega_terms.specs.Typing.{HasType, FieldsHave, BranchesHave, HasPart}
 use Rattle.omega_terms.specs.Steps.{IsValue, AreValues, HasField, Step, FieldStep, Faults, FieldFaults, Fault, Answer, compute, Stuck}
 use Rattle.omega_laws.proofs.Unique.{Own, invert}
 
@@ -46,6 +46,12 @@ all_some p = cc
 ex_some : Form.an_ex ≢ Form.no_form
 ex_some p = cc
 
+sum_some : Form.a_sum ≢ Form.no_form
+sum_some p = cc
+
+mu_some : Form.a_mu ≢ Form.no_form
+mu_some p = cc
+
 pub record FieldAt (f : TermRow) (l : Label) : Type 0 where
   pub term : Term
   pub at : HasField f l term
@@ -54,6 +60,11 @@ field_at : {ctx : List Kind} {vars : List Ty} {f : TermRow} {q r : Row} {l : Lab
 field_at FieldsHave.end c_end p = elim p [ ]
 field_at (FieldsHave.more {e = e} h d i) (c_more _ _ c k) HasPart.here = record { term = e; at = HasField.here }
 field_at (FieldsHave.more h d i) (c_more _ _ c k) (HasPart.there n p) = let r = field_at i k p in record { term = r.term; at = HasField.there n r.at }
+
+branch_at : {ctx : List Kind} {vars : List Ty} {f : TermRow} {q r : Row} {l : Label} {t u : Ty} → BranchesHave ctx vars f r t → Convs ctx q r → HasPart q l u → FieldAt f l
+branch_at BranchesHave.none c_end p = elim p [ ]
+branch_at (BranchesHave.branch {e = e} h b) (c_more _ _ c k) HasPart.here = record { term = e; at = HasField.here }
+branch_at (BranchesHave.branch h b) (c_more _ _ c k) (HasPart.there n p) = let r = branch_at b k p in record { term = r.term; at = HasField.there n r.at }
 
 -- ---- one form at a time
 
@@ -144,6 +155,36 @@ arith_progress o a b c i (Progress.value v) p = arith_right o a b v (c v) i p
 arith_progress o a b c i (Progress.steps d s) p = Progress.steps _ (Step.arith_left s)
 arith_progress o a b c i (Progress.faults x s) p = Progress.faults x (Faults.arith_left s)
 
+inj_progress : (l : Label) (e : Term) (t : Ty) → Progress e → Progress (Term.Inj l e t)
+inj_progress l e t (Progress.value v) = Progress.value (IsValue.inj v)
+inj_progress l e t (Progress.steps d s) = Progress.steps _ (Step.inj_part s)
+inj_progress l e t (Progress.faults x s) = Progress.faults x (Faults.inj_part s)
+
+-- a term injected at a label has a branch there
+abbrev HasBranch : Term → TermRow → Type 0
+HasBranch e f = (l : Label) (d : Term) (t : Ty) → e ≡ Term.Inj l d t → FieldAt f l
+
+case_redex : (e : Term) (t : Ty) (f : TermRow) → Canon Form.a_sum e → HasBranch e f → Progress (Term.Case e t f)
+case_redex e t f (Canon.inj {l = l} {e = d} {t = u} v) h = let r = h l d u refl in Progress.steps _ (Step.case_inj v r.at)
+
+case_progress : (e : Term) (t : Ty) (f : TermRow) → (IsValue e → Canon Form.a_sum e) → HasBranch e f → Progress e → Progress (Term.Case e t f)
+case_progress e t f c h (Progress.value v) = case_redex e t f (c v) h
+case_progress e t f c h (Progress.steps d s) = Progress.steps _ (Step.case_whole s)
+case_progress e t f c h (Progress.faults x s) = Progress.faults x (Faults.case_whole s)
+
+roll_progress : (e : Term) (t : Ty) → Progress e → Progress (Term.Roll e t)
+roll_progress e t (Progress.value v) = Progress.value (IsValue.roll v)
+roll_progress e t (Progress.steps d s) = Progress.steps _ (Step.roll_part s)
+roll_progress e t (Progress.faults x s) = Progress.faults x (Faults.roll_part s)
+
+unroll_redex : (e : Term) → Canon Form.a_mu e → Progress (Term.Unroll e)
+unroll_redex e (Canon.roll v) = Progress.steps _ (Step.unroll_roll v)
+
+unroll_progress : (e : Term) → (IsValue e → Canon Form.a_mu e) → Progress e → Progress (Term.Unroll e)
+unroll_progress e c (Progress.value v) = unroll_redex e (c v)
+unroll_progress e c (Progress.steps d s) = Progress.steps _ (Step.unroll_whole s)
+unroll_progress e c (Progress.faults x s) = Progress.faults x (Faults.unroll_whole s)
+
 by_form : {s t : Ty} {v : Term} → Canon (form s) v → Conv [] s t Kind.Star → form s ≢ Form.no_form → form t ≢ Form.no_form → Canon (form t) v
 by_form {v = v} c e m n = subst (λ x. Canon x v) (one_form e m n) c
 
@@ -156,6 +197,8 @@ own_canon IsValue.ty_lam (Own.ty_lam h) c n = by_form Canon.ty_lam c all_some n
 own_canon IsValue.fix (Own.fix k j h) c n = by_form Canon.fix c arrow_some n
 own_canon (IsValue.fields v) (Own.fields h) c n = by_form (Canon.fields v) c record_some n
 own_canon (IsValue.pack v) (Own.pack d k h) c n = by_form (Canon.pack v) (c_trans (c_sym d) c) ex_some n
+own_canon (IsValue.inj v) (Own.inj d p h) c n = by_form (Canon.inj v) (c_trans (c_sym d) c) sum_some n
+own_canon (IsValue.roll v) (Own.roll d h) c n = by_form (Canon.roll v) (c_trans (c_sym d) c) mu_some n
 
 -- canonical forms
 pub canon : (v : Term) (t : Ty) → HasType [] [] v t → form t ≢ Form.no_form → IsValue v → Canon (form t) v
@@ -166,6 +209,12 @@ field_case {e} {s} {t} {r} {l} o c p f q = go f (subst (λ x. Own [] [] x s) q o
   where
     go : (f : TermRow) {s : Ty} → Own [] [] (Term.Fields f) s → Conv [] s (Ty.Fields r) Kind.Star → FieldAt f l
     go f (Own.fields h) c = field_at h (fields_parts _ _ _ c) p
+
+branch_case : {e : Term} {s t : Ty} {r : Row} {f : TermRow} → Own [] [] e s → Conv [] s (Ty.Sum r) Kind.Star → BranchesHave [] [] f r t → HasBranch e f
+branch_case {e} {s} {t} {r} {f} o c b l d u q = go (subst (λ x. Own [] [] x s) q o) c
+  where
+    go : {s : Ty} → Own [] [] (Term.Inj l d u) s → Conv [] s (Ty.Sum r) Kind.Star → FieldAt f l
+    go (Own.inj i p h) c = branch_at b (sum_parts _ _ _ (c_trans (c_sym i) c)) p
 
 abbrev Goes : Term → Type 0
 Goes e = (t : Ty) → HasType [] [] e t → Progress e
@@ -202,6 +251,20 @@ if_goes a b c p t (Own.if_ h i j) = if_progress a b c (canon a Ty.Bool h bool_so
 arith_goes : (o : Op) (a b : Term) → Goes a → Goes b → OwnGoes (Term.Arith o a b)
 arith_goes o a b p q t (Own.arith h i) = arith_progress o a b (canon a Ty.Int h int_some) (canon b Ty.Int i int_some) (p Ty.Int h) (q Ty.Int i)
 
+inj_goes : (l : Label) (e : Term) (a : Ty) → Goes e → OwnGoes (Term.Inj l e a)
+inj_goes l e a p t (Own.inj {u = u} c q h) = inj_progress l e a (p u h)
+
+case_goes : (e : Term) (a : Ty) (f : TermRow) → Goes e → OwnGoes (Term.Case e a f)
+case_goes e a f p t (Own.case {r = r} h k b) =
+    let v = invert (good-none []) h in
+    case_progress e a f (canon e (Ty.Sum r) h sum_some) (branch_case v.own v.to b) (p (Ty.Sum r) h)
+
+roll_goes : (e : Term) (a : Ty) → Goes e → OwnGoes (Term.Roll e a)
+roll_goes e a p t (Own.roll c h) = roll_progress e a (p _ h)
+
+unroll_goes : (e : Term) → Goes e → OwnGoes (Term.Unroll e)
+unroll_goes e p t (Own.unroll {body = b} h) = unroll_progress e (canon e (Ty.Mu b) h mu_some) (p (Ty.Mu b) h)
+
 abbrev FieldsGo : TermRow → Type 0
 FieldsGo f = (r : Row) → FieldsHave [] [] f r → FieldsProgress f
 
@@ -229,6 +292,10 @@ mutual
   progress (Term.If a b c) = by_rule (Term.If a b c) (if_goes a b c (progress a))
   progress (Term.Arith o a b) = by_rule (Term.Arith o a b) (arith_goes o a b (progress a) (progress b))
   progress (Term.Fix t u e) = λ v h. Progress.value IsValue.fix
+  progress (Term.Inj l e t) = by_rule (Term.Inj l e t) (inj_goes l e t (progress e))
+  progress (Term.Case e t f) = by_rule (Term.Case e t f) (case_goes e t f (progress e))
+  progress (Term.Roll e t) = by_rule (Term.Roll e t) (roll_goes e t (progress e))
+  progress (Term.Unroll e) = by_rule (Term.Unroll e) (unroll_goes e (progress e))
 
   pub field_progress : (f : TermRow) → FieldsGo f
   field_progress TermRow.End = λ r h. FieldsProgress.values AreValues.end

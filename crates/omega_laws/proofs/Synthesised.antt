@@ -7,21 +7,22 @@ use Rattle.omega_types.specs.Ty.{Ty, Row}
 use Rattle.omega_types.specs.Substitution.{single}
 use Rattle.omega_types.specs.Kinding.{HasKind, HasKinds, Fresh}
 use Rattle.omega_types.specs.Kinding.HasKind.{k_arrow}
+use Rattle.omega_types.specs.Kinding.HasKinds.{k_more}
 use Rattle.omega_types.specs.Conversion.{Conv}
 use Rattle.omega_types.specs.Conversion.Conv.{c_refl, c_sym, c_arrow}
 use Rattle.omega_types.specs.Normaliser.{normal, normal_row}
 use Rattle.omega_types.proofs.Preservation.{conv-kinds, kind-substitute, single-substitutes, maps-suc}
 use Rattle.omega_types.proofs.Hereditary.{normal-gives}
 use Rattle.omega_types.proofs.LawProofs.{normal_of_rename}
-use Rattle.omega_types.proofs.Inverse.{same-normal, ex-kinds, all-kinds, fields-kinds}
+use Rattle.omega_types.proofs.Inverse.{same-normal, ex-kinds, all-kinds, fields-kinds, sum-kinds, mu-kinds}
 use Rattle.omega_terms.specs.declared.op.Op.{Op}
 use Rattle.omega_terms.specs.Term.{Term, TermRow}
-use Rattle.omega_terms.specs.Typing.{At, HasType, FieldsHave, HasPart, shift_all, result_type, GoodVars}
+use Rattle.omega_terms.specs.Typing.{At, HasType, FieldsHave, BranchesHave, HasPart, shift_all, result_type, GoodVars}
 use Rattle.omega_terms.proofs.NormalTyping.{shift-at, at-shift}
 use Rattle.omega_terms.proofs.TypingLaws.{good-more, good-shift, type-kind, types-kind, kind-unshift}
-use Rattle.omega_laws.proofs.Common.{shift, put, put_shift, put_conv}
+use Rattle.omega_laws.proofs.Common.{shift, put, put_shift, put_conv, unrolled, unrolled_conv}
 use Rattle.omega_laws.proofs.Unique.{unique}
-use Rattle.omega_laws.specs.Synthesis.{Synth, SynthFields}
+use Rattle.omega_laws.specs.Synthesis.{Synth, SynthFields, SynthBranches}
 
 -- the laws of normal forms at kind *
 
@@ -51,17 +52,26 @@ nf_arrow h = refl
 nf_fields : {ctx : List Kind} {r : Row} → HasKinds ctx r → normal ctx (Ty.Fields r) ≡ Ty.Fields (each (normal ctx) r)
 nf_fields {ctx} {r} h = ap Ty.Fields (row-each ctx r)
 
+nf_sum : {ctx : List Kind} {r : Row} → HasKinds ctx r → normal ctx (Ty.Sum r) ≡ Ty.Sum (each (normal ctx) r)
+nf_sum {ctx} {r} h = ap Ty.Sum (row-each ctx r)
+
 nf_all : {ctx : List Kind} {k : Kind} {b : Ty} → HasKind (k ∷ ctx) b Kind.Star → normal ctx (Ty.All k b) ≡ Ty.All k (normal (k ∷ ctx) b)
 nf_all h = refl
 
 nf_ex : {ctx : List Kind} {k : Kind} {b : Ty} → HasKind (k ∷ ctx) b Kind.Star → normal ctx (Ty.Ex k b) ≡ Ty.Ex k (normal (k ∷ ctx) b)
 nf_ex h = refl
 
+nf_mu : {ctx : List Kind} {b : Ty} → HasKind (Kind.Star ∷ ctx) b Kind.Star → normal ctx (Ty.Mu b) ≡ Ty.Mu (normal (Kind.Star ∷ ctx) b)
+nf_mu h = refl
+
 pub nf_shifted : {ctx : List Kind} {t : Ty} (k : Kind) → HasKind ctx t Kind.Star → normal (k ∷ ctx) (shift t) ≡ shift (normal ctx t)
 nf_shifted {ctx} {t} k h = normal_of_rename ctx (k ∷ ctx) suc t Kind.Star (maps-suc k ctx) h
 
 put_kind : {ctx : List Kind} {a b : Ty} {k j : Kind} → HasKind ctx a k → HasKind (k ∷ ctx) b j → HasKind ctx (put a b) j
 put_kind {a = a} h i = kind-substitute (single a) (single-substitutes h) i
+
+pub unrolled_kind : {ctx : List Kind} {b : Ty} → HasKind ctx (Ty.Mu b) Kind.Star → HasKind ctx (unrolled b) Kind.Star
+unrolled_kind h = put_kind h (mu-kinds h)
 
 each_fresh : (f : Ty → Ty) (l : Label) (r : Row) → Fresh l r → Fresh l (each f r)
 each_fresh f l Row.End h = tt
@@ -103,6 +113,14 @@ pack_type {ctx} {k = k} {t = t} {u = u} {b = b} h p i j =
     let c : Conv ctx u (Ty.Ex k b) Kind.Star = subst (λ x. Conv ctx u x Kind.Star) p (nf_is h) in
     HasType.conv (HasType.pack c i (HasType.conv j (c_sym (nf_is (put_kind i (ex-kinds (conv-kinds c).1)))))) (nf_is h)
 
+inj_type : {ctx : List Kind} {vars : List Ty} {l : Label} {e : Term} {t u : Ty} {r : Row} → HasKind ctx t Kind.Star → normal ctx t ≡ Ty.Sum r → HasPart r l u → HasType ctx vars e u → HasType ctx vars (Term.Inj l e t) (normal ctx t)
+inj_type {ctx} {t = t} h p q i = HasType.conv (HasType.inj (subst (λ x. Conv ctx t x Kind.Star) p (nf_is h)) q i) (nf_is h)
+
+roll_type : {ctx : List Kind} {vars : List Ty} {e : Term} {t b : Ty} → HasKind ctx t Kind.Star → normal ctx t ≡ Ty.Mu b → HasType ctx vars e (normal ctx (unrolled b)) → HasType ctx vars (Term.Roll e t) (normal ctx t)
+roll_type {ctx} {t = t} {b = b} h p i =
+    let c : Conv ctx t (Ty.Mu b) Kind.Star = subst (λ x. Conv ctx t x Kind.Star) p (nf_is h) in
+    HasType.conv (HasType.roll c (HasType.conv i (c_sym (nf_is (unrolled_kind (conv-kinds c).1))))) (nf_is h)
+
 mutual
   pub sound : {ctx : List Kind} {vars : List Ty} {e : Term} {t : Ty} → GoodVars ctx vars → Synth ctx vars e t → HasType ctx vars e t
   sound g (Synth.var h) = HasType.conv (HasType.var h) (nf_is (g _ _ h))
@@ -128,10 +146,22 @@ mutual
   sound g (Synth.fix {t = t} {u = u} k j h) =
       let i = sound (good-more k (good-more (k_arrow k j) g)) h in
       HasType.conv (HasType.fix k j (HasType.conv i (c_sym (nf_is j)))) (c_arrow (nf_is k) (nf_is j))
+  sound g (Synth.inj h p q i) = inj_type h p q (sound g i)
+  sound g (Synth.case h k b) =
+      let i = sound g h in
+      HasType.conv (HasType.case i k (sound_branches g (sum-kinds (type-kind g i)) (c_sym (nf_is k)) b)) (nf_is k)
+  sound g (Synth.roll h p i) = roll_type h p (sound g i)
+  sound g (Synth.unroll h) =
+      let i = sound g h in
+      HasType.conv (HasType.unroll i) (nf_is (unrolled_kind (type-kind g i)))
 
   pub sounds : {ctx : List Kind} {vars : List Ty} {f : TermRow} {r : Row} → GoodVars ctx vars → SynthFields ctx vars f r → FieldsHave ctx vars f r
   sounds g SynthFields.end = FieldsHave.end
   sounds g (SynthFields.more h d i) = FieldsHave.more (sound g h) d (sounds g i)
+
+  sound_branches : {ctx : List Kind} {vars : List Ty} {f : TermRow} {r : Row} {t u : Ty} → GoodVars ctx vars → HasKinds ctx r → Conv ctx t u Kind.Star → SynthBranches ctx vars f r t → BranchesHave ctx vars f r u
+  sound_branches g ks c SynthBranches.none = BranchesHave.none
+  sound_branches g (k_more d k ks) c (SynthBranches.branch h b) = BranchesHave.branch (HasType.conv (sound (good-more k g) h) c) (sound_branches g ks c b)
 
 -- ---- only the normal forms of the variables' types count
 
@@ -170,10 +200,19 @@ mutual
   revar to g i f (Synth.fix {t = t} {u = u} k j h) =
       let m = k_arrow k j in
       Synth.fix k j (revar (t ∷ (Ty.Arrow t u ∷ to)) (good-more k (good-more m g)) (good-more k (good-more m i)) (same_cons refl (same_cons refl f)) h)
+  revar to g i f (Synth.inj h p q j) = Synth.inj h p q (revar to g i f j)
+  revar to g i f (Synth.case h k b) = Synth.case (revar to g i f h) k (revar_branches to g i f (sum-kinds (type-kind g (sound g h))) b)
+  revar to g i f (Synth.roll h p j) = Synth.roll h p (revar to g i f j)
+  revar to g i f (Synth.unroll h) = Synth.unroll (revar to g i f h)
 
   revars : {ctx : List Kind} {from : List Ty} {e : TermRow} {t : Row} (to : List Ty) → GoodVars ctx from → GoodVars ctx to → SameVars ctx from to → SynthFields ctx from e t → SynthFields ctx to e t
   revars to g i f SynthFields.end = SynthFields.end
   revars to g i f (SynthFields.more h d j) = SynthFields.more (revar to g i f h) d (revars to g i f j)
+
+  revar_branches : {ctx : List Kind} {from : List Ty} {e : TermRow} {r : Row} {t : Ty} (to : List Ty) → GoodVars ctx from → GoodVars ctx to → SameVars ctx from to → HasKinds ctx r → SynthBranches ctx from e r t → SynthBranches ctx to e r t
+  revar_branches to g i f ks SynthBranches.none = SynthBranches.none
+  revar_branches to g i f (k_more d k ks) (SynthBranches.branch {u = u} h b) =
+      SynthBranches.branch (revar (u ∷ to) (good-more k g) (good-more k i) (same_cons refl f) h) (revar_branches to g i f ks b)
 
 -- ---- each type's normal form is synthesised
 
@@ -185,6 +224,9 @@ nf_kind h = (conv-kinds (nf_is h)).1
 
 nf_put : {ctx : List Kind} {k : Kind} {a b : Ty} → HasKind ctx a k → HasKind (k ∷ ctx) b Kind.Star → normal ctx (put a b) ≡ normal ctx (put a (normal (k ∷ ctx) b))
 nf_put h i = same-normal (put_conv h (nf_is i))
+
+nf_unrolled : {ctx : List Kind} {b : Ty} → HasKind (Kind.Star ∷ ctx) b Kind.Star → normal ctx (unrolled b) ≡ normal ctx (unrolled (normal (Kind.Star ∷ ctx) b))
+nf_unrolled h = same-normal (unrolled_conv (nf_is h))
 
 nf_result : (ctx : List Kind) (o : Op) → result_type o ≡ normal ctx (result_type o)
 nf_result ctx Op.Less = sym (nf_bool ctx)
@@ -205,6 +247,21 @@ unpack_synth {ctx} {vars} {k} {b = b} g m n h i =
     Synth.unpack (synth_cast (nf_ex m) h)
     (synth_cast (nf_shifted k n)
     (revar (normal (k ∷ ctx) b ∷ shift_all vars) (good-more m g') (good-more (nf_kind m) g') (same_cons (sym (nf_nf m)) (same_refl (k ∷ ctx) (shift_all vars))) i))
+
+inj_synth : {ctx : List Kind} {vars : List Ty} {l : Label} {e : Term} {t u : Ty} {r : Row} → Conv ctx t (Ty.Sum r) Kind.Star → HasPart r l u → Synth ctx vars e (normal ctx u) → Synth ctx vars (Term.Inj l e t) (normal ctx t)
+inj_synth {ctx} c p h =
+    let k = conv-kinds c in
+    Synth.inj k.0 (same-normal c ∙ nf_sum (sum-kinds k.1)) (each_part (normal ctx) p) h
+
+roll_synth : {ctx : List Kind} {vars : List Ty} {e : Term} {t b : Ty} → Conv ctx t (Ty.Mu b) Kind.Star → Synth ctx vars e (normal ctx (unrolled b)) → Synth ctx vars (Term.Roll e t) (normal ctx t)
+roll_synth c h =
+    let k = conv-kinds c in
+    let m = mu-kinds k.1 in
+    Synth.roll k.0 (same-normal c ∙ nf_mu m) (synth_cast (nf_unrolled m) h)
+
+-- a variable's type may be replaced by its normal form
+under_normal : {ctx : List Kind} {vars : List Ty} {e : Term} {t u : Ty} → GoodVars ctx vars → HasKind ctx u Kind.Star → Synth ctx (u ∷ vars) e t → Synth ctx (normal ctx u ∷ vars) e t
+under_normal {ctx} {vars} {u = u} g k h = revar (normal ctx u ∷ vars) (good-more k g) (good-more (nf_kind k) g) (same_cons (sym (nf_nf k)) (same_refl ctx vars)) h
 
 mutual
   pub complete : {ctx : List Kind} {vars : List Ty} {e : Term} {t : Ty} → GoodVars ctx vars → HasType ctx vars e t → Synth ctx vars e (normal ctx t)
@@ -234,11 +291,23 @@ mutual
   complete g (HasType.fix k j h) =
       let m = k_arrow k j in
       synth_cast (sym (nf_arrow m)) (Synth.fix k j (complete (good-more k (good-more m g)) h))
+  complete g (HasType.inj c p h) = inj_synth c p (complete g h)
+  complete g (HasType.case h k b) =
+      let m = sum-kinds (type-kind g h) in
+      Synth.case (synth_cast (nf_sum m) (complete g h)) k (complete_branches g m b)
+  complete g (HasType.roll c h) = roll_synth c (complete g h)
+  complete g (HasType.unroll h) =
+      let m = mu-kinds (type-kind g h) in
+      synth_cast (sym (nf_unrolled m)) (Synth.unroll (synth_cast (nf_mu m) (complete g h)))
   complete g (HasType.conv h c) = synth_cast (same-normal c) (complete g h)
 
   pub completes : {ctx : List Kind} {vars : List Ty} {f : TermRow} {r : Row} → GoodVars ctx vars → FieldsHave ctx vars f r → SynthFields ctx vars f (each (normal ctx) r)
   completes g FieldsHave.end = SynthFields.end
   completes {ctx} g (FieldsHave.more {l = l} {r = r} h d i) = SynthFields.more (complete g h) (each_fresh (normal ctx) l r d) (completes g i)
+
+  complete_branches : {ctx : List Kind} {vars : List Ty} {f : TermRow} {r : Row} {t : Ty} → GoodVars ctx vars → HasKinds ctx r → BranchesHave ctx vars f r t → SynthBranches ctx vars f (each (normal ctx) r) (normal ctx t)
+  complete_branches g ks BranchesHave.none = SynthBranches.none
+  complete_branches g (k_more d k ks) (BranchesHave.branch h b) = SynthBranches.branch (under_normal g k (complete (good-more k g) h)) (complete_branches g ks b)
 
 -- ---- what is synthesised is normal, so it is one type
 
@@ -265,6 +334,10 @@ mutual
   synth-normal g (Synth.if_ h i j) = synth-normal g i
   synth-normal {ctx} g (Synth.arith {o = o} h i) = sym (nf_result ctx o)
   synth-normal g (Synth.fix k j h) = nf_arrow (k_arrow (nf_kind k) (nf_kind j)) ∙ (λ i. Ty.Arrow (nf_nf k i) (nf_nf j i))
+  synth-normal g (Synth.inj h p q i) = nf_nf h
+  synth-normal g (Synth.case h k b) = nf_nf k
+  synth-normal g (Synth.roll h p i) = nf_nf h
+  synth-normal g (Synth.unroll h) = nf_nf (unrolled_kind (type-kind g (sound g h)))
 
   normals : {ctx : List Kind} {vars : List Ty} {f : TermRow} {r : Row} → GoodVars ctx vars → SynthFields ctx vars f r → each (normal ctx) r ≡ r
   normals g SynthFields.end = refl

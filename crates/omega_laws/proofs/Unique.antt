@@ -9,12 +9,12 @@ use Rattle.omega_types.specs.Conversion.{Conv, Convs}
 use Rattle.omega_types.specs.Conversion.Conv.{c_refl, c_sym, c_trans, c_arrow, c_fields, c_all}
 use Rattle.omega_types.specs.Conversion.Convs.{c_end, c_more}
 use Rattle.omega_types.proofs.Preservation.{conv-kinds}
-use Rattle.omega_types.proofs.Inverse.{arrow_parts, all_parts, ex_parts, fields_parts, ex-kinds}
+use Rattle.omega_types.proofs.Inverse.{arrow_parts, all_parts, ex_parts, fields_parts, mu_parts, ex-kinds}
 use Rattle.omega_terms.proofs.TypingLaws.{good-more, good-shift, type-kind, result-kind, revars, conv-more, conv-same}
-use Rattle.omega_laws.proofs.Common.{shift, put, put_conv, unshift_conv}
+use Rattle.omega_laws.proofs.Common.{shift, put, put_conv, unrolled, unrolled_conv, unshift_conv}
 use Rattle.omega_terms.specs.declared.op.Op.{Op}
 use Rattle.omega_terms.specs.Term.{Term, TermRow}
-use Rattle.omega_terms.specs.Typing.{At, HasType, FieldsHave, HasPart, shift_all, result_type, GoodVars}
+use Rattle.omega_terms.specs.Typing.{At, HasType, FieldsHave, BranchesHave, HasPart, shift_all, result_type, GoodVars}
 
 -- typed by the form's own rule
 pub data Own : List Kind → List Ty → Term → Ty → Type 0 where
@@ -33,6 +33,10 @@ pub data Own : List Kind → List Ty → Term → Ty → Type 0 where
   if_ : {ctx : List Kind} {vars : List Ty} {a b c : Term} {t : Ty} → HasType ctx vars a Ty.Bool → HasType ctx vars b t → HasType ctx vars c t → Own ctx vars (Term.If a b c) t
   arith : {ctx : List Kind} {vars : List Ty} {o : Op} {a b : Term} → HasType ctx vars a Ty.Int → HasType ctx vars b Ty.Int → Own ctx vars (Term.Arith o a b) (result_type o)
   fix : {ctx : List Kind} {vars : List Ty} {t u : Ty} {e : Term} → HasKind ctx t Kind.Star → HasKind ctx u Kind.Star → HasType ctx (t ∷ (Ty.Arrow t u ∷ vars)) e u → Own ctx vars (Term.Fix t u e) (Ty.Arrow t u)
+  inj : {ctx : List Kind} {vars : List Ty} {l : Label} {e : Term} {t u : Ty} {r : Row} → Conv ctx t (Ty.Sum r) Kind.Star → HasPart r l u → HasType ctx vars e u → Own ctx vars (Term.Inj l e t) t
+  case : {ctx : List Kind} {vars : List Ty} {e : Term} {t : Ty} {r : Row} {f : TermRow} → HasType ctx vars e (Ty.Sum r) → HasKind ctx t Kind.Star → BranchesHave ctx vars f r t → Own ctx vars (Term.Case e t f) t
+  roll : {ctx : List Kind} {vars : List Ty} {e : Term} {t body : Ty} → Conv ctx t (Ty.Mu body) Kind.Star → HasType ctx vars e (unrolled body) → Own ctx vars (Term.Roll e t) t
+  unroll : {ctx : List Kind} {vars : List Ty} {e : Term} {body : Ty} → HasType ctx vars e (Ty.Mu body) → Own ctx vars (Term.Unroll e) (unrolled body)
 
 pub own_type : {ctx : List Kind} {vars : List Ty} {e : Term} {t : Ty} → Own ctx vars e t → HasType ctx vars e t
 own_type (Own.var h) = HasType.var h
@@ -50,6 +54,10 @@ own_type (Own.unpack h i) = HasType.unpack h i
 own_type (Own.if_ h i j) = HasType.if_ h i j
 own_type (Own.arith h i) = HasType.arith h i
 own_type (Own.fix k j h) = HasType.fix k j h
+own_type (Own.inj c p h) = HasType.inj c p h
+own_type (Own.case h k b) = HasType.case h k b
+own_type (Own.roll c h) = HasType.roll c h
+own_type (Own.unroll h) = HasType.unroll h
 
 -- the type by the form's own rule, and the conversion
 pub record Inverted (ctx : List Kind) (vars : List Ty) (e : Term) (t : Ty) : Type 0 where
@@ -89,6 +97,10 @@ invert g (HasType.unpack h i) = by_own g (Own.unpack h i)
 invert g (HasType.if_ h i j) = by_own g (Own.if_ h i j)
 invert g (HasType.arith h i) = by_own g (Own.arith h i)
 invert g (HasType.fix k j h) = by_own g (Own.fix k j h)
+invert g (HasType.inj c p h) = by_own g (Own.inj c p h)
+invert g (HasType.case h k b) = by_own g (Own.case h k b)
+invert g (HasType.roll c h) = by_own g (Own.roll c h)
+invert g (HasType.unroll h) = by_own g (Own.unroll h)
 invert g (HasType.conv h c) = let r = invert g h in record { ty = r.ty; own = r.own; to = c_trans r.to c }
 
 -- the term's types are convertible, and so are those that it has by its own rule
@@ -153,6 +165,18 @@ arith_unique o a b ctx vars t u g (Own.arith h i) (Own.arith j k) = c_refl (resu
 fix_unique : (a b : Ty) (e : Term) → OwnUnique (Term.Fix a b e)
 fix_unique a b e ctx vars t u g (Own.fix k j h) (Own.fix l m i) = c_refl (k_arrow k j)
 
+inj_unique : (l : Label) (e : Term) (a : Ty) → OwnUnique (Term.Inj l e a)
+inj_unique l e a ctx vars t u g (Own.inj c p h) (Own.inj d q i) = c_refl (conv-kinds c).0
+
+case_unique : (e : Term) (a : Ty) (f : TermRow) → OwnUnique (Term.Case e a f)
+case_unique e a f ctx vars t u g (Own.case h k b) (Own.case i j d) = c_refl k
+
+roll_unique : (e : Term) (a : Ty) → OwnUnique (Term.Roll e a)
+roll_unique e a ctx vars t u g (Own.roll c h) (Own.roll d i) = c_refl (conv-kinds c).0
+
+unroll_unique : (e : Term) → Unique e → OwnUnique (Term.Unroll e)
+unroll_unique e f ctx vars t u g (Own.unroll {body = b} h) (Own.unroll {body = c} i) = unrolled_conv (mu_parts _ _ _ (f ctx vars (Ty.Mu b) (Ty.Mu c) g h i))
+
 abbrev UniqueFields : TermRow → Type 0
 UniqueFields f = (ctx : List Kind) (vars : List Ty) (r q : Row) → GoodVars ctx vars → FieldsHave ctx vars f r → FieldsHave ctx vars f q → Convs ctx r q
 
@@ -184,6 +208,10 @@ mutual
   unique (Term.If a b c) = by_rule (Term.If a b c) (if_unique a b c (unique b))
   unique (Term.Arith o a b) = by_rule (Term.Arith o a b) (arith_unique o a b)
   unique (Term.Fix t u e) = by_rule (Term.Fix t u e) (fix_unique t u e)
+  unique (Term.Inj l e t) = by_rule (Term.Inj l e t) (inj_unique l e t)
+  unique (Term.Case e t f) = by_rule (Term.Case e t f) (case_unique e t f)
+  unique (Term.Roll e t) = by_rule (Term.Roll e t) (roll_unique e t)
+  unique (Term.Unroll e) = by_rule (Term.Unroll e) (unroll_unique e (unique e))
 
   uniques : (f : TermRow) → UniqueFields f
   uniques TermRow.End = end_unique

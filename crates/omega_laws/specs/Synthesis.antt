@@ -27,10 +27,18 @@ mutual
     if_ : {ctx : List Kind} {vars : List Ty} {a b c : Term} {t : Ty} → Synth ctx vars a Ty.Bool → Synth ctx vars b t → Synth ctx vars c t → Synth ctx vars (Term.If a b c) t
     arith : {ctx : List Kind} {vars : List Ty} {o : Op} {a b : Term} → Synth ctx vars a Ty.Int → Synth ctx vars b Ty.Int → Synth ctx vars (Term.Arith o a b) (result_type o)
     fix : {ctx : List Kind} {vars : List Ty} {t u : Ty} {e : Term} → HasKind ctx t Kind.Star → HasKind ctx u Kind.Star → Synth ctx (t ∷ (Ty.Arrow t u ∷ vars)) e (normal ctx u) → Synth ctx vars (Term.Fix t u e) (Ty.Arrow (normal ctx t) (normal ctx u))
+    inj : {ctx : List Kind} {vars : List Ty} {l : Label} {e : Term} {t u : Ty} {r : Row} → HasKind ctx t Kind.Star → normal ctx t ≡ Ty.Sum r → HasPart r l u → Synth ctx vars e u → Synth ctx vars (Term.Inj l e t) (normal ctx t)
+    case : {ctx : List Kind} {vars : List Ty} {e : Term} {t : Ty} {r : Row} {f : TermRow} → Synth ctx vars e (Ty.Sum r) → HasKind ctx t Kind.Star → SynthBranches ctx vars f r (normal ctx t) → Synth ctx vars (Term.Case e t f) (normal ctx t)
+    roll : {ctx : List Kind} {vars : List Ty} {e : Term} {t body : Ty} → HasKind ctx t Kind.Star → normal ctx t ≡ Ty.Mu body → Synth ctx vars e (normal ctx (instantiate body (Ty.Mu body))) → Synth ctx vars (Term.Roll e t) (normal ctx t)
+    unroll : {ctx : List Kind} {vars : List Ty} {e : Term} {body : Ty} → Synth ctx vars e (Ty.Mu body) → Synth ctx vars (Term.Unroll e) (normal ctx (instantiate body (Ty.Mu body)))
 
   pub data SynthFields : List Kind → List Ty → TermRow → Row → Type 0 where
     end : {ctx : List Kind} {vars : List Ty} → SynthFields ctx vars TermRow.End Row.End
     more : {ctx : List Kind} {vars : List Ty} {l : Label} {e : Term} {t : Ty} {f : TermRow} {r : Row} → Synth ctx vars e t → Fresh l r → SynthFields ctx vars f r → SynthFields ctx vars (TermRow.More l e f) (Row.More l t r)
+
+  pub data SynthBranches : List Kind → List Ty → TermRow → Row → Ty → Type 0 where
+    none : {ctx : List Kind} {vars : List Ty} {t : Ty} → SynthBranches ctx vars TermRow.End Row.End t
+    branch : {ctx : List Kind} {vars : List Ty} {l : Label} {e : Term} {t u : Ty} {f : TermRow} {r : Row} → Synth ctx (u ∷ vars) e t → SynthBranches ctx vars f r t → SynthBranches ctx vars (TermRow.More l e f) (Row.More l u r) t
 
 -- a term has a type exactly where that type's normal form is synthesised
 abbrev pub SynthesisIsExact : Type 0

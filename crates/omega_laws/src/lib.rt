@@ -11,7 +11,7 @@ ghost use Rattle.omega_laws.specs.Synthesis.{SynthesisIsExact, OneTypeIsSynthesi
 /// is not stuck; and each budget of steps has exactly one outcome for such a term, which is 'spent' exactly where the
 /// term reached in that many steps is no value.
 ///
-/// Preservation and progress: Pierce, "Types and Programming Languages", chapters 23, 24 and 30.
+/// Preservation and progress: Pierce, "Types and Programming Languages", chapters 11, 20, 23, 24 and 30.
 pub fn reduction()
     ensures unique { TypesAreUnique }
     ensures keep { StepsKeepTypes }

@@ -18,6 +18,7 @@ use Rattle.omega_laws.proofs.Common.{Form, Canon}
 use Rattle.omega_laws.proofs.Unique.{Own, invert}
 use Rattle.omega_laws.proofs.Progress.{Progress, canon, progress}
 use Rattle.omega_laws.proofs.Determined.{value_step, value_fault}
+use Rattle.omega_machine.specs.Contexts.{result_of, branches_of, case_of}
 use Rattle.omega_machine.specs.Moves.{IsTyped}
 
 int_some : Form.the_int ≢ Form.no_form
@@ -37,6 +38,12 @@ all_some p = cc
 
 ex_some : Form.an_ex ≢ Form.no_form
 ex_some p = cc
+
+sum_some : Form.a_sum ≢ Form.no_form
+sum_some p = cc
+
+mu_some : Form.a_mu ≢ Form.no_form
+mu_some p = cc
 
 -- ---- the forms, from the typing rule of the redex
 
@@ -81,6 +88,18 @@ right-own o a b t (Own.arith h i) v = canon b Ty.Int i int_some v
 
 pub right-form : (o : Op) (a b : Term) → IsTyped (Term.Arith o a b) → IsValue b → Canon Form.the_int b
 right-form o a b h v = let r = invert (good-none []) h.1 in right-own o a b r.ty r.own v
+
+case-own : (e : Term) (u : Ty) (f : TermRow) (t : Ty) → Own [] [] (Term.Case e u f) t → IsValue e → Canon Form.a_sum e
+case-own e u f t (Own.case {r = r} h k b) v = canon e (Ty.Sum r) h sum_some v
+
+pub case-form : (e : Term) (u : Ty) (f : TermRow) → IsTyped (Term.Case e u f) → IsValue e → Canon Form.a_sum e
+case-form e u f h v = let r = invert (good-none []) h.1 in case-own e u f r.ty r.own v
+
+unroll-own : (e : Term) (t : Ty) → Own [] [] (Term.Unroll e) t → IsValue e → Canon Form.a_mu e
+unroll-own e t (Own.unroll {body = b} h) v = canon e (Ty.Mu b) h mu_some v
+
+pub unroll-form : (e : Term) → IsTyped (Term.Unroll e) → IsValue e → Canon Form.a_mu e
+unroll-form e h v = let r = invert (good-none []) h.1 in unroll-own e r.ty r.own v
 
 -- a closed variable has no type
 var-own : (n : _) (t : Ty) → Own [] [] (Term.Var n) t → ⊥
@@ -137,6 +156,20 @@ no-left n o a b p h v = number-node n (subst (Canon Form.the_int) (sym p) (left-
 pub no-right : (n : TermNode) (o : Op) (a b : Term) → term_of n ≡ b → IsTyped (Term.Arith o a b) → IsValue b → ((z : ℤ) → n ≡ node.Int z → ⊥) → ⊥
 no-right n o a b p h v = number-node n (subst (Canon Form.the_int) (sym p) (right-form o a b h v))
 
+injection-node : (n : TermNode) → Canon Form.a_sum (term_of n) → ((l : Label) (e : TermHandle) (t : TyHandle) → n ≡ node.Inj l e t → ⊥) → ⊥
+injection-node (node.Inj l e t) c h = h l e t refl
+injection-node _ c h = elim c [ ]
+
+pub no-injection : (n : TermNode) (w e : Term) → term_of n ≡ e → IsTyped (case_of w e) → IsValue e → ((l : Label) (e : TermHandle) (t : TyHandle) → n ≡ node.Inj l e t → ⊥) → ⊥
+no-injection n w e p h v = injection-node n (subst (Canon Form.a_sum) (sym p) (case-form e (result_of w) (branches_of w) h v))
+
+rolled-node : (n : TermNode) → Canon Form.a_mu (term_of n) → ((e : TermHandle) (t : TyHandle) → n ≡ node.Roll e t → ⊥) → ⊥
+rolled-node (node.Roll e t) c h = h e t refl
+rolled-node _ c h = elim c [ ]
+
+pub no-rolled : (n : TermNode) (e : Term) → term_of n ≡ e → IsTyped (Term.Unroll e) → IsValue e → ((e : TermHandle) (t : TyHandle) → n ≡ node.Roll e t → ⊥) → ⊥
+no-rolled n e p h v = rolled-node n (subst (Canon Form.a_mu) (sym p) (unroll-form e h v))
+
 -- ---- the fields of a record value
 
 pub fields-values : {f : TermRow} → IsValue (Term.Fields f) → AreValues f
@@ -144,6 +177,12 @@ fields-values (IsValue.fields v) = v
 
 pub body-value : {t u : Ty} {e : Term} → IsValue (Term.Pack t e u) → IsValue e
 body-value (IsValue.pack v) = v
+
+pub injected-value : {l : Label} {e : Term} {t : Ty} → IsValue (Term.Inj l e t) → IsValue e
+injected-value (IsValue.inj v) = v
+
+pub rolled-value : {e : Term} {t : Ty} → IsValue (Term.Roll e t) → IsValue e
+rolled-value (IsValue.roll v) = v
 
 pub value-at : {f : TermRow} {l : Label} {e : Term} → AreValues f → HasField f l e → IsValue e
 value-at AreValues.end h = elim h [ ]
@@ -165,3 +204,21 @@ get-progress v (Progress.faults x s) = absurd (get-fault v s)
 -- a record value of which a label is taken has it
 pub has-field : (f : TermRow) (l : Label) → AreValues f → IsTyped (Term.Get (Term.Fields f) l) → (e : Term) × HasField f l e
 has-field f l v h = get-progress v (progress (Term.Get (Term.Fields f) l) h.0 h.1)
+
+-- ---- the branch of a case
+
+case-step : {l : Label} {e d : Term} {t u : Ty} {f : TermRow} → IsValue e → Step (Term.Case (Term.Inj l e u) t f) d → (b : Term) × HasField f l b
+case-step v (Step.case_whole s) = absurd (value_step (IsValue.inj v) s)
+case-step v (Step.case_inj {e = b} w h) = (b, h)
+
+case-fault : {l : Label} {e : Term} {t u : Ty} {f : TermRow} {x : _} → IsValue e → Faults (Term.Case (Term.Inj l e u) t f) x → ⊥
+case-fault v (Faults.case_whole s) = value_fault (IsValue.inj v) s
+
+case-progress : {l : Label} {e : Term} {t u : Ty} {f : TermRow} → IsValue e → Progress (Term.Case (Term.Inj l e u) t f) → (b : Term) × HasField f l b
+case-progress v (Progress.value w) = elim w [ ]
+case-progress v (Progress.steps d s) = case-step v s
+case-progress v (Progress.faults x s) = absurd (case-fault v s)
+
+-- a case of an injection has a branch at its label
+pub has-branch : (l : Label) (e : Term) (t u : Ty) (f : TermRow) → IsValue e → IsTyped (Term.Case (Term.Inj l e u) t f) → (b : Term) × HasField f l b
+has-branch l e t u f v h = case-progress v (progress (Term.Case (Term.Inj l e u) t f) h.0 h.1)

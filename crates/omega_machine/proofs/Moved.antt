@@ -44,6 +44,10 @@ some-size (Term.Unpack p e) = omega arith
 some-size (Term.If a b c) = omega arith
 some-size (Term.Arith op a b) = omega arith
 some-size (Term.Fix t u e) = omega arith
+some-size (Term.Inj l e t) = omega arith
+some-size (Term.Case e t row) = omega arith
+some-size (Term.Roll e t) = omega arith
+some-size (Term.Unroll e) = omega arith
 
 goes-up : (v e : Term) → v ≡ e → IsValue e → Moves e (3 * term_size e) (move.Up v)
 goes-up v e p h = record { same = p; sound = subst IsValue (sym p) h; less = some-size e }
@@ -200,6 +204,14 @@ no-part whole done ds o e b d p q r = by-place (slice_get_cases (fields_of whole
 pub pack-value : (t u : Ty) (v e : Term) (f : Waiting) → f ≡ waiting.Packed t u → IsValue v → e ≡ Term.Pack t v u → Moves (fill_waiting f v) (waiting_work f) (move.Up e)
 pack-value t u v e f p h q =
     subst (λ g. Moves (fill_waiting g v) (waiting_work g) (move.Up e)) (sym p) (record { same = q; sound = subst IsValue (sym q) (IsValue.pack h); less = omega arith })
+
+pub inject-value : (l : Label) (t : Ty) (v e : Term) (f : Waiting) → f ≡ waiting.Injected l t → IsValue v → e ≡ Term.Inj l v t → Moves (fill_waiting f v) (waiting_work f) (move.Up e)
+inject-value l t v e f p h q =
+    subst (λ g. Moves (fill_waiting g v) (waiting_work g) (move.Up e)) (sym p) (record { same = q; sound = subst IsValue (sym q) (IsValue.inj h); less = omega arith })
+
+pub roll-value : (t : Ty) (v e : Term) (f : Waiting) → f ≡ waiting.Rolled t → IsValue v → e ≡ Term.Roll v t → Moves (fill_waiting f v) (waiting_work f) (move.Up e)
+roll-value t v e f p h q =
+    subst (λ g. Moves (fill_waiting g v) (waiting_work g) (move.Up e)) (sym p) (record { same = q; sound = subst IsValue (sym q) (IsValue.roll h); less = omega arith })
 
 -- what the code finds at the number of fields that are done
 pub at-done : (done ds fs : TermPairs) (x : Label × Term) → ds ≡ done → length ds < length fs → x ≡ get_or fs (length ds) x → (length done < length fs) × (x ≡ get_or fs (length done) x)

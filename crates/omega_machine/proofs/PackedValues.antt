@@ -1,6 +1,7 @@
 -- A value of a record type with any number of `some` round it is a record of values in packages.
 use Rattle.std.proofs.Common.{◌≡◌, ◌≢◌, ℕ, [], refl, subst, ◌⊎◌, inl, inr, ℤ, List, Bool as Truth}
 use Rattle.omega_kinds.specs.Kind.{Kind}
+use Rattle.omega_kinds.specs.declared.label.Label.{Label}
 use Rattle.omega_types.specs.Ty.{Ty}
 use Rattle.omega_types.specs.Substitution.{substitute, single, under, instantiate}
 use Rattle.omega_types.specs.Conversion.{Conv}
@@ -60,6 +61,14 @@ not-fix : {t u : Ty} {e : Term} → Canon Form.a_record (Term.Fix t u e) ⊎ Can
 not-fix (inl c) = elim c [ ]
 not-fix (inr c) = elim c [ ]
 
+not-inj : {l : Label} {e : Term} {t : Ty} → Canon Form.a_record (Term.Inj l e t) ⊎ Canon Form.an_ex (Term.Inj l e t) → ⊥
+not-inj (inl c) = elim c [ ]
+not-inj (inr c) = elim c [ ]
+
+not-roll : {e : Term} {t : Ty} → Canon Form.a_record (Term.Roll e t) ⊎ Canon Form.an_ex (Term.Roll e t) → ⊥
+not-roll (inl c) = elim c [ ]
+not-roll (inr c) = elim c [ ]
+
 inner : (a : Ty) (w : Term) (u s : Ty) (k : Kind) (b : Ty) → Own [] [] (Term.Pack a w u) s → Conv [] s (Ty.Ex k b) Kind.Star → HasType [] [] w (instantiate b a)
 inner a w u s k b (Own.pack {k = j} {body = c} d m h) e =
     let p = ex_parts _ _ _ _ _ (c_trans (c_sym d) e) in
@@ -84,6 +93,8 @@ packed-value IsValue.text t h p = absurd (not-text (either _ t h p IsValue.text)
 packed-value IsValue.lam t h p = absurd (not-lam (either _ t h p IsValue.lam))
 packed-value IsValue.ty_lam t h p = absurd (not-ty_lam (either _ t h p IsValue.ty_lam))
 packed-value IsValue.fix t h p = absurd (not-fix (either _ t h p IsValue.fix))
+packed-value (IsValue.inj i) t h p = absurd (not-inj (either _ t h p (IsValue.inj i)))
+packed-value (IsValue.roll i) t h p = absurd (not-roll (either _ t h p (IsValue.roll i)))
 packed-value (IsValue.fields v) t h p = PacksFields.fields v
 packed-value (IsValue.pack {t = a} {u = u} {e = w} i) t h p =
     let f = some-form t (packed-form t p) in

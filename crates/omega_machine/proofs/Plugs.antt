@@ -3,7 +3,7 @@ use Rattle.std.proofs.Common.{◌≡◌, ◌+◌, ◌<◌, List, [], ◌∷◌, 
 use Rattle.omega_kinds.specs.declared.label.Label.{Label}
 use Rattle.omega_types.specs.Ty.{Ty, Row}
 use Rattle.omega_terms.specs.declared.op.Op.{Op}
-use Rattle.omega_terms.specs.Term.{Term}
+use Rattle.omega_terms.specs.Term.{Term, TermRow}
 use Rattle.omega_terms.specs.Fields.{TermPairs, term_row}
 use Rattle.omega_terms.specs.Typing.{FieldsHave}
 use Rattle.omega_terms.specs.Steps.{AreValues, Step, FieldStep, Faults, FieldFaults, Fault}
@@ -15,7 +15,7 @@ use Rattle.omega_machine.specs.declared.frames.Ready.{Ready}
 use Rattle.omega_machine.specs.declared.frames.Ready.TheVariants as ready
 use Rattle.omega_machine.specs.declared.frames.Frame.{Frame}
 use Rattle.omega_machine.specs.declared.frames.Frame.TheVariants as frame
-use Rattle.omega_machine.specs.Contexts.{fields_of, left, with_first, fill_waiting, fill_ready, fill, plug}
+use Rattle.omega_machine.specs.Contexts.{fields_of, left, with_first, result_of, branches_of, fill_waiting, fill_ready, fill, plug}
 use Rattle.omega_machine.specs.Moves.{IsTyped, IsSoundWaiting, IsSoundReady, IsSound, AreSound, frame_work, work}
 
 -- ---- one more frame inside
@@ -63,6 +63,8 @@ waiting-step (waiting.Function a) e d h s = Step.call_function s
 waiting-step (waiting.Left op b) e d h s = Step.arith_left s
 waiting-step (waiting.Packed t u) e d h s = Step.pack_body s
 waiting-step (waiting.Field whole done) e d h s = Step.fields (field-step done (left whole done) e d h.0.values (some-left whole done h.1) s)
+waiting-step (waiting.Injected l t) e d h s = Step.inj_part s
+waiting-step (waiting.Rolled t) e d h s = Step.roll_part s
 
 ready-step : (f : Ready) (e d : Term) → IsSoundReady f → Step e d → Step (fill_ready f e) (fill_ready f d)
 ready-step (ready.Argument f) e d h s = Step.call_arg h s
@@ -71,6 +73,8 @@ ready-step (ready.Part l) e d h s = Step.get_whole s
 ready-step (ready.Opened b) e d h s = Step.unpack_packed s
 ready-step (ready.Test b c) e d h s = Step.if_test s
 ready-step (ready.Right op a) e d h s = Step.arith_right h s
+ready-step (ready.Cased whole) e d h s = Step.case_whole s
+ready-step ready.Unrolled e d h s = Step.unroll_whole s
 
 fill-step : (f : Frame) (e d : Term) → IsSound f → Step e d → Step (fill f e) (fill f d)
 fill-step (frame.Waiting f) e d h s = waiting-step f e d h s
@@ -88,6 +92,8 @@ waiting-fault (waiting.Function a) e x h s = Faults.call_function s
 waiting-fault (waiting.Left op b) e x h s = Faults.arith_left s
 waiting-fault (waiting.Packed t u) e x h s = Faults.pack_body s
 waiting-fault (waiting.Field whole done) e x h s = Faults.fields (field-fault done (left whole done) e x h.0.values (some-left whole done h.1) s)
+waiting-fault (waiting.Injected l t) e x h s = Faults.inj_part s
+waiting-fault (waiting.Rolled t) e x h s = Faults.roll_part s
 
 ready-fault : (f : Ready) (e : Term) (x : Fault) → IsSoundReady f → Faults e x → Faults (fill_ready f e) x
 ready-fault (ready.Argument f) e x h s = Faults.call_arg h s
@@ -96,6 +102,8 @@ ready-fault (ready.Part l) e x h s = Faults.get_whole s
 ready-fault (ready.Opened b) e x h s = Faults.unpack_packed s
 ready-fault (ready.Test b c) e x h s = Faults.if_test s
 ready-fault (ready.Right op a) e x h s = Faults.arith_right h s
+ready-fault (ready.Cased whole) e x h s = Faults.case_whole s
+ready-fault ready.Unrolled e x h s = Faults.unroll_whole s
 
 fill-fault : (f : Frame) (e : Term) (x : Fault) → IsSound f → Faults e x → Faults (fill f e) x
 fill-fault (frame.Waiting f) e x h s = waiting-fault f e x h s
@@ -132,11 +140,25 @@ own-open p e t (Own.unpack {k = k} {body = b} h i) = (Ty.Ex k b, h)
 own-if : (a b c : Term) (t : Ty) → Own [] [] (Term.If a b c) t → IsTyped a
 own-if a b c t (Own.if_ h i j) = (Ty.Bool, h)
 
+own-inj : (l : Label) (e : Term) (u t : Ty) → Own [] [] (Term.Inj l e u) t → IsTyped e
+own-inj l e u t (Own.inj c p h) = (_, h)
+
+own-roll : (e : Term) (u t : Ty) → Own [] [] (Term.Roll e u) t → IsTyped e
+own-roll e u t (Own.roll c h) = (_, h)
+
+own-case : (e : Term) (u : Ty) (f : TermRow) (t : Ty) → Own [] [] (Term.Case e u f) t → IsTyped e
+own-case e u f t (Own.case {r = r} h k b) = (Ty.Sum r, h)
+
+own-unroll : (e : Term) (t : Ty) → Own [] [] (Term.Unroll e) t → IsTyped e
+own-unroll e t (Own.unroll {body = b} h) = (Ty.Mu b, h)
+
 own-waiting : (f : Waiting) (e : Term) (t : Ty) → IsSoundWaiting f → Own [] [] (fill_waiting f e) t → IsTyped e
 own-waiting (waiting.Function a) e t h o = (own-call e a t o).0
 own-waiting (waiting.Left op b) e t h o = (own-arith op e b t o).0
 own-waiting (waiting.Packed a u) e t h o = own-pack a e u t o
 own-waiting (waiting.Field whole done) e t h o = own-fields done (left whole done) e t (some-left whole done h.1) o
+own-waiting (waiting.Injected l u) e t h o = own-inj l e u t o
+own-waiting (waiting.Rolled u) e t h o = own-roll e u t o
 
 own-ready : (f : Ready) (e : Term) (t : Ty) → Own [] [] (fill_ready f e) t → IsTyped e
 own-ready (ready.Argument f) e t o = (own-call f e t o).1
@@ -145,6 +167,8 @@ own-ready (ready.Part l) e t o = own-get e l t o
 own-ready (ready.Opened b) e t o = own-open e b t o
 own-ready (ready.Test b c) e t o = own-if e b c t o
 own-ready (ready.Right op a) e t o = (own-arith op a e t o).1
+own-ready (ready.Cased whole) e t o = own-case e (result_of whole) (branches_of whole) t o
+own-ready ready.Unrolled e t o = own-unroll e t o
 
 fill-typed : (f : Frame) (e : Term) → IsSound f → IsTyped (fill f e) → IsTyped e
 fill-typed (frame.Waiting f) e h t = let r = invert (good-none []) t.1 in own-waiting f e r.ty h r.own

@@ -1,21 +1,23 @@
 -- What the code puts in is what the step gives.
-use Rattle.std.proofs.Common.{◌≡◌, sym, ap, ap₂, ◌∙◌, subst, Bool as Truth, true, false, ℤ}
+use Rattle.std.proofs.Common.{◌≡◌, refl, sym, ap, ap₂, ◌∙◌, subst, Bool as Truth, true, false, ℤ}
 use Rattle.omega_types.specs.Ty.{Ty}
 use Rattle.omega_types.specs.declared.tree.Ty.{Ty as TyHandle}
 use Rattle.omega_kinds.specs.declared.kind.Kind.{Kind as KindHandle}
 use Rattle.omega_kinds.specs.declared.label.Label.{Label}
 use Rattle.omega_terms.specs.declared.tree.Term.{Term as TermHandle}
+use Rattle.omega_terms.specs.declared.tree.TermFields.{TermFields}
 use Rattle.omega_terms.specs.declared.tree.TermNode.{TermNode}
 use Rattle.omega_terms.specs.declared.tree.TermNode.TheVariants as node
 use Rattle.omega_terms.specs.declared.op.Op.{Op}
 use Rattle.omega_terms.specs.Fields.{TermPairs, term_row}
-use Rattle.omega_terms.specs.Term.{Term}
+use Rattle.omega_terms.specs.Term.{Term, TermRow}
 use Rattle.omega_terms.specs.TermSubst.{put_term, put_type, shift_term}
 use Rattle.omega_terms.specs.Steps.{IsValue, HasField, Step, Faults, Answer, Fault, compute}
 use Rattle.omega_terms.specs.View.{term_of}
+use Rattle.omega_machine.specs.Contexts.{result_of, branches_of, case_of}
 use Rattle.omega_machine.specs.Moves.{IsTyped}
 use Rattle.omega_machine.proofs.Puts.{put-arg, put-ty, put-both, put-fix}
-use Rattle.omega_machine.proofs.Canonical.{fields-values, body-value, value-at, has-field}
+use Rattle.omega_machine.proofs.Canonical.{fields-values, body-value, injected-value, rolled-value, value-at, has-field, has-branch}
 
 -- the term that a node of a known form makes
 pub is-form : (n m : TermNode) (e : Term) → n ≡ m → term_of n ≡ e → e ≡ term_of m
@@ -72,3 +74,45 @@ pub get-field : (n : TermNode) (f xs : TermPairs) (whole : Term) (l : Label) →
 get-field n f xs whole l p q r v h =
     let is = record-is n f whole p q ∙ ap (λ ys. Term.Fields (term_row ys)) (sym r) in
     has-field (term_row xs) l (fields-values (subst IsValue is v)) (subst (λ x. IsTyped (Term.Get x l)) is h)
+
+-- ---- the branch of a case, and what is rolled
+
+injection-is : (n : TermNode) (l : Label) (v : TermHandle) (u : TyHandle) (injection : Term) → n ≡ node.Inj l v u → term_of n ≡ injection → injection ≡ Term.Inj l v u
+injection-is n l v u injection p q = is-form n (node.Inj l v u) injection p q
+
+case-is : (m : TermNode) (d : TermHandle) (t : TyHandle) (f : TermPairs) (whole : Term) → m ≡ node.Case d t f → term_of m ≡ whole → whole ≡ Term.Case d t (term_row f)
+case-is m d t f whole p q = is-form m (node.Case d t f) whole p q
+
+pub choose-step : (n m : TermNode) (l : Label) (v : TermHandle) (u : TyHandle) (d : TermHandle) (t : TyHandle) (f : TermPairs) (whole injection b e : Term) → n ≡ node.Inj l v u → term_of n ≡ injection → m ≡ node.Case d t f → term_of m ≡ whole → IsValue injection → HasField (term_row f) l b → e ≡ put_term b 0 v → Step (case_of whole injection) e
+choose-step n m l v u d t f whole injection b e p q r s w h g =
+    let at = injection-is n l v u injection p q in
+    let is = case-is m d t f whole r s in
+    let step : Step (Term.Case (Term.Inj l v u) t (term_row f)) e =
+    subst (Step (Term.Case (Term.Inj l v u) t (term_row f))) (sym (g ∙ put-arg v b)) (Step.case_inj (injected-value (subst IsValue at w)) h) in
+    subst (λ x. Step (case_of x injection) e) (sym is) (subst (λ x. Step (Term.Case x t (term_row f)) e) (sym at) step)
+
+-- the case of the injection, by the form of the injection
+injected-case : (n : TermNode) (l : Label) (v : TermHandle) (u : TyHandle) (whole injection : Term) → n ≡ node.Inj l v u → term_of n ≡ injection → IsValue injection → IsTyped (case_of whole injection) → (b : Term) × HasField (branches_of whole) l b
+injected-case n l v u whole injection p q w h =
+    let at = injection-is n l v u injection p q in
+    has-branch l v (result_of whole) u (branches_of whole) (injected-value (subst IsValue at w)) (subst (λ x. IsTyped (case_of whole x)) at h)
+
+pub choose-branch : (n m : TermNode) (l : Label) (v : TermHandle) (u : TyHandle) (d : TermHandle) (t : TyHandle) (f : TermPairs) (whole injection : Term) → n ≡ node.Inj l v u → term_of n ≡ injection → m ≡ node.Case d t f → term_of m ≡ whole → IsValue injection → IsTyped (case_of whole injection) → (b : Term) × HasField (term_row f) l b
+choose-branch n m l v u d t f whole injection p q r s w h =
+    subst (λ x. (b : Term) × HasField (branches_of x) l b) (case-is m d t f whole r s) (injected-case n l v u whole injection p q w h)
+
+no-branches : (m : TermNode) → ((d : TermHandle) (t : TyHandle) (f : TermFields) → m ≡ node.Case d t f → ⊥) → branches_of (term_of m) ≡ TermRow.End
+no-branches (node.Case d t f) h = absurd (h d t f refl)
+no-branches _ h = refl
+
+pub no-case : (n m : TermNode) (l : Label) (v : TermHandle) (u : TyHandle) (whole injection : Term) → n ≡ node.Inj l v u → term_of n ≡ injection → term_of m ≡ whole → IsValue injection → IsTyped (case_of whole injection) → ((d : TermHandle) (t : TyHandle) (f : TermFields) → m ≡ node.Case d t f → ⊥) → ⊥
+no-case n m l v u whole injection p q s w h k =
+    let none : branches_of whole ≡ TermRow.End = ap branches_of (sym s) ∙ no-branches m k in
+    let b = subst (λ x. (b : Term) × HasField x l b) none (injected-case n l v u whole injection p q w h) in
+    elim b.1 [ ]
+
+pub unroll-step : (n : TermNode) (v : TermHandle) (u : TyHandle) (rolled e : Term) → n ≡ node.Roll v u → term_of n ≡ rolled → IsValue rolled → e ≡ v → Step (Term.Unroll rolled) e × IsValue e
+unroll-step n v u rolled e p q w g =
+    let is = is-form n (node.Roll v u) rolled p q in
+    let value = rolled-value (subst IsValue is w) in
+    (subst (λ x. Step (Term.Unroll x) e) (sym is) (subst (Step (Term.Unroll (Term.Roll v u))) (sym g) (Step.unroll_roll value)), subst IsValue (sym g) value)

@@ -92,6 +92,8 @@ no-value (ready.Part l) v w = elim w [ ]
 no-value (ready.Opened b) v w = elim w [ ]
 no-value (ready.Test b c) v w = elim w [ ]
 no-value (ready.Right op a) v w = elim w [ ]
+no-value (ready.Cased whole) v w = elim w [ ]
+no-value ready.Unrolled v w = elim w [ ]
 
 goes-on : (gs : List Frame) (r : Ready) (v : Term) → AreSound gs → Progress (fill_ready r v) → IsValue (plug gs (fill_ready r v)) → ⊥
 goes-on gs r v s (Progress.value w) h = no-value r v w

@@ -74,6 +74,15 @@ arith_ o e h = λ i. Term.Arith o (e i) (h i)
 fix_ : {t u v w : Ty} {b d : Term} → t ≡ v → u ≡ w → b ≡ d → Term.Fix t u b ≡ Term.Fix v w d
 fix_ e h g = λ i. Term.Fix (e i) (h i) (g i)
 
+inj_ : (l : Label) {t u : Ty} {b d : Term} → b ≡ d → t ≡ u → Term.Inj l b t ≡ Term.Inj l d u
+inj_ l e h = λ i. Term.Inj l (e i) (h i)
+
+case_ : {t u : Ty} {a b : Term} {f g : TermRow} → a ≡ b → t ≡ u → f ≡ g → Term.Case a t f ≡ Term.Case b u g
+case_ e h g = λ i. Term.Case (e i) (h i) (g i)
+
+roll_ : {t u : Ty} {b d : Term} → b ≡ d → t ≡ u → Term.Roll b t ≡ Term.Roll d u
+roll_ e h = λ i. Term.Roll (e i) (h i)
+
 field_ : (l : Label) {a b : Term} {f g : TermRow} → a ≡ b → f ≡ g → TermRow.More l a f ≡ TermRow.More l b g
 field_ l e h = λ i. TermRow.More l (e i) (h i)
 
@@ -106,6 +115,11 @@ mutual
   sub_term-vars s w p h (Term.Arith o a b) = arith_ o (sub_term-vars s w p h a) (sub_term-vars s w p h b)
   sub_term-vars s w p h (Term.Fix t u e) =
       fix_ (sub_vars s p t) (sub_vars s p u) (sub_term-vars s (up_term (up_term w)) p (up_term-vars (up_term w) (up_term-vars w h)) e)
+  sub_term-vars s w p h (Term.Inj l e t) = inj_ l (sub_term-vars s w p h e) (sub_vars s p t)
+  sub_term-vars s w p h (Term.Case e t f) =
+      case_ (sub_term-vars s w p h e) (sub_vars s p t) (sub_fields-vars s (up_term w) p (up_term-vars w h) f)
+  sub_term-vars s w p h (Term.Roll e t) = roll_ (sub_term-vars s w p h e) (sub_vars s p t)
+  sub_term-vars s w p h (Term.Unroll e) = ap Term.Unroll (sub_term-vars s w p h e)
 
   sub_fields-vars : (s : ℕ → Ty) (w : ℕ → Term) → ((n : ℕ) → s n ≡ Ty.Var n) → ((n : ℕ) → w n ≡ Term.Var n) → (e : TermRow) → sub_fields s w e ≡ e
   sub_fields-vars s w p h TermRow.End = refl
@@ -132,6 +146,11 @@ mutual
   two_ren_term q r q2 r2 q3 r3 h g (Term.Arith o a b) = arith_ o (two_ren_term q r q2 r2 q3 r3 h g a) (two_ren_term q r q2 r2 q3 r3 h g b)
   two_ren_term q r q2 r2 q3 r3 h g (Term.Fix t u e) =
       fix_ (two_ren q q2 q3 h t) (two_ren q q2 q3 h u) (two_ren_term q (lift (lift r)) q2 (lift (lift r2)) q3 (lift (lift r3)) h (lift_lift (lift r) (lift r2) (lift r3) (lift_lift r r2 r3 g)) e)
+  two_ren_term q r q2 r2 q3 r3 h g (Term.Inj l e t) = inj_ l (two_ren_term q r q2 r2 q3 r3 h g e) (two_ren q q2 q3 h t)
+  two_ren_term q r q2 r2 q3 r3 h g (Term.Case e t f) =
+      case_ (two_ren_term q r q2 r2 q3 r3 h g e) (two_ren q q2 q3 h t) (two_ren_fields q (lift r) q2 (lift r2) q3 (lift r3) h (lift_lift r r2 r3 g) f)
+  two_ren_term q r q2 r2 q3 r3 h g (Term.Roll e t) = roll_ (two_ren_term q r q2 r2 q3 r3 h g e) (two_ren q q2 q3 h t)
+  two_ren_term q r q2 r2 q3 r3 h g (Term.Unroll e) = ap Term.Unroll (two_ren_term q r q2 r2 q3 r3 h g e)
 
   two_ren_fields : (q r q2 r2 q3 r3 : ℕ → ℕ) → ((n : ℕ) → q (q2 n) ≡ q3 n) → ((n : ℕ) → r (r2 n) ≡ r3 n) → (e : TermRow) → ren_fields q r (ren_fields q2 r2 e) ≡ ren_fields q3 r3 e
   two_ren_fields q r q2 r2 q3 r3 h g TermRow.End = refl
@@ -165,6 +184,11 @@ mutual
   sub_ren_term s w q r p v h g (Term.Arith o a b) = arith_ o (sub_ren_term s w q r p v h g a) (sub_ren_term s w q r p v h g b)
   sub_ren_term s w q r p v h g (Term.Fix t u e) =
       fix_ (sub_ren s q p h t) (sub_ren s q p h u) (sub_ren_term s (up_term (up_term w)) q (lift (lift r)) p (up_term (up_term v)) h (up_term-lift (up_term w) (lift r) (up_term v) (up_term-lift w r v g)) e)
+  sub_ren_term s w q r p v h g (Term.Inj l e t) = inj_ l (sub_ren_term s w q r p v h g e) (sub_ren s q p h t)
+  sub_ren_term s w q r p v h g (Term.Case e t f) =
+      case_ (sub_ren_term s w q r p v h g e) (sub_ren s q p h t) (sub_ren_fields s (up_term w) q (lift r) p (up_term v) h (up_term-lift w r v g) f)
+  sub_ren_term s w q r p v h g (Term.Roll e t) = roll_ (sub_ren_term s w q r p v h g e) (sub_ren s q p h t)
+  sub_ren_term s w q r p v h g (Term.Unroll e) = ap Term.Unroll (sub_ren_term s w q r p v h g e)
 
   sub_ren_fields : (s : ℕ → Ty) (w : ℕ → Term) (q r : ℕ → ℕ) (p : ℕ → Ty) (v : ℕ → Term) → ((n : ℕ) → s (q n) ≡ p n) → ((n : ℕ) → w (r n) ≡ v n) → (e : TermRow) → sub_fields s w (ren_fields q r e) ≡ sub_fields p v e
   sub_ren_fields s w q r p v h g TermRow.End = refl
@@ -207,6 +231,11 @@ mutual
   ren_sub_term q r s w p v h g (Term.Arith o a b) = arith_ o (ren_sub_term q r s w p v h g a) (ren_sub_term q r s w p v h g b)
   ren_sub_term q r s w p v h g (Term.Fix t u e) =
       fix_ (ren_sub q s p h t) (ren_sub q s p h u) (ren_sub_term q (lift (lift r)) s (up_term (up_term w)) p (up_term (up_term v)) h (lift_up_term q (lift r) (up_term w) (up_term v) (lift_up_term q r w v g)) e)
+  ren_sub_term q r s w p v h g (Term.Inj l e t) = inj_ l (ren_sub_term q r s w p v h g e) (ren_sub q s p h t)
+  ren_sub_term q r s w p v h g (Term.Case e t f) =
+      case_ (ren_sub_term q r s w p v h g e) (ren_sub q s p h t) (ren_sub_fields q (lift r) s (up_term w) p (up_term v) h (lift_up_term q r w v g) f)
+  ren_sub_term q r s w p v h g (Term.Roll e t) = roll_ (ren_sub_term q r s w p v h g e) (ren_sub q s p h t)
+  ren_sub_term q r s w p v h g (Term.Unroll e) = ap Term.Unroll (ren_sub_term q r s w p v h g e)
 
   ren_sub_fields : (q r : ℕ → ℕ) (s : ℕ → Ty) (w : ℕ → Term) (p : ℕ → Ty) (v : ℕ → Term) → ((n : ℕ) → rename q (s n) ≡ p n) → ((n : ℕ) → ren_term q r (w n) ≡ v n) → (e : TermRow) → ren_fields q r (sub_fields s w e) ≡ sub_fields p v e
   ren_sub_fields q r s w p v h g TermRow.End = refl
@@ -251,6 +280,11 @@ mutual
   two_sub_term s w p v x u h g (Term.Arith o a b) = arith_ o (two_sub_term s w p v x u h g a) (two_sub_term s w p v x u h g b)
   two_sub_term s w p v x u h g (Term.Fix t r e) =
       fix_ (two_sub s p x h t) (two_sub s p x h r) (two_sub_term s (up_term (up_term w)) p (up_term (up_term v)) x (up_term (up_term u)) h (up_up_term s (up_term w) (up_term v) (up_term u) (up_up_term s w v u g)) e)
+  two_sub_term s w p v x u h g (Term.Inj l e t) = inj_ l (two_sub_term s w p v x u h g e) (two_sub s p x h t)
+  two_sub_term s w p v x u h g (Term.Case e t f) =
+      case_ (two_sub_term s w p v x u h g e) (two_sub s p x h t) (two_sub_fields s (up_term w) p (up_term v) x (up_term u) h (up_up_term s w v u g) f)
+  two_sub_term s w p v x u h g (Term.Roll e t) = roll_ (two_sub_term s w p v x u h g e) (two_sub s p x h t)
+  two_sub_term s w p v x u h g (Term.Unroll e) = ap Term.Unroll (two_sub_term s w p v x u h g e)
 
   two_sub_fields : (s : ℕ → Ty) (w : ℕ → Term) (p : ℕ → Ty) (v : ℕ → Term) (x : ℕ → Ty) (u : ℕ → Term) → ((n : ℕ) → substitute s (p n) ≡ x n) → ((n : ℕ) → sub_term s w (v n) ≡ u n) → (e : TermRow) → sub_fields s w (sub_fields p v e) ≡ sub_fields x u e
   two_sub_fields s w p v x u h g TermRow.End = refl

@@ -172,3 +172,15 @@ field-text o first second new found l s e f g h =
 
 pub line-text : (o first new l s : List ℕ) → first ≡ o ++ (l then codes " = " then s) → new ≡ first ++ codes "\n" → new ≡ o ++ (l then codes " = " then s then codes "\n")
 line-text o first new l s e h = h ∙ (ap (λ y. y ++ codes "\n") e ∙ four o l (codes " = ") s (codes "\n"))
+
+-- ---- what is injected or rolled
+
+pub injected-text : (o first second third fourth new found l s : List ℕ) → first ≡ o ++ codes "(" → found ≡ l → second ≡ first ++ found → third ≡ second ++ codes " " → fourth ≡ third ++ s → new ≡ fourth ++ codes ")" → new ≡ o ++ (codes "(" then l then codes " " then s then codes ")")
+injected-text o first second third fourth new found l s e f g h k m =
+    let at_label : second ≡ (o ++ codes "(") ++ l = g ∙ ap₂ (λ x y. x ++ y) e f in
+    let at_value : fourth ≡ (((o ++ codes "(") ++ l) ++ codes " ") ++ s = k ∙ ap (λ y. y ++ s) (h ∙ ap (λ y. y ++ codes " ") at_label) in
+    m ∙ (ap (λ y. y ++ codes ")") (at_value ∙ ap (λ y. y ++ s) (three o (codes "(") l (codes " "))) ∙ (ap (λ y. y ++ codes ")") (four o (codes "(") l (codes " ") s) ∙ five o (codes "(") l (codes " ") s (codes ")")))
+
+pub rolled-text : (o first second new s : List ℕ) → first ≡ o ++ codes "(roll " → second ≡ first ++ s → new ≡ second ++ codes ")" → new ≡ o ++ (codes "(roll " then s then codes ")")
+rolled-text o first second new s e h k =
+    k ∙ (ap (λ y. y ++ codes ")") (h ∙ ap (λ y. y ++ s) e) ∙ three o (codes "(roll ") s (codes ")"))

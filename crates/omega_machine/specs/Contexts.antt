@@ -1,6 +1,7 @@
 -- Evaluation contexts: frames, and the closed term that stands where a term is put into their hole (Felleisen and Hieb, "The
 -- revised report on the syntactic theories of sequential control and state", 1992).
 use Rattle.std.specs.Prelude.{◌+◌, List, [], ◌∷◌, ◌++◌, length, drop}
+use Rattle.omega_types.specs.Ty.{Ty}
 use Rattle.omega_terms.specs.Term.{Term, TermRow}
 use Rattle.omega_terms.specs.Fields.{TermPairs, term_row}
 use Rattle.omega_machine.specs.declared.frames.Waiting.{Waiting}
@@ -38,11 +39,26 @@ abbrev pub with_first : Term → TermPairs → TermPairs
 with_first e [] = []
 with_first e (x ∷ xs) = (x.0, e) ∷ xs
 
+-- the type that a case names, and its branches
+abbrev pub result_of : Term → Ty
+result_of (Term.Case e t row) = t
+result_of _ = Ty.Int
+
+abbrev pub branches_of : Term → TermRow
+branches_of (Term.Case e t row) = row
+branches_of _ = TermRow.End
+
+-- the case with the term in the place of what it is of
+abbrev pub case_of : (whole : Term) → Term → Term
+case_of whole e = Term.Case e (result_of whole) (branches_of whole)
+
 abbrev pub fill_waiting : Waiting → Term → Term
 fill_waiting (waiting.Function a) e = Term.Call e a
 fill_waiting (waiting.Left op b) e = Term.Arith op e b
 fill_waiting (waiting.Packed t u) e = Term.Pack t e u
 fill_waiting (waiting.Field whole done) e = Term.Fields (term_row (done ++ with_first e (left whole done)))
+fill_waiting (waiting.Injected l t) e = Term.Inj l e t
+fill_waiting (waiting.Rolled t) e = Term.Roll e t
 
 abbrev pub fill_ready : Ready → Term → Term
 fill_ready (ready.Argument f) e = Term.Call f e
@@ -51,6 +67,8 @@ fill_ready (ready.Part l) e = Term.Get e l
 fill_ready (ready.Opened b) e = Term.Unpack e b
 fill_ready (ready.Test b c) e = Term.If e b c
 fill_ready (ready.Right op a) e = Term.Arith op a e
+fill_ready (ready.Cased whole) e = case_of whole e
+fill_ready ready.Unrolled e = Term.Unroll e
 
 -- the frame with the term in its hole
 abbrev pub fill : Frame → Term → Term

@@ -58,6 +58,8 @@ waiting_work (waiting.Function a) = 3 * term_size a + 2
 waiting_work (waiting.Left op b) = 3 * term_size b + 2
 waiting_work (waiting.Packed t u) = 1
 waiting_work (waiting.Field whole done) = 3 * pairs_size (rest whole done) + 2
+waiting_work (waiting.Injected l t) = 1
+waiting_work (waiting.Rolled t) = 1
 
 abbrev pub frame_work : Frame → ℕ
 frame_work (frame.Waiting f) = waiting_work f

@@ -14,6 +14,10 @@ pub(crate) enum Waiting {
     Packed(Ty, Ty),
     /// the next field of the record, with the values of the fields before it
     Field(Term, TermFields),
+    /// what is injected, with its label and the type
+    Injected(Label, Ty),
+    /// what is rolled, with the type
+    Rolled(Ty),
 }
 
 /// A form with a hole, which makes a step or a fault once a value stands in it.
@@ -31,6 +35,10 @@ pub(crate) enum Ready {
     Test(Term, Term),
     /// an operator's right side, with the left one
     Right(Op, Term),
+    /// what the case is of, with the whole case
+    Cased(Term),
+    /// what is unrolled
+    Unrolled,
 }
 
 /// A form with a hole.

@@ -20,8 +20,8 @@ use std::alloc::Global;
 /// is stuck, so one more step or a fault comes next. `Err` is out of memory.
 ///
 /// Reduction is call by value, from left to right, by substitution. Pierce, "Types and Programming Languages", figures
-/// 11-7 (records), 11-12 (fixed points), 24-1 (existential types) and 30-1; Wright and Felleisen, "A Syntactic Approach
-/// to Type Soundness" (1994).
+/// 11-7 (records), 11-11 (variants), 11-12 (fixed points), 20-1 (iso-recursive types), 24-1 (existential types) and
+/// 30-1; Wright and Felleisen, "A Syntactic Approach to Type Soundness" (1994).
 pub fn run(alloc: Global, checked: &Checked, budget: u64) -> Result<End, Mem>
     ensures outcome { IfOk result (λ end. Tells checked.now.term budget end) }
     ensures spent { IfOk result (λ end. (end ≡ End.Spent) ↔ StillGoes checked.now.term budget) }

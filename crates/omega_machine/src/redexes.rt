@@ -2,7 +2,7 @@
 ghost use Rattle.std.specs.Prelude.{◌≡◌, IfOk};
 ghost use Rattle.omega_terms.specs.Steps.{IsValue, Step as StepsTo};
 ghost use Rattle.omega_terms.specs.Term.{Term as TermTree};
-ghost use Rattle.omega_machine.specs.Contexts.{fill_ready};
+ghost use Rattle.omega_machine.specs.Contexts.{fill_ready, case_of};
 ghost use Rattle.omega_machine.specs.Moves.{IsTyped, IsSoundReady};
 ghost use Rattle.omega_machine.specs.Reducts.{Reduces};
 
@@ -35,6 +35,8 @@ pub(crate) fn reduce(alloc: Global, frame: Ready, value: &Term) -> Result<Step, 
         Ready::Opened(body) => Ok(Step::To(Focus::Term(open(alloc, value, &body)?))),
         Ready::Test(yes, no) => Ok(Step::To(Focus::Term(branch(value, yes, no)))),
         Ready::Right(op, left) => operate(alloc, op, &left, value),
+        Ready::Cased(whole) => Ok(Step::To(Focus::Term(choose(alloc, &whole, value)?))),
+        Ready::Unrolled => Ok(Step::To(Focus::Value(unroll(value)?))),
     }
 }
 
@@ -106,6 +108,36 @@ fn branch(test: &Term, yes: Term, no: Term) -> Term
         unreachable!()
     };
     if *chosen { yes } else { no }
+}
+
+// The branch of a case at the label of an injection, with the injected value put in.
+fn choose(alloc: Global, whole: &Term, injection: &Term) -> Result<Term, Mem>
+    requires injection { IsValue injection.now }
+    requires typed { IsTyped (case_of whole.now injection.now) }
+    ensures { IfOk result (λ e. StepsTo (case_of whole.now injection.now) e) }
+{
+    let TermNode::Inj(label, value, _) = injection.node() else {
+        unreachable!()
+    };
+    let TermNode::Case(_, _, branches) = whole.node() else {
+        unreachable!()
+    };
+    match branches.find(label) {
+        Some(branch) => put_term(alloc, branch, 0, value),
+        None => unreachable!(),
+    }
+}
+
+// The value that is rolled.
+fn unroll(rolled: &Term) -> Result<Term, Mem>
+    requires rolled { IsValue rolled.now }
+    requires typed { IsTyped (TermTree.Unroll rolled.now) }
+    ensures { IfOk result (λ e. StepsTo (TermTree.Unroll rolled.now) e × IsValue e) }
+{
+    let TermNode::Roll(value, _) = rolled.node() else {
+        unreachable!()
+    };
+    value.share()
 }
 
 // The result of an operator, or its fault.

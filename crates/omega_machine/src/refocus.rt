@@ -71,6 +71,13 @@ fn enter(alloc: Global, term: &Term) -> Result<Move, Mem>
         TermNode::Unpack(p, e) => down(Frame::Ready(Ready::Opened(e.share()?)), p),
         TermNode::If(a, b, c) => down(Frame::Ready(Ready::Test(b.share()?, c.share()?)), a),
         TermNode::Arith(op, a, b) => down(Frame::Waiting(Waiting::Left(*op, b.share()?)), a),
+        TermNode::Inj(l, e, t) => down(
+            Frame::Waiting(Waiting::Injected(l.share()?, t.share()?)),
+            e,
+        ),
+        TermNode::Case(e, _, _) => down(Frame::Ready(Ready::Cased(term.share()?)), e),
+        TermNode::Roll(e, t) => down(Frame::Waiting(Waiting::Rolled(t.share()?)), e),
+        TermNode::Unroll(e) => down(Frame::Ready(Ready::Unrolled), e),
         TermNode::Fields(_) => next_field(alloc, term.share()?, TermFields::new(alloc)),
         TermNode::Int(_)
         | TermNode::Bool(_)
@@ -102,6 +109,11 @@ fn resume(alloc: Global, frame: Waiting, value: Term) -> Result<Move, Mem>
             alloc,
             TermNode::Pack(hidden, value, target),
         )?)),
+        Waiting::Injected(label, target) => Ok(Move::Up(Term::make(
+            alloc,
+            TermNode::Inj(label, value, target),
+        )?)),
+        Waiting::Rolled(target) => Ok(Move::Up(Term::make(alloc, TermNode::Roll(value, target))?)),
         Waiting::Field(whole, done) => {
             let done = one_more(&whole, done, value)?;
             next_field(alloc, whole, done)

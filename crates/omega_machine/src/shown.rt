@@ -92,14 +92,42 @@ fn show(out: &mut Vec<u8>, value: &Term) -> Result<(), Mem>
         TermNode::Lam(_, _) | TermNode::TyLam(_, _) | TermNode::Fix(_, _, _) => add(out, b"fun"),
         TermNode::Pack(_, _, _) => add(out, b"pack"),
         TermNode::Fields(fields) => show_record(out, fields),
+        TermNode::Inj(label, part, _) => show_injected(out, label, part),
+        TermNode::Roll(part, _) => show_rolled(out, part),
         TermNode::Var(_)
         | TermNode::Call(_, _)
         | TermNode::Inst(_, _)
         | TermNode::Get(_, _)
         | TermNode::Unpack(_, _)
         | TermNode::If(_, _, _)
-        | TermNode::Arith(_, _, _) => Ok(()),
+        | TermNode::Arith(_, _, _)
+        | TermNode::Case(_, _, _)
+        | TermNode::Unroll(_) => Ok(()),
     }
+}
+
+// Adds the shown form of an injected value: its label and its shown form, in parentheses.
+#[cycle(show)]
+#[inline(never)]
+fn show_injected(out: &mut Vec<u8>, label: &Label, part: &Term) -> Result<(), Mem>
+    ensures { OnOk result (out.new.items ≡ out.old.items ++ (codes "(" then label_text label.now then codes " " then shown part.now then codes ")")) }
+{
+    add(out, b"(")?;
+    add(out, label_bytes(label))?;
+    add(out, b" ")?;
+    show(out, part)?;
+    add(out, b")")
+}
+
+// Adds the shown form of a rolled value: `roll` and its shown form, in parentheses.
+#[cycle(show)]
+#[inline(never)]
+fn show_rolled(out: &mut Vec<u8>, part: &Term) -> Result<(), Mem>
+    ensures { OnOk result (out.new.items ≡ out.old.items ++ (codes "(roll " then shown part.now then codes ")")) }
+{
+    add(out, b"(roll ")?;
+    show(out, part)?;
+    add(out, b")")
 }
 
 // Adds the shown form of a record.

@@ -47,6 +47,10 @@ mutual
   term_scope v n m (Term.If a b c) s = (term_scope v n m a s.0, term_scope v n m b s.1, term_scope v n m c s.2)
   term_scope v n m (Term.Arith op a b) s = (term_scope v n m a s.0, term_scope v n m b s.1)
   term_scope v n m (Term.Fix t u e) s = (ty_scope v n t s.0, ty_scope v n u s.1, term_scope v n _ e s.2)
+  term_scope v n m (Term.Inj l e t) s = (term_scope v n m e s.2, ty_scope v n t s.3)
+  term_scope v n m (Term.Case e t r) s = (term_scope v n m e s.1, ty_scope v n t s.2, term_row_scope v n _ None r s.3)
+  term_scope v n m (Term.Roll e t) s = (term_scope v n m e s.1, ty_scope v n t s.2)
+  term_scope v n m (Term.Unroll e) s = term_scope v n m e s.1
 
   term_row_scope : (v : Version) (n m : ℕ) (last : Option Label) (r : TermRow) → TermRowSpelled v n m last r → TermRowInScope n m r
   term_row_scope v n m last TermRow.End s = tt

@@ -11,7 +11,7 @@ unfolding ty_at
 ty_unfold v zero n bytes = refl
 ty_unfold v (suc d) n bytes = let e : suc d - 1 ≡ d = omega arith in rw (e, below_zero d) refl
 
-pub term_unfold : (v : Version) (d n m : ℕ) (bytes : List ℕ) → term_at v d n m bytes ≡ cond (nat_lt 0 d) (choose (strip (codes "(") bytes) (term_node_at (kind_at (d - 1)) (ty_at v (d - 1)) (term_at v (d - 1)) n m) (term_leaf_at m bytes)) (term_leaf_at m bytes)
+pub term_unfold : (v : Version) (d n m : ℕ) (bytes : List ℕ) → term_at v d n m bytes ≡ cond (nat_lt 0 d) (choose (strip (codes "(") bytes) (term_node_at v (kind_at (d - 1)) (ty_at v (d - 1)) (term_at v (d - 1)) n m) (term_leaf_at m bytes)) (term_leaf_at m bytes)
 unfolding term_at
 term_unfold v zero n m bytes = refl
 term_unfold v (suc d) n m bytes = let e : suc d - 1 ≡ d = omega arith in rw (e, below_zero d) refl

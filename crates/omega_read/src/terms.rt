@@ -1,9 +1,9 @@
 // Terms read from text.
 ghost use Rattle.std.specs.Prelude.{◌≡◌, ◌+◌, ◌*◌, ◌<◌, ◌≤◌, ◌^◌, None, length};
-ghost use Rattle.omega_terms.specs.Term.{Arith, Call, End, Fix, Get, If, Inst, Lam, More, Pack, TyLam, Unpack};
+ghost use Rattle.omega_terms.specs.Term.{Arith, Call, End, Fix, Get, If, Inj, Inst, Lam, More, Pack, Roll, TyLam, Unpack, Unroll};
 ghost use Rattle.omega_terms.specs.Fields.{term_row};
-ghost use Rattle.omega_spelling.specs.Reading.{two, kind_at, ty_at, label_at, field_at, fields_at};
-ghost use Rattle.omega_spelling.specs.TermReading.{three, term_var_at, int_at, text_at, term_leaf_at, op_at, arith_at, term_node_at, term_record_at, term_at};
+ghost use Rattle.omega_spelling.specs.Reading.{one, two, kind_at, ty_at, label_at, field_at, fields_at};
+ghost use Rattle.omega_spelling.specs.TermReading.{three, term_var_at, int_at, text_at, term_leaf_at, op_at, arith_at, case_at, later_term_node_at, term_node_at, term_record_at, term_at};
 ghost use Rattle.omega_read.specs.Gives.{Gives};
 
 use crate::fields::term_may_follow;
@@ -132,7 +132,7 @@ fn node_of(
     left: &mut Left<'_>,
 ) -> Result<Term, Stop>
     requires { types + depth + 1 < 2 ^ 64 × terms + 2 * depth + 2 < 2 ^ 64 }
-    ensures { Gives (λ e. e) result left.new.rest.now (term_node_at (kind_at depth) (ty_at version depth) (term_at version depth) types terms left.old.rest.now) }
+    ensures { Gives (λ e. e) result left.new.rest.now (term_node_at version (kind_at depth) (ty_at version depth) (term_at version depth) types terms left.old.rest.now) }
 {
     if left.eat(b"fn ") {
         return lam_of(alloc, version, depth, types, terms, left);
@@ -164,7 +164,42 @@ fn node_of(
     if left.eat(b"fix ") {
         return fix_of(alloc, version, depth, types, terms, left);
     }
-    arith_of(alloc, version, depth, types, terms, left)
+    later_node_of(alloc, version, depth, types, terms, left)
+}
+
+// A term with parts that the first version does not have, or an operator, behind the parenthesis that opens it.
+#[cycle(terms)]
+#[inline(never)]
+#[tactic(auto, unfolding(omega_spelling::specs::TermReading::second_term_node_at))]
+fn later_node_of(
+    alloc: Global,
+    version: Version,
+    depth: u32,
+    types: u64,
+    terms: u64,
+    left: &mut Left<'_>,
+) -> Result<Term, Stop>
+    requires { types + depth + 1 < 2 ^ 64 × terms + 2 * depth + 2 < 2 ^ 64 }
+    ensures { Gives (λ e. e) result left.new.rest.now (later_term_node_at version (ty_at version depth) (term_at version depth) types terms left.old.rest.now) }
+{
+    match version {
+        Version::First => arith_of(alloc, version, depth, types, terms, left),
+        Version::Second => {
+            if left.eat(b"inj ") {
+                return inj_of(alloc, version, depth, types, terms, left);
+            }
+            if left.eat(b"case ") {
+                return case_of(alloc, version, depth, types, terms, left);
+            }
+            if left.eat(b"roll ") {
+                return roll_of(alloc, version, depth, types, terms, left);
+            }
+            if left.eat(b"unroll ") {
+                return unroll_of(alloc, version, depth, types, terms, left);
+            }
+            arith_of(alloc, version, depth, types, terms, left)
+        }
+    }
 }
 
 // A function, behind the word that begins it.
@@ -382,6 +417,7 @@ fn fix_of(
 
 // An operator between two terms.
 #[cycle(terms)]
+#[inline(never)]
 #[tactic(auto, unfolding(omega_spelling::specs::Reading::two, omega_spelling::specs::TermReading::arith_at))]
 fn arith_of(
     alloc: Global,
@@ -402,7 +438,95 @@ fn arith_of(
     Ok(Term::make(alloc, TermNode::Arith(op, first, second))?)
 }
 
-// The fields up to the parenthesis that closes the record.
+// A labelled term, behind the word that begins it.
+#[cycle(terms)]
+#[inline(never)]
+#[tactic(auto, unfolding(omega_spelling::specs::Reading::two, omega_spelling::specs::TermReading::three))]
+fn inj_of(
+    alloc: Global,
+    version: Version,
+    depth: u32,
+    types: u64,
+    terms: u64,
+    left: &mut Left<'_>,
+) -> Result<Term, Stop>
+    requires { types + depth + 1 < 2 ^ 64 × terms + 2 * depth + 2 < 2 ^ 64 }
+    ensures { Gives (λ e. e) result left.new.rest.now (three Inj label_at (term_at version depth types terms) (ty_at version depth types) left.old.rest.now) }
+{
+    let first = label_of(alloc, left)?;
+    left.expect_bytes(b" ")?;
+    let second = term_of(alloc, version, depth, types, terms, left)?;
+    left.expect_bytes(b" ")?;
+    let third = ty_of(alloc, version, depth, types, left)?;
+    left.expect_bytes(b")")?;
+    Ok(Term::make(alloc, TermNode::Inj(first, second, third))?)
+}
+
+// A case, behind the word that begins it. One more term variable is in scope in its branches.
+#[cycle(terms)]
+#[inline(never)]
+#[tactic(auto, unfolding(omega_spelling::specs::TermReading::case_at))]
+fn case_of(
+    alloc: Global,
+    version: Version,
+    depth: u32,
+    types: u64,
+    terms: u64,
+    left: &mut Left<'_>,
+) -> Result<Term, Stop>
+    requires { types + depth + 1 < 2 ^ 64 × terms + 2 * depth + 2 < 2 ^ 64 }
+    ensures { Gives (λ e. e) result left.new.rest.now (case_at (term_at version depth types terms) (ty_at version depth types) (term_at version depth types (terms + 1)) left.old.rest.now) }
+{
+    let whole = term_of(alloc, version, depth, types, terms, left)?;
+    left.expect_bytes(b" ")?;
+    let answer = ty_of(alloc, version, depth, types, left)?;
+    let branches = fields_of(alloc, version, depth, types, terms + 1, left)?;
+    Ok(Term::make(alloc, TermNode::Case(whole, answer, branches))?)
+}
+
+// A term rolled into a recursive type, behind the word that begins it.
+#[cycle(terms)]
+#[inline(never)]
+#[tactic(auto, unfolding(omega_spelling::specs::Reading::two))]
+fn roll_of(
+    alloc: Global,
+    version: Version,
+    depth: u32,
+    types: u64,
+    terms: u64,
+    left: &mut Left<'_>,
+) -> Result<Term, Stop>
+    requires { types + depth + 1 < 2 ^ 64 × terms + 2 * depth + 2 < 2 ^ 64 }
+    ensures { Gives (λ e. e) result left.new.rest.now (two Roll (term_at version depth types terms) (ty_at version depth types) left.old.rest.now) }
+{
+    let first = term_of(alloc, version, depth, types, terms, left)?;
+    left.expect_bytes(b" ")?;
+    let second = ty_of(alloc, version, depth, types, left)?;
+    left.expect_bytes(b")")?;
+    Ok(Term::make(alloc, TermNode::Roll(first, second))?)
+}
+
+// An unrolled term, behind the word that begins it.
+#[cycle(terms)]
+#[inline(never)]
+#[tactic(auto, unfolding(omega_spelling::specs::Reading::one))]
+fn unroll_of(
+    alloc: Global,
+    version: Version,
+    depth: u32,
+    types: u64,
+    terms: u64,
+    left: &mut Left<'_>,
+) -> Result<Term, Stop>
+    requires { types + depth + 1 < 2 ^ 64 × terms + 2 * depth + 2 < 2 ^ 64 }
+    ensures { Gives (λ e. e) result left.new.rest.now (one Unroll (term_at version depth types terms) left.old.rest.now) }
+{
+    let whole = term_of(alloc, version, depth, types, terms, left)?;
+    left.expect_bytes(b")")?;
+    Ok(Term::make(alloc, TermNode::Unroll(whole))?)
+}
+
+// The fields or branches up to the parenthesis that closes the form.
 #[cycle(terms)]
 fn fields_of(
     alloc: Global,
@@ -412,7 +536,7 @@ fn fields_of(
     terms: u64,
     left: &mut Left<'_>,
 ) -> Result<TermFields, Stop>
-    requires { types + depth + 1 < 2 ^ 64 × terms + 2 * depth + 2 < 2 ^ 64 }
+    requires { types + depth < 2 ^ 64 × terms + 2 * depth < 2 ^ 64 }
     ensures { Gives (λ f. term_row f) result left.new.rest.now (fields_at End More (term_at version depth types terms) (length left.old.rest.now) None left.old.rest.now) }
 {
     let mut fields = TermFields::new(alloc);
@@ -431,7 +555,7 @@ fn fields_of(
     Err(Stop::NotOmega)
 }
 
-// A field, behind the parenthesis that opens it.
+// A field or a branch, behind the parenthesis that opens it.
 #[cycle(terms)]
 #[tactic(auto, unfolding(omega_spelling::specs::Reading::two, omega_spelling::specs::Reading::field_at))]
 fn field_of(
@@ -442,7 +566,7 @@ fn field_of(
     terms: u64,
     left: &mut Left<'_>,
 ) -> Result<(Label, Term), Stop>
-    requires { types + depth + 1 < 2 ^ 64 × terms + 2 * depth + 2 < 2 ^ 64 }
+    requires { types + depth < 2 ^ 64 × terms + 2 * depth < 2 ^ 64 }
     ensures { Gives (λ f. f) result left.new.rest.now (field_at (term_at version depth types terms) left.old.rest.now) }
 {
     let label = label_of(alloc, left)?;

@@ -103,6 +103,11 @@ mutual
   term-sound n m (Term.Arith op a b) w v h = two (term_scoped n m a) (term_scoped n m b) (term-sound n m a w v) (term-sound n m b w v) h
   term-sound n m (Term.Fix t u e) w v h =
       three (ty_scoped n t) (ty_scoped n u) _ (ty-sound n t w) (ty-sound n u w) (under (m + 2) (term_scoped n (m + 2) e) (term-sound n (m + 2) e w)) h
+  term-sound n m (Term.Inj l e t) w v h = two (term_scoped n m e) (ty_scoped n t) (term-sound n m e w v) (ty-sound n t w) h
+  term-sound n m (Term.Case e t row) w v h =
+      three (term_scoped n m e) (ty_scoped n t) _ (term-sound n m e w v) (ty-sound n t w) (under (m + 1) (term_row_scoped n (m + 1) row) (term_row-sound n (m + 1) row w)) h
+  term-sound n m (Term.Roll e t) w v h = two (term_scoped n m e) (ty_scoped n t) (term-sound n m e w v) (ty-sound n t w) h
+  term-sound n m (Term.Unroll e) w v h = term-sound n m e w v h
 
   term_row-sound : (n m : ℕ) (row : TermRow) → n < 2 ^ 64 → m < 2 ^ 64 → term_row_scoped n m row ≡ true → TermRowInScope n m row
   term_row-sound n m TermRow.End w v h = tt
@@ -141,6 +146,15 @@ mutual
       let body = under_true (m + 2) (term_scoped n (m + 2) e) (omega arith) (term-complete n (m + 2) e s.2 (omega arith) (omega arith)) in
       let rest = and_from (ty_scoped n u) (fits (m + 2) && term_scoped n (m + 2) e) (ty-complete n u s.1 (omega arith)) body in
       and_from (ty_scoped n t) _ (ty-complete n t s.0 (omega arith)) rest
+  term-complete n m (Term.Inj l e t) s g h =
+      and_from (term_scoped n m e) (ty_scoped n t) (term-complete n m e s.0 (omega arith) h) (ty-complete n t s.1 (omega arith))
+  term-complete n m (Term.Case e t row) s g h =
+      let branches = under_true (m + 1) (term_row_scoped n (m + 1) row) (omega arith) (term_row-complete n (m + 1) row s.2 (omega arith) (omega arith)) in
+      let rest = and_from (ty_scoped n t) _ (ty-complete n t s.1 (omega arith)) branches in
+      and_from (term_scoped n m e) _ (term-complete n m e s.0 (omega arith) (omega arith)) rest
+  term-complete n m (Term.Roll e t) s g h =
+      and_from (term_scoped n m e) (ty_scoped n t) (term-complete n m e s.0 (omega arith) h) (ty-complete n t s.1 (omega arith))
+  term-complete n m (Term.Unroll e) s g h = term-complete n m e s g h
 
   term_row-complete : (n m : ℕ) (row : TermRow) → TermRowInScope n m row → n + row_type_depth row < 2 ^ 64 → m + row_term_depth row < 2 ^ 64 → term_row_scoped n m row ≡ true
   term_row-complete n m TermRow.End s g h = refl

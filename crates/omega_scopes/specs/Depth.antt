@@ -40,6 +40,10 @@ abbrev mutual
   type_depth (Term.If a b c) = max (type_depth a) (max (type_depth b) (type_depth c))
   type_depth (Term.Arith op a b) = max (type_depth a) (type_depth b)
   type_depth (Term.Fix t u e) = max (ty_depth t) (max (ty_depth u) (type_depth e))
+  type_depth (Term.Inj l e t) = max (type_depth e) (ty_depth t)
+  type_depth (Term.Case e t row) = max (type_depth e) (max (ty_depth t) (row_type_depth row))
+  type_depth (Term.Roll e t) = max (type_depth e) (ty_depth t)
+  type_depth (Term.Unroll e) = type_depth e
 
   pub row_type_depth : TermRow → ℕ
   row_type_depth TermRow.End = 0
@@ -63,6 +67,10 @@ abbrev mutual
   term_depth (Term.If a b c) = max (term_depth a) (max (term_depth b) (term_depth c))
   term_depth (Term.Arith op a b) = max (term_depth a) (term_depth b)
   term_depth (Term.Fix t u e) = term_depth e + 2
+  term_depth (Term.Inj l e t) = term_depth e
+  term_depth (Term.Case e t row) = max (term_depth e) (row_term_depth row + 1)
+  term_depth (Term.Roll e t) = term_depth e
+  term_depth (Term.Unroll e) = term_depth e
 
   pub row_term_depth : TermRow → ℕ
   row_term_depth TermRow.End = 0

@@ -43,6 +43,10 @@ abbrev mutual
   term_scoped n m (Term.If a b c) = term_scoped n m a && (term_scoped n m b && term_scoped n m c)
   term_scoped n m (Term.Arith op a b) = term_scoped n m a && term_scoped n m b
   term_scoped n m (Term.Fix t u e) = ty_scoped n t && (ty_scoped n u && (fits (m + 2) && term_scoped n (m + 2) e))
+  term_scoped n m (Term.Inj l e t) = term_scoped n m e && ty_scoped n t
+  term_scoped n m (Term.Case e t row) = term_scoped n m e && (ty_scoped n t && (fits (m + 1) && term_row_scoped n (m + 1) row))
+  term_scoped n m (Term.Roll e t) = term_scoped n m e && ty_scoped n t
+  term_scoped n m (Term.Unroll e) = term_scoped n m e
 
   pub term_row_scoped : (n m : ℕ) → TermRow → Truth
   term_row_scoped n m TermRow.End = true

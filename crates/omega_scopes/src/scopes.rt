@@ -97,6 +97,12 @@ fn fits_term(types: u64, terms: u64, term: &Term) -> bool
         TermNode::Fix(t, u, e) => {
             fits_ty(types, t) && fits_ty(types, u) && fits_under_two(types, terms, e)
         }
+        TermNode::Inj(_, e, t) => fits_term(types, terms, e) && fits_ty(types, t),
+        TermNode::Case(e, t, branches) => {
+            fits_term(types, terms, e) && fits_ty(types, t) && fits_branches(types, terms, branches)
+        }
+        TermNode::Roll(e, t) => fits_term(types, terms, e) && fits_ty(types, t),
+        TermNode::Unroll(e) => fits_term(types, terms, e),
     }
 }
 
@@ -140,6 +146,17 @@ fn fits_under_both(types: u64, terms: u64, body: &Term) -> bool
 {
     match types.checked_add(1) {
         Some(types) => fits_under_term(types, terms, body),
+        None => false,
+    }
+}
+
+// Whether each variable of the branches is in scope, each of which binds a term variable.
+#[cycle(terms)]
+fn fits_branches(types: u64, terms: u64, branches: &TermFields) -> bool
+    ensures { result ≡ (fits (terms + 1) && term_row_scoped types (terms + 1) (term_row branches.now)) }
+{
+    match terms.checked_add(1) {
+        Some(terms) => fits_term_fields(types, terms, branches),
         None => false,
     }
 }

@@ -4,12 +4,11 @@ use Rattle.std.proofs.lemmas.Bool.{false≢true}
 use Rattle.std.specs.Ordering.{is_eq}
 use Rattle.omega_kinds.specs.LabelOrder.{label_cmp}
 use Rattle.omega_types.specs.Fields.{Pairs, row}
-use Rattle.omega_terms.specs.Term.{Term}
 use Rattle.omega_terms.specs.Fields.{TermPairs, term_row}
 use Rattle.omega_simplify_laws.specs.Simplified.{is_part, are_parts}
 
 -- where there is no new term, the old one stands
-pub none-stays : (new : Option Term) (old : Term) → is_none new ≡ true → unwrap_or new old ≡ old
+pub none-stays : {A : Type 0} (new : Option A) (old : A) → is_none new ≡ true → unwrap_or new old ≡ old
 none-stays None old h = refl
 none-stays (Some e) old h = absurd (false≢true h)
 

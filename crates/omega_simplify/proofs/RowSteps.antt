@@ -1,4 +1,4 @@
--- What becomes of the fields of a record.
+-- What becomes of the fields of a record, and of the branches of a case.
 use Rattle.std.proofs.Common.{◌≡◌, ℕ, ◌≤◌, [], ◌∷◌, length, take, refl, sym, ap, ◌∙◌}
 use Rattle.omega_terms.specs.Term.{TermRow}
 use Rattle.omega_terms.specs.Fields.{TermPairs, term_row}
@@ -9,7 +9,7 @@ use Rattle.omega_simplify_laws.specs.Simplified.{simplified, simplified_row}
 abbrev pub same_terms : TermPairs → TermPairs
 same_terms xs = map_terms (λ e. e) xs
 
-row-same : (xs : TermPairs) → term_row (same_terms xs) ≡ term_row xs
+pub row-same : (xs : TermPairs) → term_row (same_terms xs) ≡ term_row xs
 row-same [] = refl
 row-same (x ∷ xs) = ap (TermRow.More x.0 x.1) (row-same xs)
 

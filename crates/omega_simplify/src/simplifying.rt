@@ -54,6 +54,10 @@ fn simpler(alloc: Global, term: &Term) -> Result<Option<Term>, Mem>
         TermNode::If(a, b, c) => simpler_choice(alloc, a, b, c),
         TermNode::Arith(op, a, b) => simpler_arith(alloc, *op, a, b),
         TermNode::Fix(t, u, e) => simpler_fix(alloc, t, u, e),
+        TermNode::Inj(l, e, t) => simpler_injected(alloc, l, e, t),
+        TermNode::Case(e, t, branches) => simpler_case(alloc, e, t, branches),
+        TermNode::Roll(e, t) => simpler_rolled(alloc, e, t),
+        TermNode::Unroll(e) => simpler_unrolled(alloc, e),
     }
 }
 
@@ -237,7 +241,87 @@ fn simpler_fix(alloc: Global, t: &Ty, u: &Ty, e: &Term) -> Result<Option<Term>, 
     Ok(Some(Term::make(alloc, TermNode::Fix(t.share()?, u.share()?, e))?))
 }
 
-// The fields of a record, if one of them becomes another.
+// A term injected into a sum.
+#[cycle(simpler)]
+#[inline(never)]
+fn simpler_injected(alloc: Global, l: &Label, e: &Term, t: &Ty) -> Result<Option<Term>, Mem>
+    ensures { IfOk result (λ new. unwrap_or new (TermTree.Inj l.now e.now t.now) ≡ simplified (TermTree.Inj l.now e.now t.now)) }
+{
+    let Some(e) = simpler(alloc, e)? else {
+        return Ok(None);
+    };
+    Ok(Some(Term::make(alloc, TermNode::Inj(l.share()?, e, t.share()?))?))
+}
+
+// A case of a sum.
+#[cycle(simpler)]
+#[inline(never)]
+#[tactic(auto, using(crate::proofs::PartSteps::parts))]
+fn simpler_case(alloc: Global, e: &Term, t: &Ty, branches: &TermFields) -> Result<Option<Term>, Mem>
+    ensures { IfOk result (λ new. unwrap_or new (TermTree.Case e.now t.now (term_row branches.now)) ≡ simplified (TermTree.Case e.now t.now (term_row branches.now))) }
+{
+    let whole = simpler(alloc, e)?;
+    let row = simpler_row(alloc, branches)?;
+    if whole.is_none() && row.is_none() {
+        return Ok(None);
+    }
+    let whole = new_or_shared(whole, e)?;
+    let row = new_or_shared_row(alloc, row, branches)?;
+    Ok(Some(Term::make(alloc, TermNode::Case(whole, t.share()?, row))?))
+}
+
+// The new branches, or else the old ones.
+fn new_or_shared_row(
+    alloc: Global,
+    new: Option<TermFields>,
+    old: &TermFields,
+) -> Result<TermFields, Mem>
+    ensures { IfOk result (λ row. term_row row ≡ term_row (unwrap_or new old.now)) }
+{
+    match new {
+        Some(row) => Ok(row),
+        None => shared_row(alloc, old),
+    }
+}
+
+// The same branches, with their terms shared.
+#[inline(never)]
+#[tactic(auto, using(crate::proofs::RowSteps::rows))]
+fn shared_row(alloc: Global, branches: &TermFields) -> Result<TermFields, Mem>
+    ensures { IfOk result (λ row. term_row row ≡ term_row branches.now) }
+{
+    let mut row = TermFields::with_capacity(alloc, branches.items().len())?;
+    for branch in branches.items() {
+        row.push((branch.0.share()?, branch.1.share()?))?;
+    }
+    Ok(row)
+}
+
+// A rolled term.
+#[cycle(simpler)]
+#[inline(never)]
+fn simpler_rolled(alloc: Global, e: &Term, t: &Ty) -> Result<Option<Term>, Mem>
+    ensures { IfOk result (λ new. unwrap_or new (TermTree.Roll e.now t.now) ≡ simplified (TermTree.Roll e.now t.now)) }
+{
+    let Some(e) = simpler(alloc, e)? else {
+        return Ok(None);
+    };
+    Ok(Some(Term::make(alloc, TermNode::Roll(e, t.share()?))?))
+}
+
+// An unrolled term.
+#[cycle(simpler)]
+#[inline(never)]
+fn simpler_unrolled(alloc: Global, e: &Term) -> Result<Option<Term>, Mem>
+    ensures { IfOk result (λ new. unwrap_or new (TermTree.Unroll e.now) ≡ simplified (TermTree.Unroll e.now)) }
+{
+    let Some(e) = simpler(alloc, e)? else {
+        return Ok(None);
+    };
+    Ok(Some(Term::make(alloc, TermNode::Unroll(e))?))
+}
+
+// The fields of a record, or the branches of a case, if one of them becomes another.
 #[cycle(simpler)]
 #[tactic(auto, using(crate::proofs::RowSteps::rows))]
 fn simpler_row(alloc: Global, fields: &TermFields) -> Result<Option<TermFields>, Mem>

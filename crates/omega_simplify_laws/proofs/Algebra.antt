@@ -21,6 +21,8 @@ mutual
   ren_value q r IsValue.fix = IsValue.fix
   ren_value q r (IsValue.fields v) = IsValue.fields (ren_values q r v)
   ren_value q r (IsValue.pack v) = IsValue.pack (ren_value q r v)
+  ren_value q r (IsValue.inj v) = IsValue.inj (ren_value q r v)
+  ren_value q r (IsValue.roll v) = IsValue.roll (ren_value q r v)
 
   ren_values : {f : TermRow} (q r : ℕ → ℕ) → AreValues f → AreValues (ren_fields q r f)
   ren_values q r AreValues.end = AreValues.end
@@ -51,6 +53,10 @@ mutual
   ren_like q r (Like.if_ p x y) = Like.if_ (ren_like q r p) (ren_like q r x) (ren_like q r y)
   ren_like q r (Like.arith p x l) = Like.arith (ren_like q r p) (ren_like q r x) l
   ren_like q r (Like.fix p) = Like.fix (ren_like q (lift (lift r)) p)
+  ren_like q r (Like.inj p) = Like.inj (ren_like q r p)
+  ren_like q r (Like.case p x) = Like.case (ren_like q r p) (ren_are_like q (lift r) x)
+  ren_like q r (Like.roll p) = Like.roll (ren_like q r p)
+  ren_like q r (Like.unroll p) = Like.unroll (ren_like q r p)
   ren_like q r (Like.drop g p l) = Like.drop (ren_gives_back q r g) (ren_like q r p) l
   ren_like q r (Like.part p v x l) = Like.part (ren_like q r p) (ren_values q r v) (ren_field q r x) l
 
@@ -76,6 +82,8 @@ mutual
   sub_value s w IsValue.fix = IsValue.fix
   sub_value s w (IsValue.fields v) = IsValue.fields (sub_values s w v)
   sub_value s w (IsValue.pack v) = IsValue.pack (sub_value s w v)
+  sub_value s w (IsValue.inj v) = IsValue.inj (sub_value s w v)
+  sub_value s w (IsValue.roll v) = IsValue.roll (sub_value s w v)
 
   sub_values : {f : TermRow} (s : ℕ → Ty) (w : ℕ → Term) → AreValues f → AreValues (sub_fields s w f)
   sub_values s w AreValues.end = AreValues.end
@@ -134,6 +142,10 @@ mutual
   sub_like s w v f (Like.if_ p x y) = Like.if_ (sub_like s w v f p) (sub_like s w v f x) (sub_like s w v f y)
   sub_like s w v f (Like.arith p x l) = Like.arith (sub_like s w v f p) (sub_like s w v f x) l
   sub_like s w v f (Like.fix p) = Like.fix (sub_like s (up_term (up_term w)) (up_term (up_term v)) (like_up (like_up f)) p)
+  sub_like s w v f (Like.inj p) = Like.inj (sub_like s w v f p)
+  sub_like s w v f (Like.case p x) = Like.case (sub_like s w v f p) (sub_are_like s (up_term w) (up_term v) (like_up f) x)
+  sub_like s w v f (Like.roll p) = Like.roll (sub_like s w v f p)
+  sub_like s w v f (Like.unroll p) = Like.unroll (sub_like s w v f p)
   sub_like s w v f (Like.drop g p l) = Like.drop (sub_gives_back s w v f g) (sub_like s w v f p) l
   sub_like s w v f (Like.part p x y l) = Like.part (sub_like s w v f p) (sub_values s v x) (sub_field s v y) l
 

@@ -40,6 +40,10 @@ mutual
   faults_too (Like.arith p q l) (Faults.arith_left s) = Faults.arith_left (faults_too p s)
   faults_too (Like.arith p q l) (Faults.arith_right v s) = Faults.arith_right (value_like v p) (faults_too q s)
   faults_too (Like.arith p q l) (Faults.arith e) = arith_faults p q e
+  faults_too (Like.inj p) (Faults.inj_part s) = Faults.inj_part (faults_too p s)
+  faults_too (Like.case p q) (Faults.case_whole s) = Faults.case_whole (faults_too p s)
+  faults_too (Like.roll p) (Faults.roll_part s) = Faults.roll_part (faults_too p s)
+  faults_too (Like.unroll p) (Faults.unroll_whole s) = Faults.unroll_whole (faults_too p s)
 
   pub fields_fault_too : {n : ℕ} {f g : TermRow} {x : Fault} → AreLike n f g → FieldFaults f x → FieldFaults g x
   fields_fault_too AreLike.end s = elim s [ ]

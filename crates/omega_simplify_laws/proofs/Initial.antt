@@ -61,6 +61,10 @@ mutual
       let u = start b in
       record { weight = s.weight + u.weight; like = Like.arith s.like u.like (omega arith); gives = λ h. not_flat h }
   start (Term.Fix t u e) = record { weight = 0; like = Like.fix (start e).like; gives = λ h. not_flat h }
+  start (Term.Inj l e t) = let s = start e in record { weight = s.weight; like = Like.inj s.like; gives = λ h. not_flat h }
+  start (Term.Case e t f) = let s = start e in record { weight = s.weight; like = Like.case s.like (start_row f).like; gives = λ h. not_flat h }
+  start (Term.Roll e t) = let s = start e in record { weight = s.weight; like = Like.roll s.like; gives = λ h. not_flat h }
+  start (Term.Unroll e) = let s = start e in record { weight = s.weight; like = Like.unroll s.like; gives = λ h. not_flat h }
 
   pub start_row : (f : TermRow) → StartRow f (simplified_row f)
   start_row TermRow.End = record { weight = 0; like = AreLike.end }

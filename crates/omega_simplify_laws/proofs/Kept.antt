@@ -8,9 +8,9 @@ use Rattle.omega_types.specs.Kinding.HasKind.{k_arrow}
 use Rattle.omega_types.specs.Kinding.HasKinds.{k_end, k_more}
 use Rattle.omega_types.specs.Conversion.{Conv}
 use Rattle.omega_types.specs.Conversion.Conv.{c_sym, c_trans}
-use Rattle.omega_types.proofs.Inverse.{arrow_parts, ex-kinds, fields-kinds}
+use Rattle.omega_types.proofs.Inverse.{arrow_parts, ex-kinds, fields-kinds, sum-kinds}
 use Rattle.omega_terms.specs.Term.{Term, TermRow}
-use Rattle.omega_terms.specs.Typing.{At, HasType, FieldsHave, HasPart, GoodVars}
+use Rattle.omega_terms.specs.Typing.{At, HasType, FieldsHave, BranchesHave, HasPart, GoodVars}
 use Rattle.omega_terms.proofs.TypingLaws.{good-more, good-shift, type-kind}
 use Rattle.omega_laws.proofs.Unique.{Own, invert, unique}
 use Rattle.omega_simplify_laws.specs.Simplified.{is_flat, call_of, simplified, simplified_row}
@@ -71,9 +71,18 @@ mutual
   kept g (HasType.if_ h i j) = HasType.if_ (kept g h) (kept g i) (kept g j)
   kept g (HasType.arith h i) = HasType.arith (kept g h) (kept g i)
   kept g (HasType.fix k j h) = HasType.fix k j (kept (good-more k (good-more (k_arrow k j) g)) h)
+  kept g (HasType.inj c p h) = HasType.inj c p (kept g h)
+  kept g (HasType.case h k b) = HasType.case (kept g h) k (kept_branches g (sum-kinds (type-kind g h)) b)
+  kept g (HasType.roll c h) = HasType.roll c (kept g h)
+  kept g (HasType.unroll h) = HasType.unroll (kept g h)
   kept g (HasType.conv h c) = HasType.conv (kept g h) c
 
   pub kept_fields : {ctx : List Kind} {vars : List Ty} {f : TermRow} {r : Row} → GoodVars ctx vars → FieldsHave ctx vars f r →
       FieldsHave ctx vars (simplified_row f) r
   kept_fields g FieldsHave.end = FieldsHave.end
   kept_fields g (FieldsHave.more h d i) = FieldsHave.more (kept g h) d (kept_fields g i)
+
+  pub kept_branches : {ctx : List Kind} {vars : List Ty} {f : TermRow} {r : Row} {t : Ty} → GoodVars ctx vars → HasKinds ctx r →
+      BranchesHave ctx vars f r t → BranchesHave ctx vars (simplified_row f) r t
+  kept_branches g k_end BranchesHave.none = BranchesHave.none
+  kept_branches g (k_more d k ks) (BranchesHave.branch h i) = BranchesHave.branch (kept (good-more k g) h) (kept_branches g ks i)

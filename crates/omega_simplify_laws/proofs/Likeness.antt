@@ -27,6 +27,10 @@ mutual
     if_ : {n j k : ℕ} {a b c x y z : Term} → Like n a x → Like j b y → Like k c z → Like n (Term.If a b c) (Term.If x y z)
     arith : {n i j : ℕ} {o : Op} {a b x y : Term} → Like i a x → Like j b y → i + j ≤ n → Like n (Term.Arith o a b) (Term.Arith o x y)
     fix : {n k : ℕ} {t u : Ty} {e d : Term} → Like k e d → Like n (Term.Fix t u e) (Term.Fix t u d)
+    inj : {n : ℕ} {l : Label} {e d : Term} {t : Ty} → Like n e d → Like n (Term.Inj l e t) (Term.Inj l d t)
+    case : {n k : ℕ} {e d : Term} {t : Ty} {f g : TermRow} → Like n e d → AreLike k f g → Like n (Term.Case e t f) (Term.Case d t g)
+    roll : {n : ℕ} {e d : Term} {t : Ty} → Like n e d → Like n (Term.Roll e t) (Term.Roll d t)
+    unroll : {n : ℕ} {e d : Term} → Like n e d → Like n (Term.Unroll e) (Term.Unroll d)
     -- the call of a function that gives its argument back is still to be done
     drop : {n i j : ℕ} {f a b : Term} → GivesBack i f → Like j a b → i + j < n → Like n (Term.Call f a) b
     -- a value is still to be taken out of a record

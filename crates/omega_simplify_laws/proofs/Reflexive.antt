@@ -28,6 +28,10 @@ mutual
   itself (Term.If a b c) = let s = itself a in record { weight = s.weight; like = Like.if_ s.like (itself b).like (itself c).like }
   itself (Term.Arith o a b) = let s = itself a in let u = itself b in record { weight = s.weight + u.weight; like = Like.arith s.like u.like (omega arith) }
   itself (Term.Fix t u e) = record { weight = 0; like = Like.fix (itself e).like }
+  itself (Term.Inj l e t) = let s = itself e in record { weight = s.weight; like = Like.inj s.like }
+  itself (Term.Case e t f) = let s = itself e in record { weight = s.weight; like = Like.case s.like (themselves f).like }
+  itself (Term.Roll e t) = let s = itself e in record { weight = s.weight; like = Like.roll s.like }
+  itself (Term.Unroll e) = let s = itself e in record { weight = s.weight; like = Like.unroll s.like }
 
   themselves : (f : TermRow) → AreLikeThemselves f
   themselves TermRow.End = record { weight = 0; like = AreLike.end }

@@ -46,6 +46,8 @@ mutual
   shown_like IsValue.fix (Like.fix p) = refl
   shown_like (IsValue.fields v) (Like.fields p) = shown_record v p
   shown_like (IsValue.pack v) (Like.pack p) = refl
+  shown_like (IsValue.inj {l = l} v) (Like.inj p) = λ i. codes "(" then label_text l then codes " " then shown_like v p i then codes ")"
+  shown_like (IsValue.roll v) (Like.roll p) = λ i. codes "(roll " then shown_like v p i then codes ")"
 
   shown_record : {n : ℕ} {f g : TermRow} → AreValues f → AreLike n f g → shown (Term.Fields f) ≡ shown (Term.Fields g)
   shown_record AreValues.end AreLike.end = refl
@@ -74,3 +76,5 @@ text_like IsValue.ty_lam (Like.ty_lam p) = refl
 text_like IsValue.fix (Like.fix p) = refl
 text_like (IsValue.fields v) (Like.fields p) = lines_like v p
 text_like (IsValue.pack v) (Like.pack p) = text_like v p
+text_like (IsValue.inj v) (Like.inj p) = refl
+text_like (IsValue.roll v) (Like.roll p) = refl

@@ -18,6 +18,7 @@ use Rattle.omega_simplify_laws.proofs.Values.{value_like, values_like, at_any, f
 use Rattle.omega_simplify_laws.proofs.Parts.{like_record}
 use Rattle.omega_simplify_laws.proofs.TypedParts.{IsTyped, AreTyped, call_function_typed, call_arg_typed, inst_typed, fields_typed}
 use Rattle.omega_simplify_laws.proofs.TypedParts.{get_typed, pack_typed, unpack_typed, if_typed, arith_left_typed, arith_right_typed}
+use Rattle.omega_simplify_laws.proofs.TypedParts.{inj_typed, case_typed, roll_typed, unroll_typed}
 use Rattle.omega_simplify_laws.proofs.TypedParts.{here_typed, there_typed, arg_typed, rebuilt}
 use Rattle.omega_simplify_laws.proofs.Given.{GivesLess, given_step}
 
@@ -77,6 +78,22 @@ arith_right_follows : {n i j : ℕ} {o : Op} {a b c d : Term} → IsValue b → 
 arith_right_follows {i = i} v p (Follows.stays {k = k} q m) l = Follows.stays {k = i + k} (Like.arith p q (omega arith)) (omega arith)
 arith_right_follows {i = i} v p (Follows.steps {k = k} s q) l = Follows.steps {k = i + k} (Step.arith_right v s) (Like.arith p q (omega arith))
 
+inj_follows : {n : ℕ} {c d : Term} (l : Label) (t : Ty) → Follows n c d → Follows n (Term.Inj l c t) (Term.Inj l d t)
+inj_follows l t (Follows.stays p m) = Follows.stays (Like.inj p) m
+inj_follows l t (Follows.steps s p) = Follows.steps (Step.inj_part s) (Like.inj p)
+
+case_follows : {n k : ℕ} {c d : Term} {f g : TermRow} (t : Ty) → Follows n c d → AreLike k f g → Follows n (Term.Case c t f) (Term.Case d t g)
+case_follows t (Follows.stays p m) q = Follows.stays (Like.case p q) m
+case_follows t (Follows.steps s p) q = Follows.steps (Step.case_whole s) (Like.case p q)
+
+roll_follows : {n : ℕ} {c d : Term} (t : Ty) → Follows n c d → Follows n (Term.Roll c t) (Term.Roll d t)
+roll_follows t (Follows.stays p m) = Follows.stays (Like.roll p) m
+roll_follows t (Follows.steps s p) = Follows.steps (Step.roll_part s) (Like.roll p)
+
+unroll_follows : {n : ℕ} {c d : Term} → Follows n c d → Follows n (Term.Unroll c) (Term.Unroll d)
+unroll_follows (Follows.stays p m) = Follows.stays (Like.unroll p) m
+unroll_follows (Follows.steps s p) = Follows.steps (Step.unroll_whole s) (Like.unroll p)
+
 here_follows : {n i j : ℕ} {l : Label} {c d : Term} {f g : TermRow} → Follows i c d → AreLike j f g → i + j ≤ n →
     RowFollows n (TermRow.More l c f) (TermRow.More l d g)
 here_follows {j = j} (Follows.stays {k = k} p m) q l = RowFollows.stays {k = k + j} (AreLike.more p q (omega arith)) (omega arith)
@@ -115,6 +132,17 @@ false_follows Like.bool q = Follows.steps Step.if_false q
 
 get_fields_follows : {n i : ℕ} {f : TermRow} {l : Label} {c d : Term} → Like i (Term.Fields f) d → AreValues f → HasField f l c → Follows n c (Term.Get d l)
 get_fields_follows (Like.fields p) vs x = let r = field_like p x in Follows.steps (Step.get_fields (values_like vs p) r.at) r.like
+
+-- the branch at the label, with what was injected put in
+case_inj_follows : {n i k : ℕ} {l : Label} {v e g : Term} {t u : Ty} {a b : TermRow} → Like i (Term.Inj l v u) g → IsValue v → AreLike k a b →
+    HasField a l e → Follows n (put_arg v e) (Term.Case g t b)
+case_inj_follows (Like.inj p) v q x =
+    let r = field_like q x in
+    Follows.steps (Step.case_inj (value_like v p) r.at)
+    (sub_like Ty.Var (first_term _ Term.Var) (first_term _ Term.Var) (first_like (λ k. at_any k v p)) r.like)
+
+unroll_roll_follows : {n i : ℕ} {v g : Term} {t : Ty} → Like i (Term.Roll v t) g → IsValue v → Follows n v (Term.Unroll g)
+unroll_roll_follows (Like.roll p) v = Follows.steps (Step.unroll_roll (value_like v p)) p
 
 -- the value that was still to be taken out
 part_taken : {n i : ℕ} {f g : TermRow} {l : Label} {c d : Term} → Like i (Term.Fields f) (Term.Fields g) → AreValues f → HasField f l c →
@@ -188,6 +216,12 @@ mutual
   follows (Like.arith p q l) h (Step.arith_left s) = arith_left_follows (follows p (arith_left_typed h) s) q l
   follows (Like.arith p q l) h (Step.arith_right v s) = arith_right_follows (value_like v p) p (follows q (arith_right_typed h) s) l
   follows (Like.arith p q l) h (Step.arith e) = arith_follows p q e
+  follows (Like.inj {l = l} {t = t} p) h (Step.inj_part s) = inj_follows l t (follows p (inj_typed h) s)
+  follows (Like.case {t = t} p q) h (Step.case_whole s) = case_follows t (follows p (case_typed h) s) q
+  follows (Like.case p q) h (Step.case_inj v x) = case_inj_follows p v q x
+  follows (Like.roll {t = t} p) h (Step.roll_part s) = roll_follows t (follows p (roll_typed h) s)
+  follows (Like.unroll p) h (Step.unroll_whole s) = unroll_follows (follows p (unroll_typed h) s)
+  follows (Like.unroll p) h (Step.unroll_roll v) = unroll_roll_follows p v
 
   pub row_follows : {n : ℕ} {f g h : TermRow} → AreLike n f g → AreTyped f → FieldStep f h → RowFollows n h g
   row_follows AreLike.end t s = elim s [ ]

@@ -64,6 +64,18 @@ arith_left_own (Own.arith h i) = (_, h)
 arith_right_own : {o : Op} {a b : Term} {t : Ty} → Own [] [] (Term.Arith o a b) t → IsTyped b
 arith_right_own (Own.arith h i) = (_, i)
 
+inj_own : {l : Label} {e : Term} {u t : Ty} → Own [] [] (Term.Inj l e u) t → IsTyped e
+inj_own (Own.inj c p h) = (_, h)
+
+case_own : {e : Term} {u t : Ty} {f : TermRow} → Own [] [] (Term.Case e u f) t → IsTyped e
+case_own (Own.case h k b) = (_, h)
+
+roll_own : {e : Term} {u t : Ty} → Own [] [] (Term.Roll e u) t → IsTyped e
+roll_own (Own.roll c h) = (_, h)
+
+unroll_own : {e : Term} {t : Ty} → Own [] [] (Term.Unroll e) t → IsTyped e
+unroll_own (Own.unroll h) = (_, h)
+
 pub call_function_typed : {f a : Term} → IsTyped (Term.Call f a) → IsTyped f
 call_function_typed h = call_function_own (own_of h).1
 
@@ -93,6 +105,18 @@ arith_left_typed h = arith_left_own (own_of h).1
 
 pub arith_right_typed : {o : Op} {a b : Term} → IsTyped (Term.Arith o a b) → IsTyped b
 arith_right_typed h = arith_right_own (own_of h).1
+
+pub inj_typed : {l : Label} {e : Term} {u : Ty} → IsTyped (Term.Inj l e u) → IsTyped e
+inj_typed h = inj_own (own_of h).1
+
+pub case_typed : {e : Term} {u : Ty} {f : TermRow} → IsTyped (Term.Case e u f) → IsTyped e
+case_typed h = case_own (own_of h).1
+
+pub roll_typed : {e : Term} {u : Ty} → IsTyped (Term.Roll e u) → IsTyped e
+roll_typed h = roll_own (own_of h).1
+
+pub unroll_typed : {e : Term} → IsTyped (Term.Unroll e) → IsTyped e
+unroll_typed h = unroll_own (own_of h).1
 
 pub here_typed : {l : Label} {e : Term} {f : TermRow} → AreTyped (TermRow.More l e f) → IsTyped e
 here_typed (r, FieldsHave.more h d i) = (_, h)

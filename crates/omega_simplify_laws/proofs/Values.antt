@@ -16,6 +16,8 @@ mutual
   value_like IsValue.fix (Like.fix p) = IsValue.fix
   value_like (IsValue.fields v) (Like.fields p) = IsValue.fields (values_like v p)
   value_like (IsValue.pack v) (Like.pack p) = IsValue.pack (value_like v p)
+  value_like (IsValue.inj v) (Like.inj p) = IsValue.inj (value_like v p)
+  value_like (IsValue.roll v) (Like.roll p) = IsValue.roll (value_like v p)
 
   pub values_like : {n : ℕ} {f g : TermRow} → AreValues f → AreLike n f g → AreValues g
   values_like AreValues.end AreLike.end = AreValues.end
@@ -32,6 +34,8 @@ mutual
   at_any k IsValue.fix (Like.fix p) = Like.fix p
   at_any k (IsValue.fields v) (Like.fields p) = Like.fields (all_at_any k v p)
   at_any k (IsValue.pack v) (Like.pack p) = Like.pack (at_any k v p)
+  at_any k (IsValue.inj v) (Like.inj p) = Like.inj (at_any k v p)
+  at_any k (IsValue.roll v) (Like.roll p) = Like.roll (at_any k v p)
 
   pub all_at_any : {n : ℕ} {f g : TermRow} (k : ℕ) → AreValues f → AreLike n f g → AreLike k f g
   all_at_any k AreValues.end AreLike.end = AreLike.end

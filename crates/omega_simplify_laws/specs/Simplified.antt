@@ -51,6 +51,10 @@ abbrev mutual
   simplified (Term.If a b c) = Term.If (simplified a) (simplified b) (simplified c)
   simplified (Term.Arith o a b) = Term.Arith o (simplified a) (simplified b)
   simplified (Term.Fix t u e) = Term.Fix t u (simplified e)
+  simplified (Term.Inj l e t) = Term.Inj l (simplified e) t
+  simplified (Term.Case e t f) = Term.Case (simplified e) t (simplified_row f)
+  simplified (Term.Roll e t) = Term.Roll (simplified e) t
+  simplified (Term.Unroll e) = Term.Unroll (simplified e)
 
   pub simplified_row : TermRow → TermRow
   simplified_row TermRow.End = TermRow.End

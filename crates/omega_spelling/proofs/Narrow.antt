@@ -20,7 +20,7 @@ use Rattle.omega_terms.specs.declared.version.Version.TheVariants.{First, Second
 use Rattle.omega_terms.specs.OmegaText.{version_line, version_text}
 use Rattle.omega_spelling.specs.Spelled.{LabelSpelled, TySpelled, RowSpelled, is_hidden}
 use Rattle.omega_terms.specs.declared.op.Op.TheVariants.{Add, Sub, Mul, Div, Rem, Less, Equal}
-use Rattle.omega_terms.specs.Term.{Term, TermRow, Var, Int, Bool, Text, Lam, Call, TyLam, Inst, Fields, Get, Pack, Unpack, If, Arith, Fix, End, More}
+use Rattle.omega_terms.specs.Term.{Term, TermRow, Var, Int, Bool, Text, Lam, Call, TyLam, Inst, Fields, Get, Pack, Unpack, If, Arith, Fix, Inj, Case, Roll, Unroll, End, More}
 use Rattle.omega_spelling.specs.Reading.{passes, in_name, begins_name, is_keyword, is_name, all_in_name, value_of}
 use Rattle.omega_spelling.specs.TermReading.{TermSpelled, TermRowSpelled, SignedFits}
 use Rattle.omega_spelling.specs.Refusals.{Outside, Inside, in_item, is_wide, some_digits, wide_from, lines_cut, has_wide}
@@ -28,7 +28,7 @@ use Rattle.omega_spelling.proofs.Steps.{and_ok, Stops}
 use Rattle.omega_spelling.proofs.Numbers.{own}
 use Rattle.omega_spelling.proofs.Quoted.{Sorted, quote, slash, line, other, sorted, differs}
 use Rattle.omega_spelling.proofs.Types.{below-test, built-is, closed-is, field-is}
-use Rattle.omega_spelling.proofs.Terms.{three-is, quoted-is}
+use Rattle.omega_spelling.proofs.Terms.{three-is, case-is, quoted-is}
 use Rattle.omega_spelling.proofs.Depth.{or-cases}
 use Rattle.omega_spelling.proofs.Texts.{text-is}
 
@@ -171,6 +171,11 @@ field-narrow : (l a b : List ℕ) → Narrow l → Narrow a → Closes b → Clo
 field-narrow l a b nl na nb rest =
     ap wide (field-is (codes " (") l a b (41 ∷ rest)) ∙ nl (32 ∷ (a ++ (41 ∷ (b ++ (41 ∷ rest))))) refl ∙ na (41 ∷ (b ++ (41 ∷ rest))) refl ∙ nb rest
 
+-- two parts and branches, before the parenthesis that closes them
+case-narrow : (front a b c : List ℕ) → Opens front → Narrow a → Narrow b → Closes c → ((rest : List ℕ) → Delimits (c ++ (41 ∷ rest))) → Narrow (front then a then codes " " then b then c then codes ")")
+case-narrow front a b c f na nb nc dc rest d =
+    ap wide (case-is front a b c rest) ∙ f (a ++ (32 ∷ (b ++ (c ++ (41 ∷ rest))))) ∙ na (32 ∷ (b ++ (c ++ (41 ∷ rest)))) refl ∙ nb (c ++ (41 ∷ rest)) (dc rest) ∙ nc rest
+
 kind-narrow : (k : Kind) → Narrow (kind_text k)
 kind-narrow Star = item-narrow (codes "*") refl refl
 kind-narrow (ArrowKind a b) = two-narrow (codes "(> ") (kind_text a) (kind_text b) (λ w. refl) (kind-narrow a) (kind-narrow b)
@@ -234,6 +239,11 @@ module _ (v : Version) where
     term-narrow (Unpack e b) n m ok = two-narrow (codes "(open ") (term_text n m e) (term_text (n + 1) (m + 1) b) (λ w. refl) (term-narrow e n m ok.0) (term-narrow b (n + 1) (m + 1) ok.1)
     term-narrow (If a b d) n m ok = three-narrow (codes "(if ") (term_text n m a) (term_text n m b) (term_text n m d) (λ w. refl) (term-narrow a n m ok.0) (term-narrow b n m ok.1) (term-narrow d n m ok.2)
     term-narrow (Fix t u e) n m ok = three-narrow (codes "(fix ") (ty_text n t) (ty_text n u) (term_text n (m + 2) e) (λ w. refl) (ty-narrow t n ok.0) (ty-narrow u n ok.1) (term-narrow e n (m + 2) ok.2)
+    term-narrow (Inj l e t) n m ok = three-narrow (codes "(inj ") (label_text l) (term_text n m e) (ty_text n t) (λ w. refl) (label-narrow l ok.1) (term-narrow e n m ok.2) (ty-narrow t n ok.3)
+    term-narrow (Case e t r) n m ok =
+        case-narrow (codes "(case ") (term_text n m e) (ty_text n t) (term_row_text n (m + 1) r) (λ w. refl) (term-narrow e n m ok.1) (ty-narrow t n ok.2) (term-row-narrow r n (m + 1) None ok.3) (term-row-delimits n (m + 1) r)
+    term-narrow (Roll e t) n m ok = two-narrow (codes "(roll ") (term_text n m e) (ty_text n t) (λ w. refl) (term-narrow e n m ok.1) (ty-narrow t n ok.2)
+    term-narrow (Unroll e) n m ok = one-narrow (codes "(unroll ") (term_text n m e) (λ w. refl) (term-narrow e n m ok.1)
     term-narrow (Arith Add a b) n m ok = two-narrow (codes "(+ ") (term_text n m a) (term_text n m b) (λ w. refl) (term-narrow a n m ok.0) (term-narrow b n m ok.1)
     term-narrow (Arith Sub a b) n m ok = two-narrow (codes "(- ") (term_text n m a) (term_text n m b) (λ w. refl) (term-narrow a n m ok.0) (term-narrow b n m ok.1)
     term-narrow (Arith Mul a b) n m ok = two-narrow (codes "(* ") (term_text n m a) (term_text n m b) (λ w. refl) (term-narrow a n m ok.0) (term-narrow b n m ok.1)

@@ -11,7 +11,7 @@ use Rattle.omega_terms.specs.TermText.{byte_text, term_text, term_row_text}
 use Rattle.omega_spelling.specs.Spelled.{kind_deep, deep}
 use Rattle.omega_terms.specs.declared.version.Version.{Version}
 use Rattle.omega_terms.specs.declared.op.Op.TheVariants.{Add, Sub, Mul, Div, Rem, Less, Equal}
-use Rattle.omega_terms.specs.Term.{Term, TermRow, Var, Int, Bool, Text, Lam, Call, TyLam, Inst, Fields, Get, Pack, Unpack, If, Arith, Fix, End, More}
+use Rattle.omega_terms.specs.Term.{Term, TermRow, Var, Int, Bool, Text, Lam, Call, TyLam, Inst, Fields, Get, Pack, Unpack, If, Arith, Fix, Inj, Case, Roll, Unroll, End, More}
 use Rattle.omega_spelling.specs.Reading.{passes}
 use Rattle.omega_spelling.specs.TermReading.{TermSpelled, TermRowSpelled, term_deep, term_deep_row, SignedFits}
 use Rattle.omega_spelling.specs.Refusals.{Outside, Inside, Escaped, deep_from}
@@ -19,7 +19,7 @@ use Rattle.omega_kinds.specs.declared.label.Label.{Label}
 use Rattle.omega_spelling.proofs.Numbers.{own}
 use Rattle.omega_spelling.proofs.Quoted.{Sorted, quote, slash, line, other, sorted}
 use Rattle.omega_spelling.proofs.Types.{built-is, closed-is, field-is}
-use Rattle.omega_spelling.proofs.Terms.{three-is, quoted-is}
+use Rattle.omega_spelling.proofs.Terms.{three-is, case-is, quoted-is}
 use Rattle.omega_spelling.proofs.Depth.{quiet, quiet-all, quiet-run, quiet-shows, open-step, close-step, or-no, Shows, Shallow, two-shows, closed-shows, field-shows, kind-shows, label-quiet, ty-shows}
 
 -- a byte in a text literal, which counts nothing
@@ -79,6 +79,9 @@ var-shows : (m i : ℕ) → m - (i + 1) < 2 ^ 64 → Shows (codes "x" then decim
 unfolding ◌then◌
 var-shows m i lt = quiet-shows (120 ∷ decimal (m - (i + 1))) (rw (quiet-all is_ascii_digit refl refl refl (decimal (m - (i + 1))) (digits_decimal own (m - (i + 1)) lt)) refl)
 
+deepest : (o c da db dd m k : ℕ) → o + 1 ≤ c + 4000 → (0 < da → o + 1 + da ≤ c + 4000) → (0 < db → o + 1 + m + db ≤ c + m + 4000) → (0 < dd → o + 1 + m + k + dd ≤ c + m + k + 4000) → o + (max da (max db dd) + 1) ≤ c + 4000
+deepest o c da db dd m k x y z w = grind arith
+
 three-shows : (front a b d : List ℕ) (da db dd : ℕ) → passes quiet front ≡ true → Shows a da → Shows b db → Shows d dd → (o c : ℕ) (rest : List ℕ)
     → deep_from Outside o c (40 ∷ (front ++ (a ++ (32 ∷ (b ++ (32 ∷ (d ++ (41 ∷ rest)))))))) ≡ false → Shallow o c (max da (max db dd) + 1) rest
 three-shows front a b d da db dd q sa sb sd o c rest e =
@@ -94,12 +97,28 @@ three-shows front a b d da db dd q sa sb sd o c rest e =
     let k : c + (s3.more + s5.more + s7.more + 1) ≡ c + s3.more + s5.more + s7.more + 1 = omega arith in
     let bound : o + (max da (max db dd) + 1) ≤ c + 4000 = deepest o c da db dd s3.more s5.more s1.0 s3.fits s5.fits s7.fits in
     record { fits = λ some. bound; more = s3.more + s5.more + s7.more + 1; later = rw (j, k) s8 }
-  where
-    deepest : (o c da db dd m k : ℕ) → o + 1 ≤ c + 4000 → (0 < da → o + 1 + da ≤ c + 4000) → (0 < db → o + 1 + m + db ≤ c + m + 4000) → (0 < dd → o + 1 + m + k + dd ≤ c + m + k + 4000) → o + (max da (max db dd) + 1) ≤ c + 4000
-    deepest o c da db dd m k x y z w = grind arith
+
+-- two parts and branches
+case-shows : (front a b d : List ℕ) (da db dd : ℕ) → passes quiet front ≡ true → Shows a da → Shows b db → Shows d dd → (o c : ℕ) (rest : List ℕ)
+    → deep_from Outside o c (40 ∷ (front ++ (a ++ (32 ∷ (b ++ (d ++ (41 ∷ rest))))))) ≡ false → Shallow o c (max da (max db dd) + 1) rest
+case-shows front a b d da db dd q sa sb sd o c rest e =
+    let s1 = open-step o c (front ++ (a ++ (32 ∷ (b ++ (d ++ (41 ∷ rest)))))) e in
+    let s2 = quiet-run front (o + 1) c (a ++ (32 ∷ (b ++ (d ++ (41 ∷ rest))))) q s1.1 in
+    let s3 = sa (o + 1) c (32 ∷ (b ++ (d ++ (41 ∷ rest)))) s2 in
+    let s4 = quiet-run (32 ∷ []) (o + 1 + s3.more) (c + s3.more) (b ++ (d ++ (41 ∷ rest))) refl s3.later in
+    let s5 = sb (o + 1 + s3.more) (c + s3.more) (d ++ (41 ∷ rest)) s4 in
+    let s7 = sd (o + 1 + s3.more + s5.more) (c + s3.more + s5.more) (41 ∷ rest) s5.later in
+    let s8 = close-step (o + 1 + s3.more + s5.more + s7.more) (c + s3.more + s5.more + s7.more) rest s7.later in
+    let j : o + (s3.more + s5.more + s7.more + 1) ≡ o + 1 + s3.more + s5.more + s7.more = omega arith in
+    let k : c + (s3.more + s5.more + s7.more + 1) ≡ c + s3.more + s5.more + s7.more + 1 = omega arith in
+    let bound : o + (max da (max db dd) + 1) ≤ c + 4000 = deepest o c da db dd s3.more s5.more s1.0 s3.fits s5.fits s7.fits in
+    record { fits = λ some. bound; more = s3.more + s5.more + s7.more + 1; later = rw (j, k) s8 }
 
 zero-max : (o c d : ℕ) (rest : List ℕ) → Shallow o c (max d 0 + 1) rest → Shallow o c (d + 1) rest
 zero-max o c d rest s = let k : max d 0 ≡ d = omega arith in rw k at s
+
+max-zero : (o c a b : ℕ) (rest : List ℕ) → Shallow o c (max 0 (max a b) + 1) rest → Shallow o c (max a b + 1) rest
+max-zero o c a b rest s = let k : max 0 (max a b) ≡ max a b = omega arith in rw k at s
 
 module _ (v : Version) where
   mutual
@@ -139,6 +158,18 @@ module _ (v : Version) where
     term-shows (Fix t u e) n m ok = λ o c rest h.
         three-shows (codes "fix ") (ty_text n t) (ty_text n u) (term_text n (m + 2) e) (deep t) (deep u) (term_deep e) refl (ty-shows v t n ok.0) (ty-shows v u n ok.1) (term-shows e n (m + 2) ok.2) o c rest
         (subst (λ (w : List ℕ). deep_from Outside o c w ≡ false) (three-is (codes "(fix ") (ty_text n t) (ty_text n u) (term_text n (m + 2) e) rest) h)
+    term-shows (Inj l e t) n m ok = λ o c rest h.
+        max-zero o c (term_deep e) (deep t) rest (three-shows (codes "inj ") (label_text l) (term_text n m e) (ty_text n t) 0 (term_deep e) (deep t) refl (quiet-shows (label_text l) (label-quiet l ok.1)) (term-shows e n m ok.2) (ty-shows v t n ok.3) o c rest
+        (subst (λ (w : List ℕ). deep_from Outside o c w ≡ false) (three-is (codes "(inj ") (label_text l) (term_text n m e) (ty_text n t) rest) h))
+    term-shows (Case e t r) n m ok = λ o c rest h.
+        case-shows (codes "case ") (term_text n m e) (ty_text n t) (term_row_text n (m + 1) r) (term_deep e) (deep t) (term_deep_row r) refl (term-shows e n m ok.1) (ty-shows v t n ok.2) (term-row-shows r n (m + 1) None ok.3) o c rest
+        (subst (λ (w : List ℕ). deep_from Outside o c w ≡ false) (case-is (codes "(case ") (term_text n m e) (ty_text n t) (term_row_text n (m + 1) r) rest) h)
+    term-shows (Roll e t) n m ok = λ o c rest h.
+        two-shows (codes "roll ") (term_text n m e) (ty_text n t) (term_deep e) (deep t) refl (term-shows e n m ok.1) (ty-shows v t n ok.2) o c rest
+        (subst (λ (w : List ℕ). deep_from Outside o c w ≡ false) (built-is (codes "(roll ") (term_text n m e) (ty_text n t) rest) h)
+    term-shows (Unroll e) n m ok = λ o c rest h.
+        closed-shows (codes "unroll ") (term_text n m e) (term_deep e) refl (term-shows e n m ok.1) o c rest
+        (subst (λ (w : List ℕ). deep_from Outside o c w ≡ false) (closed-is (codes "(unroll ") (term_text n m e) rest) h)
     term-shows (Arith Add a b) n m ok = λ o c rest h.
         two-shows (codes "+ ") (term_text n m a) (term_text n m b) (term_deep a) (term_deep b) refl (term-shows a n m ok.0) (term-shows b n m ok.1) o c rest
         (subst (λ (w : List ℕ). deep_from Outside o c w ≡ false) (built-is (codes "(+ ") (term_text n m a) (term_text n m b) rest) h)

@@ -1,23 +1,25 @@
 -- Terms are read as they are written.
-use Rattle.std.proofs.Common.{◌≡◌, ℕ, zero, suc, ◌+◌, ◌-◌, ◌^◌, ◌<◌, ◌≤◌, Bool as Truth, true, false, cond, List, [], ◌∷◌, ◌++◌, length, Option, Some, None, refl, sym, ap, ◌∙◌, subst, append_assoc, arith}
-use Rattle.std.specs.Prelude.{codes, decimal, flat_map, nat_lt, ◌==◌, ℤ, pos, negsuc}
+use Rattle.std.proofs.Common.{◌≡◌, ℕ, zero, suc, ◌+◌, ◌-◌, ◌^◌, ◌<◌, ◌≤◌, Bool as Truth, true, false, cond, List, [], ◌∷◌, ◌++◌, length, Option, Some, None, refl, sym, ap, ◌∙◌, subst, append_assoc, arith, inl, inr}
+use Rattle.std.specs.Prelude.{◌⊎◌, codes, decimal, flat_map, nat_lt, ◌==◌, ℤ, pos, negsuc}
 use Rattle.std.specs.Fmt.{signed_decimal}
 use Rattle.std.specs.Char.{is_ascii_digit}
 use Rattle.std.proofs.lemmas.List.{length-append}
 use Rattle.std.proofs.lemmas.Fmt.{digits_decimal, decimal_nonempty}
 use Rattle.omega_kinds.specs.Text.{◌then◌}
 use Rattle.omega_kinds.specs.declared.label.Label.{Label}
+use Rattle.omega_types.specs.Ty.{Ty}
 use Rattle.omega_terms.specs.KindText.{kind_text, label_text}
 use Rattle.omega_terms.specs.TypeText.{ty_text}
 use Rattle.omega_terms.specs.TermText.{byte_text, term_text, term_row_text, op_front}
 use Rattle.omega_spelling.specs.Spelled.{LabelSpelled}
 use Rattle.omega_terms.specs.declared.version.Version.{Version}
+use Rattle.omega_terms.specs.declared.version.Version.TheVariants.{First, Second}
 use Rattle.omega_terms.specs.declared.op.Op.{Op}
 use Rattle.omega_terms.specs.declared.op.Op.TheVariants.{Add, Sub, Mul, Div, Rem, Less, Equal}
-use Rattle.omega_terms.specs.Term.{Term, TermRow, Var, Int, Bool, Text, Lam, Call, TyLam, Inst, Fields, Get, Pack, Unpack, If, Arith, Fix, End, More}
-use Rattle.omega_spelling.specs.Reading.{Reader, strip, two, number_at, label_at, kind_at, ty_at, follows, field_at, fields_at}
-use Rattle.omega_spelling.specs.TermReading.{signed_at, chars_at, three, term_var_at, int_at, text_at, term_leaf_at, term_record_at, op_at, arith_at, term_node_at, term_at, TermSpelled, TermRowSpelled, term_deep, term_deep_row, SignedFits, all_spelled}
-use Rattle.omega_spelling.proofs.Steps.{bind_ok, step, constant, some_is, if_ok, strip-is, Ends, Reads, two-again, two-takes}
+use Rattle.omega_terms.specs.Term.{Term, TermRow, Var, Int, Bool, Text, Lam, Call, TyLam, Inst, Fields, Get, Pack, Unpack, If, Arith, Fix, Inj, Case, Roll, Unroll, End, More}
+use Rattle.omega_spelling.specs.Reading.{Reader, strip, one, two, number_at, label_at, kind_at, ty_at, follows, field_at, fields_at}
+use Rattle.omega_spelling.specs.TermReading.{signed_at, chars_at, three, term_var_at, int_at, text_at, term_leaf_at, term_record_at, op_at, arith_at, case_at, second_term_node_at, later_term_node_at, term_node_at, term_at, TermSpelled, TermRowSpelled, term_deep, term_deep_row, SignedFits, all_spelled}
+use Rattle.omega_spelling.proofs.Steps.{bind_ok, step, constant, some_is, if_ok, strip-is, Ends, Reads, one-again, one-takes, two-again, two-takes}
 use Rattle.omega_spelling.proofs.Numbers.{own, number-reads, test-below}
 use Rattle.omega_spelling.proofs.Labels.{label-reads}
 use Rattle.omega_spelling.proofs.Types.{below-test, none-some, built-is, built, field-is, closed-is, KindFits, kind-reads, TyFits, ty-reads}
@@ -48,6 +50,18 @@ three-takes mk f g h ta tb tc Pa Pb Pc rf rg rh bytes w rest e =
     let s1 = strip-is (32 ∷ []) b1.0.1 b2.0 b2.1 in
     let middle : b1.0.1 ≡ 32 ∷ (tb t.0 ++ (32 ∷ (tc t.1 ++ (41 ∷ rest)))) = s1 ∙ ap (λ (v : List ℕ). 32 ∷ v) t.3 in
     (b1.0.0, t.0, t.1, t.2, fx.0 ∙ ap (λ (v : List ℕ). ta b1.0.0 ++ v) middle, fx.1, t.4, t.5)
+
+-- ---- two parts and branches
+
+pub case-is : (p a b c rest : List ℕ) → (p then a then codes " " then b then c then codes ")") ++ rest ≡ p ++ (a ++ (32 ∷ (b ++ (c ++ (41 ∷ rest)))))
+unfolding ◌then◌
+case-is p a b c rest = simp append_assoc
+
+-- a name or number ends before branches
+row-ends : (n m : ℕ) (r : TermRow) (rest : List ℕ) → Ends (term_row_text n m r ++ (41 ∷ rest))
+unfolding ◌then◌
+row-ends n m End rest = refl
+row-ends n m (More l t r) rest = refl
 
 -- ---- leaves and fields
 
@@ -84,6 +98,65 @@ count-length n m End rest = omega arith
 count-length n m (More l t r) rest =
     let one = ap (λ (w : List ℕ). length w) (field-is (codes " (") (label_text l) (term_text n m t) (term_row_text n m r) (41 ∷ rest)) in
     omega (arith, one, count-length n m r rest, length-append (label_text l) (32 ∷ (term_text n m t ++ (41 ∷ (term_row_text n m r ++ (41 ∷ rest))))), length-append (term_text n m t) (41 ∷ (term_row_text n m r ++ (41 ∷ rest))))
+
+-- ---- operators, and terms that the first version does not have
+
+-- an operator without the parenthesis before it
+abbrev op_words : Op → List ℕ
+op_words Add = codes "+ "
+op_words Sub = codes "- "
+op_words Mul = codes "* "
+op_words Div = codes "/ "
+op_words Rem = codes "% "
+op_words Less = codes "< "
+op_words Equal = codes "== "
+
+op-front : (op : Op) → op_front op ≡ 40 ∷ op_words op
+op-front Add = refl
+op-front Sub = refl
+op-front Mul = refl
+op-front Div = refl
+op-front Rem = refl
+op-front Less = refl
+op-front Equal = refl
+
+abbrev AnyOp : Op → Type 0
+AnyOp op = Unit {0}
+
+arith-has : (f : Reader Term) (op : Op) (bytes : List ℕ) → arith_at f (op_words op ++ bytes) ≡ two (Arith op) f f bytes
+unfolding arith_at op_at strip
+arith-has f Add bytes = refl
+arith-has f Sub bytes = refl
+arith-has f Mul bytes = refl
+arith-has f Div bytes = refl
+arith-has f Rem bytes = refl
+arith-has f Less bytes = refl
+arith-has f Equal bytes = refl
+
+-- no form of the second version begins with an operator
+second-arith : (f : ℕ → Reader Ty) (e : ℕ → ℕ → Reader Term) (n m : ℕ) (op : Op) (bytes : List ℕ) → second_term_node_at f e n m (op_words op ++ bytes) ≡ arith_at (e n m) (op_words op ++ bytes)
+unfolding second_term_node_at strip
+second-arith f e n m Add bytes = refl
+second-arith f e n m Sub bytes = refl
+second-arith f e n m Mul bytes = refl
+second-arith f e n m Div bytes = refl
+second-arith f e n m Rem bytes = refl
+second-arith f e n m Less bytes = refl
+second-arith f e n m Equal bytes = refl
+
+-- an operator stands in each version
+later-arith : (v : Version) (f : ℕ → Reader Ty) (e : ℕ → ℕ → Reader Term) (n m : ℕ) (op : Op) (bytes : List ℕ) → later_term_node_at v f e n m (op_words op ++ bytes) ≡ two (Arith op) (e n m) (e n m) bytes
+later-arith First f e n m op bytes = arith-has (e n m) op bytes
+later-arith Second f e n m op bytes = second-arith f e n m op bytes ∙ arith-has (e n m) op bytes
+
+later-is : (v : Version) (f : ℕ → Reader Ty) (e : ℕ → ℕ → Reader Term) (n m : ℕ) (bytes : List ℕ) (y : Term × List ℕ) → later_term_node_at v f e n m bytes ≡ Some y
+    → (arith_at (e n m) bytes ≡ Some y) ⊎ ((v ≡ Second) × (second_term_node_at f e n m bytes ≡ Some y))
+later-is First f e n m bytes y is = inl is
+later-is Second f e n m bytes y is = inr (refl, is)
+
+later-has : (v : Version) (f : ℕ → Reader Ty) (e : ℕ → ℕ → Reader Term) (n m : ℕ) (bytes : List ℕ) → v ≡ Second → later_term_node_at v f e n m bytes ≡ second_term_node_at f e n m bytes
+later-has First f e n m bytes late = absurd cc
+later-has Second f e n m bytes late = refl
 
 -- ---- terms of a version
 
@@ -251,28 +324,6 @@ module _ (v : Version) where
       subst (λ (w : List ℕ). read w ≡ Some (mk a b c, rest)) (sym (three-is front (ta a) (tb b) (tc c) rest))
       (opens (ta a ++ (32 ∷ (tb b ++ (32 ∷ (tc c ++ (41 ∷ rest)))))) ∙ three-again mk f g h ta tb tc Pa Pb Pc rf rg rh a b c rest p q r)
 
-  -- an operator without the parenthesis before it
-  abbrev op_words : Op → List ℕ
-  op_words Add = codes "+ "
-  op_words Sub = codes "- "
-  op_words Mul = codes "* "
-  op_words Div = codes "/ "
-  op_words Rem = codes "% "
-  op_words Less = codes "< "
-  op_words Equal = codes "== "
-
-  op-front : (op : Op) → op_front op ≡ 40 ∷ op_words op
-  op-front Add = refl
-  op-front Sub = refl
-  op-front Mul = refl
-  op-front Div = refl
-  op-front Rem = refl
-  op-front Less = refl
-  op-front Equal = refl
-
-  abbrev AnyOp : Op → Type 0
-  AnyOp op = Unit {0}
-
   op-takes : (bytes : List ℕ) (op : Op) (rest : List ℕ) → op_at bytes ≡ Some (op, rest) → (bytes ≡ op_words op ++ rest) × AnyOp op
   unfolding op_at
   op-takes bytes op rest e =
@@ -292,7 +343,65 @@ module _ (v : Version) where
       let parts : bytes ≡ op_front b.0.0 ++ b.0.1 = opened ∙ ap (λ (w : List ℕ). 40 ∷ w) (op-takes r0 b.0.0 b.0.1 b.1).0 ∙ ap (λ (w : List ℕ). w ++ b.0.1) (sym (op-front b.0.0)) in
       form2-takes (Arith b.0.0) (term_at v d n m) (term_at v d n m) (term_text n m) (term_text n m) (TermFits d n m) (TermFits d n m) reads reads d n m (op_front b.0.0) bytes b.0.1 x rest (λ a c. refl) (λ a c u v. ((u.0, v.0), omega (arith, u.1, v.1))) parts b.2
 
-  term-node-takes : (d n m : ℕ) → AllReads d → (bytes r0 : List ℕ) (x : Term) (rest : List ℕ) → bytes ≡ codes "(" ++ r0 → term_node_at (kind_at d) (ty_at v d) (term_at v d) n m r0 ≡ Some (x, rest)
+  case-again : (d n m : ℕ) → AllReads d → (x : Term) (t : Ty) (r : TermRow) (rest : List ℕ) → TermFits d n m x → TyFits v d n t → TermRowFits d n (m + 1) None r
+      → case_at (term_at v d n m) (ty_at v d n) (term_at v d n (m + 1)) (term_text n m x ++ (32 ∷ (ty_text n t ++ (term_row_text n (m + 1) r ++ (41 ∷ rest))))) ≡ Some (Case x t r, rest)
+  unfolding case_at strip
+  case-again d n m reads x t r rest okx okt okr =
+      let branches = term_row_text n (m + 1) r ++ (41 ∷ rest) in
+      rw (
+        (reads n m).again x (32 ∷ (ty_text n t ++ branches)) okx refl,
+        (ty-reads v d n).again t branches okt (row-ends n (m + 1) r rest),
+        fields-again d n (m + 1) (reads n (m + 1)) (length branches) None r rest okr (count-length n (m + 1) r rest),
+      ) refl
+
+  case-takes : (d n m : ℕ) → AllReads d → v ≡ Second → (bytes r0 : List ℕ) (x : Term) (rest : List ℕ) → bytes ≡ codes "(case " ++ r0 → case_at (term_at v d n m) (ty_at v d n) (term_at v d n (m + 1)) r0 ≡ Some (x, rest)
+      → (bytes ≡ term_text n m x ++ rest) × TermFits (suc d) n m x
+  unfolding case_at
+  case-takes d n m reads late bytes r0 x rest parts e =
+      let b1 = bind_ok (term_at v d n m r0) _ (x, rest) e in
+      let b2 = bind_ok (strip (32 ∷ []) b1.0.1) _ (x, rest) b1.2 in
+      let b3 = bind_ok (ty_at v d n b2.0) _ (x, rest) b2.2 in
+      let b4 = bind_ok (fields_at End More (term_at v d n (m + 1)) (length b3.0.1) None b3.0.1) _ (x, rest) b3.2 in
+      let q = some_is (Case b1.0.0 b3.0.0 b4.0.0, b4.0.1) (x, rest) b4.2 in
+      let whole = (reads n m).takes r0 b1.0.0 b1.0.1 b1.1 in
+      let result = (ty-reads v d n).takes b2.0 b3.0.0 b3.0.1 b3.1 in
+      let branches = fields-takes d n (m + 1) (reads n (m + 1)) (length b3.0.1) None b3.0.1 b4.0.0 b4.0.1 b4.1 in
+      let left : b4.0.1 ≡ rest = ap (λ (z : Term × List ℕ). z.1) q in
+      let third : b3.0.1 ≡ term_row_text n (m + 1) b4.0.0 ++ (41 ∷ rest) = branches.0 ∙ ap (λ (w : List ℕ). term_row_text n (m + 1) b4.0.0 ++ (41 ∷ w)) left in
+      let second : b2.0 ≡ ty_text n b3.0.0 ++ (term_row_text n (m + 1) b4.0.0 ++ (41 ∷ rest)) = result.0 ∙ ap (λ (w : List ℕ). ty_text n b3.0.0 ++ w) third in
+      let middle : b1.0.1 ≡ 32 ∷ (ty_text n b3.0.0 ++ (term_row_text n (m + 1) b4.0.0 ++ (41 ∷ rest))) = strip-is (32 ∷ []) b1.0.1 b2.0 b2.1 ∙ ap (λ (w : List ℕ). 32 ∷ w) second in
+      let text : r0 ≡ term_text n m b1.0.0 ++ (32 ∷ (ty_text n b3.0.0 ++ (term_row_text n (m + 1) b4.0.0 ++ (41 ∷ rest)))) = whole.0 ∙ ap (λ (w : List ℕ). term_text n m b1.0.0 ++ w) middle in
+      subst (λ (z : Term). (bytes ≡ term_text n m z ++ rest) × TermFits (suc d) n m z) (ap (λ (z : Term × List ℕ). z.0) q) (
+        parts ∙ ap (λ (w : List ℕ). codes "(case " ++ w) text ∙ sym (case-is (codes "(case ") (term_text n m b1.0.0) (ty_text n b3.0.0) (term_row_text n (m + 1) b4.0.0) rest),
+        ((late, whole.1.0, result.1.0, branches.1.0), omega (arith, whole.1.1, result.1.1, branches.1.1)),
+      )
+
+  unroll-takes : (d n m : ℕ) → AllReads d → v ≡ Second → (bytes r : List ℕ) (x : Term) (rest : List ℕ) → bytes ≡ codes "(unroll " ++ r → one Unroll (term_at v d n m) r ≡ Some (x, rest)
+      → (bytes ≡ term_text n m x ++ rest) × TermFits (suc d) n m x
+  unroll-takes d n m reads late bytes r x rest parts e =
+      let t = one-takes Unroll (term_at v d n m) (term_text n m) (TermFits d n m) (reads n m) r x rest e in
+      subst (λ (z : Term). (bytes ≡ term_text n m z ++ rest) × TermFits (suc d) n m z) (sym t.1)
+      (parts ∙ ap (λ (w : List ℕ). codes "(unroll " ++ w) t.2 ∙ sym (closed-is (codes "(unroll ") (term_text n m t.0) rest), ((late, t.3.0), omega (arith, t.3.1)))
+
+  second-takes : (d n m : ℕ) → AllReads d → v ≡ Second → (bytes r0 : List ℕ) (x : Term) (rest : List ℕ) → bytes ≡ codes "(" ++ r0 → second_term_node_at (ty_at v d) (term_at v d) n m r0 ≡ Some (x, rest)
+      → (bytes ≡ term_text n m x ++ rest) × TermFits (suc d) n m x
+  unfolding second_term_node_at
+  second-takes d n m reads late bytes r0 x rest opened e =
+      step (codes "inj ") r0 _ _ (x, rest) e (λ r p is. form3-takes Inj label_at (term_at v d n m) (ty_at v d n) label_text (term_text n m) (ty_text n) LabelSpelled (TermFits d n m) (TyFits v d n) label-reads (reads n m) (ty-reads v d n) d n m (codes "(inj ") bytes r x rest (λ a b c. refl) (λ a b c u v w. ((late, u, v.0, w.0), omega (arith, v.1, w.1))) (opened ∙ ap (λ (w : List ℕ). 40 ∷ w) p) is) (λ e1.
+      step (codes "case ") r0 _ _ (x, rest) e1 (λ r p is. case-takes d n m reads late bytes r x rest (opened ∙ ap (λ (w : List ℕ). 40 ∷ w) p) is) (λ e2.
+      step (codes "roll ") r0 _ _ (x, rest) e2 (λ r p is. form2-takes Roll (term_at v d n m) (ty_at v d n) (term_text n m) (ty_text n) (TermFits d n m) (TyFits v d n) (reads n m) (ty-reads v d n) d n m (codes "(roll ") bytes r x rest (λ a b. refl) (λ a b u v. ((late, u.0, v.0), omega (arith, u.1, v.1))) (opened ∙ ap (λ (w : List ℕ). 40 ∷ w) p) is) (λ e3.
+      step (codes "unroll ") r0 _ _ (x, rest) e3 (λ r p is. unroll-takes d n m reads late bytes r x rest (opened ∙ ap (λ (w : List ℕ). 40 ∷ w) p) is) (λ e4.
+      arith-takes d n m (reads n m) bytes r0 x rest opened e4))))
+
+  later-takes : (d n m : ℕ) → AllReads d → (bytes r0 : List ℕ) (x : Term) (rest : List ℕ) → bytes ≡ codes "(" ++ r0 → later_term_node_at v (ty_at v d) (term_at v d) n m r0 ≡ Some (x, rest)
+      → (bytes ≡ term_text n m x ++ rest) × TermFits (suc d) n m x
+  later-takes d n m reads bytes r0 x rest opened e =
+      elim (later-is v (ty_at v d) (term_at v d) n m r0 (x, rest) e) [
+        | inl is ↦ arith-takes d n m (reads n m) bytes r0 x rest opened is
+        | inr late ↦ second-takes d n m reads late.0 bytes r0 x rest opened late.1
+      ]
+
+  term-node-takes : (d n m : ℕ) → AllReads d → (bytes r0 : List ℕ) (x : Term) (rest : List ℕ) → bytes ≡ codes "(" ++ r0 → term_node_at v (kind_at d) (ty_at v d) (term_at v d) n m r0 ≡ Some (x, rest)
       → (bytes ≡ term_text n m x ++ rest) × TermFits (suc d) n m x
   unfolding term_node_at
   term-node-takes d n m reads bytes r0 x rest opened e0 =
@@ -306,7 +415,7 @@ module _ (v : Version) where
       step (codes "open ") r0 _ _ (x, rest) e7 (λ r p is. form2-takes Unpack (term_at v d n m) (term_at v d (n + 1) (m + 1)) (term_text n m) (term_text (n + 1) (m + 1)) (TermFits d n m) (TermFits d (n + 1) (m + 1)) (reads n m) (reads (n + 1) (m + 1)) d n m (codes "(open ") bytes r x rest (λ a b. refl) (λ a b u v. ((u.0, v.0), omega (arith, u.1, v.1))) (opened ∙ ap (λ (w : List ℕ). 40 ∷ w) p) is) (λ e8.
       step (codes "if ") r0 _ _ (x, rest) e8 (λ r p is. form3-takes If (term_at v d n m) (term_at v d n m) (term_at v d n m) (term_text n m) (term_text n m) (term_text n m) (TermFits d n m) (TermFits d n m) (TermFits d n m) (reads n m) (reads n m) (reads n m) d n m (codes "(if ") bytes r x rest (λ a b c. refl) (λ a b c u v w. ((u.0, v.0, w.0), omega (arith, u.1, v.1, w.1))) (opened ∙ ap (λ (w : List ℕ). 40 ∷ w) p) is) (λ e9.
       step (codes "fix ") r0 _ _ (x, rest) e9 (λ r p is. form3-takes Fix (ty_at v d n) (ty_at v d n) (term_at v d n (m + 2)) (ty_text n) (ty_text n) (term_text n (m + 2)) (TyFits v d n) (TyFits v d n) (TermFits d n (m + 2)) (ty-reads v d n) (ty-reads v d n) (reads n (m + 2)) d n m (codes "(fix ") bytes r x rest (λ a b c. refl) (λ a b c u v w. ((u.0, v.0, w.0), omega (arith, u.1, v.1, w.1))) (opened ∙ ap (λ (w : List ℕ). 40 ∷ w) p) is) (λ e10.
-      arith-takes d n m (reads n m) bytes r0 x rest opened e10))))))))))
+      later-takes d n m reads bytes r0 x rest opened e10))))))))))
 
   term-var-leaf : (n m i : ℕ) (rest : List ℕ) → (i < m) × (m - (i + 1) < 2 ^ 64) → Ends rest → term_leaf_at m (term_text n m (Var i) ++ rest) ≡ Some (Var i, rest)
   unfolding term_leaf_at strip ◌then◌
@@ -336,7 +445,7 @@ module _ (v : Version) where
       subst (λ (w : List ℕ). term_at v (suc d) n m w ≡ Some (Text bytes, rest)) (sym (quoted-is bytes rest)) (subst (λ (w : List ℕ). term_leaf_at m w ≡ Some (Text bytes, rest)) (quoted-is bytes rest) (quoted-leaf n m bytes rest ok))
 
   term-again : (d n m : ℕ) → AllReads d → (x : Term) (rest : List ℕ) → TermFits (suc d) n m x → Ends rest → term_at v (suc d) n m (term_text n m x ++ rest) ≡ Some (x, rest)
-  unfolding term_at term_node_at arith_at op_at strip
+  unfolding term_at term_node_at second_term_node_at strip
   term-again d n m reads (Var i) rest ok ends = term-var-start d n m i rest ok ends
   term-again d n m reads (Int z) rest ok ends = rw (int-front z 40 [] rest refl refl ok.0) (int-again m z rest ok.0 ends)
   term-again d n m reads (Bool true) rest ok ends = bool-start d n m true rest
@@ -354,18 +463,28 @@ module _ (v : Version) where
   term-again d n m reads (Unpack e b) rest ok ends = form2-again Unpack (term_at v d n m) (term_at v d (n + 1) (m + 1)) (term_text n m) (term_text (n + 1) (m + 1)) (TermFits d n m) (TermFits d (n + 1) (m + 1)) (reads n m) (reads (n + 1) (m + 1)) (term_at v (suc d) n m) (codes "(open ") rest e b (λ bytes. refl) (ok.0.0, omega (arith, ok.1)) (ok.0.1, omega (arith, ok.1))
   term-again d n m reads (If a b c) rest ok ends = form3-again If (term_at v d n m) (term_at v d n m) (term_at v d n m) (term_text n m) (term_text n m) (term_text n m) (TermFits d n m) (TermFits d n m) (TermFits d n m) (reads n m) (reads n m) (reads n m) (term_at v (suc d) n m) (codes "(if ") rest a b c (λ bytes. refl) (ok.0.0, omega (arith, ok.1)) (ok.0.1, omega (arith, ok.1)) (ok.0.2, omega (arith, ok.1))
   term-again d n m reads (Fix t u e) rest ok ends = form3-again Fix (ty_at v d n) (ty_at v d n) (term_at v d n (m + 2)) (ty_text n) (ty_text n) (term_text n (m + 2)) (TyFits v d n) (TyFits v d n) (TermFits d n (m + 2)) (ty-reads v d n) (ty-reads v d n) (reads n (m + 2)) (term_at v (suc d) n m) (codes "(fix ") rest t u e (λ bytes. refl) (ok.0.0, omega (arith, ok.1)) (ok.0.1, omega (arith, ok.1)) (ok.0.2, omega (arith, ok.1))
-  term-again d n m reads (Arith Add a b) rest ok ends = form2-again (Arith Add) (term_at v d n m) (term_at v d n m) (term_text n m) (term_text n m) (TermFits d n m) (TermFits d n m) (reads n m) (reads n m) (term_at v (suc d) n m) (codes "(+ ") rest a b (λ bytes. refl) (ok.0.0, omega (arith, ok.1)) (ok.0.1, omega (arith, ok.1))
-  term-again d n m reads (Arith Sub a b) rest ok ends = form2-again (Arith Sub) (term_at v d n m) (term_at v d n m) (term_text n m) (term_text n m) (TermFits d n m) (TermFits d n m) (reads n m) (reads n m) (term_at v (suc d) n m) (codes "(- ") rest a b (λ bytes. refl) (ok.0.0, omega (arith, ok.1)) (ok.0.1, omega (arith, ok.1))
-  term-again d n m reads (Arith Mul a b) rest ok ends = form2-again (Arith Mul) (term_at v d n m) (term_at v d n m) (term_text n m) (term_text n m) (TermFits d n m) (TermFits d n m) (reads n m) (reads n m) (term_at v (suc d) n m) (codes "(* ") rest a b (λ bytes. refl) (ok.0.0, omega (arith, ok.1)) (ok.0.1, omega (arith, ok.1))
-  term-again d n m reads (Arith Div a b) rest ok ends = form2-again (Arith Div) (term_at v d n m) (term_at v d n m) (term_text n m) (term_text n m) (TermFits d n m) (TermFits d n m) (reads n m) (reads n m) (term_at v (suc d) n m) (codes "(/ ") rest a b (λ bytes. refl) (ok.0.0, omega (arith, ok.1)) (ok.0.1, omega (arith, ok.1))
-  term-again d n m reads (Arith Rem a b) rest ok ends = form2-again (Arith Rem) (term_at v d n m) (term_at v d n m) (term_text n m) (term_text n m) (TermFits d n m) (TermFits d n m) (reads n m) (reads n m) (term_at v (suc d) n m) (codes "(% ") rest a b (λ bytes. refl) (ok.0.0, omega (arith, ok.1)) (ok.0.1, omega (arith, ok.1))
-  term-again d n m reads (Arith Less a b) rest ok ends = form2-again (Arith Less) (term_at v d n m) (term_at v d n m) (term_text n m) (term_text n m) (TermFits d n m) (TermFits d n m) (reads n m) (reads n m) (term_at v (suc d) n m) (codes "(< ") rest a b (λ bytes. refl) (ok.0.0, omega (arith, ok.1)) (ok.0.1, omega (arith, ok.1))
-  term-again d n m reads (Arith Equal a b) rest ok ends = form2-again (Arith Equal) (term_at v d n m) (term_at v d n m) (term_text n m) (term_text n m) (TermFits d n m) (TermFits d n m) (reads n m) (reads n m) (term_at v (suc d) n m) (codes "(== ") rest a b (λ bytes. refl) (ok.0.0, omega (arith, ok.1)) (ok.0.1, omega (arith, ok.1))
+  term-again d n m reads (Inj l e t) rest ok ends = form3-again Inj label_at (term_at v d n m) (ty_at v d n) label_text (term_text n m) (ty_text n) LabelSpelled (TermFits d n m) (TyFits v d n) label-reads (reads n m) (ty-reads v d n) (term_at v (suc d) n m) (codes "(inj ") rest l e t (λ bytes. later-has v (ty_at v d) (term_at v d) n m (codes "inj " ++ bytes) ok.0.0) ok.0.1 (ok.0.2, omega (arith, ok.1)) (ok.0.3, omega (arith, ok.1))
+  term-again d n m reads (Case e t r) rest ok ends =
+      subst (λ (w : List ℕ). term_at v (suc d) n m w ≡ Some (Case e t r, rest)) (sym (case-is (codes "(case ") (term_text n m e) (ty_text n t) (term_row_text n (m + 1) r) rest))
+      (later-has v (ty_at v d) (term_at v d) n m (codes "case " ++ (term_text n m e ++ (32 ∷ (ty_text n t ++ (term_row_text n (m + 1) r ++ (41 ∷ rest)))))) ok.0.0
+      ∙ case-again d n m reads e t r rest (ok.0.1, omega (arith, ok.1)) (ok.0.2, omega (arith, ok.1)) (ok.0.3, omega (arith, ok.1)))
+  term-again d n m reads (Roll e t) rest ok ends = form2-again Roll (term_at v d n m) (ty_at v d n) (term_text n m) (ty_text n) (TermFits d n m) (TyFits v d n) (reads n m) (ty-reads v d n) (term_at v (suc d) n m) (codes "(roll ") rest e t (λ bytes. later-has v (ty_at v d) (term_at v d) n m (codes "roll " ++ bytes) ok.0.0) (ok.0.1, omega (arith, ok.1)) (ok.0.2, omega (arith, ok.1))
+  term-again d n m reads (Unroll e) rest ok ends =
+      subst (λ (w : List ℕ). term_at v (suc d) n m w ≡ Some (Unroll e, rest)) (sym (closed-is (codes "(unroll ") (term_text n m e) rest))
+      (later-has v (ty_at v d) (term_at v d) n m (codes "unroll " ++ (term_text n m e ++ (41 ∷ rest))) ok.0.0
+      ∙ one-again Unroll (term_at v d n m) (term_text n m) (TermFits d n m) (reads n m) e rest (ok.0.1, omega (arith, ok.1)))
+  term-again d n m reads (Arith Add a b) rest ok ends = form2-again (Arith Add) (term_at v d n m) (term_at v d n m) (term_text n m) (term_text n m) (TermFits d n m) (TermFits d n m) (reads n m) (reads n m) (term_at v (suc d) n m) (codes "(+ ") rest a b (λ bytes. later-arith v (ty_at v d) (term_at v d) n m Add bytes) (ok.0.0, omega (arith, ok.1)) (ok.0.1, omega (arith, ok.1))
+  term-again d n m reads (Arith Sub a b) rest ok ends = form2-again (Arith Sub) (term_at v d n m) (term_at v d n m) (term_text n m) (term_text n m) (TermFits d n m) (TermFits d n m) (reads n m) (reads n m) (term_at v (suc d) n m) (codes "(- ") rest a b (λ bytes. later-arith v (ty_at v d) (term_at v d) n m Sub bytes) (ok.0.0, omega (arith, ok.1)) (ok.0.1, omega (arith, ok.1))
+  term-again d n m reads (Arith Mul a b) rest ok ends = form2-again (Arith Mul) (term_at v d n m) (term_at v d n m) (term_text n m) (term_text n m) (TermFits d n m) (TermFits d n m) (reads n m) (reads n m) (term_at v (suc d) n m) (codes "(* ") rest a b (λ bytes. later-arith v (ty_at v d) (term_at v d) n m Mul bytes) (ok.0.0, omega (arith, ok.1)) (ok.0.1, omega (arith, ok.1))
+  term-again d n m reads (Arith Div a b) rest ok ends = form2-again (Arith Div) (term_at v d n m) (term_at v d n m) (term_text n m) (term_text n m) (TermFits d n m) (TermFits d n m) (reads n m) (reads n m) (term_at v (suc d) n m) (codes "(/ ") rest a b (λ bytes. later-arith v (ty_at v d) (term_at v d) n m Div bytes) (ok.0.0, omega (arith, ok.1)) (ok.0.1, omega (arith, ok.1))
+  term-again d n m reads (Arith Rem a b) rest ok ends = form2-again (Arith Rem) (term_at v d n m) (term_at v d n m) (term_text n m) (term_text n m) (TermFits d n m) (TermFits d n m) (reads n m) (reads n m) (term_at v (suc d) n m) (codes "(% ") rest a b (λ bytes. later-arith v (ty_at v d) (term_at v d) n m Rem bytes) (ok.0.0, omega (arith, ok.1)) (ok.0.1, omega (arith, ok.1))
+  term-again d n m reads (Arith Less a b) rest ok ends = form2-again (Arith Less) (term_at v d n m) (term_at v d n m) (term_text n m) (term_text n m) (TermFits d n m) (TermFits d n m) (reads n m) (reads n m) (term_at v (suc d) n m) (codes "(< ") rest a b (λ bytes. later-arith v (ty_at v d) (term_at v d) n m Less bytes) (ok.0.0, omega (arith, ok.1)) (ok.0.1, omega (arith, ok.1))
+  term-again d n m reads (Arith Equal a b) rest ok ends = form2-again (Arith Equal) (term_at v d n m) (term_at v d n m) (term_text n m) (term_text n m) (TermFits d n m) (TermFits d n m) (reads n m) (reads n m) (term_at v (suc d) n m) (codes "(== ") rest a b (λ bytes. later-arith v (ty_at v d) (term_at v d) n m Equal bytes) (ok.0.0, omega (arith, ok.1)) (ok.0.1, omega (arith, ok.1))
 
   term-takes : (d n m : ℕ) → AllReads d → (bytes : List ℕ) (x : Term) (rest : List ℕ) → term_at v (suc d) n m bytes ≡ Some (x, rest) → (bytes ≡ term_text n m x ++ rest) × TermFits (suc d) n m x
   unfolding term_at
   term-takes d n m reads bytes x rest e =
-      step (codes "(") bytes (term_node_at (kind_at d) (ty_at v d) (term_at v d) n m) (term_leaf_at m bytes) (x, rest) e
+      step (codes "(") bytes (term_node_at v (kind_at d) (ty_at v d) (term_at v d) n m) (term_leaf_at m bytes) (x, rest) e
       (λ r p is. term-node-takes d n m reads bytes r x rest p is)
       (λ e1. term-leaf-takes (suc d) n m bytes x rest e1)
 
@@ -379,7 +498,21 @@ module _ (v : Version) where
   term-zero-again n m (Int z) rest ok ends = int-again m z rest ok.0 ends
   term-zero-again n m (Bool b) rest ok ends = bool-leaf n m b rest
   term-zero-again n m (Text bytes) rest ok ends = quoted-leaf n m bytes rest ok.0
-  term-zero-again n m _ rest ok ends = absurd (omega (arith, ok.1))
+  term-zero-again n m (Fields r) rest ok ends = absurd (omega (arith, ok.1))
+  term-zero-again n m (Lam t e) rest ok ends = absurd (omega (arith, ok.1))
+  term-zero-again n m (Call f a) rest ok ends = absurd (omega (arith, ok.1))
+  term-zero-again n m (TyLam k e) rest ok ends = absurd (omega (arith, ok.1))
+  term-zero-again n m (Inst f t) rest ok ends = absurd (omega (arith, ok.1))
+  term-zero-again n m (Get e l) rest ok ends = absurd (omega (arith, ok.1))
+  term-zero-again n m (Pack t e u) rest ok ends = absurd (omega (arith, ok.1))
+  term-zero-again n m (Unpack e b) rest ok ends = absurd (omega (arith, ok.1))
+  term-zero-again n m (If a b c) rest ok ends = absurd (omega (arith, ok.1))
+  term-zero-again n m (Fix t u e) rest ok ends = absurd (omega (arith, ok.1))
+  term-zero-again n m (Inj l e t) rest ok ends = absurd (omega (arith, ok.1))
+  term-zero-again n m (Case e t r) rest ok ends = absurd (omega (arith, ok.1))
+  term-zero-again n m (Roll e t) rest ok ends = absurd (omega (arith, ok.1))
+  term-zero-again n m (Unroll e) rest ok ends = absurd (omega (arith, ok.1))
+  term-zero-again n m (Arith op a b) rest ok ends = absurd (omega (arith, ok.1))
 
   pub term-reads : (d n m : ℕ) → Reads (term_at v d n m) (term_text n m) (λ t. TermSpelled v n m t × (term_deep t ≤ d))
   term-reads zero n m = record { takes = term-zero-takes n m; again = term-zero-again n m }

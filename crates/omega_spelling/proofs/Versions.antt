@@ -43,6 +43,10 @@ mutual
   term-later n m (Term.If a b c) s = (term-later n m a s.0, term-later n m b s.1, term-later n m c s.2)
   term-later n m (Term.Arith op a b) s = (term-later n m a s.0, term-later n m b s.1)
   term-later n m (Term.Fix t u e) s = (ty-later n t s.0, ty-later n u s.1, term-later n (m + 2) e s.2)
+  term-later n m (Term.Inj l e t) s = (refl, s.1, term-later n m e s.2, ty-later n t s.3)
+  term-later n m (Term.Case e t r) s = (refl, term-later n m e s.1, ty-later n t s.2, term-row-later n (m + 1) None r s.3)
+  term-later n m (Term.Roll e t) s = (refl, term-later n m e s.1, ty-later n t s.2)
+  term-later n m (Term.Unroll e) s = (refl, term-later n m e s.1)
 
   term-row-later : (n m : ℕ) (last : Option Label) (r : TermRow) → TermRowSpelled First n m last r → TermRowSpelled Second n m last r
   term-row-later n m last TermRow.End s = tt

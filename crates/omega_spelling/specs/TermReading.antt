@@ -3,12 +3,13 @@ use Rattle.std.specs.Prelude.{◌≡◌, ℕ, zero, suc, ◌+◌, ◌-◌, ◌^�
 use Rattle.omega_kinds.specs.declared.label.Label.{Label}
 use Rattle.omega_kinds.specs.Kind.{Kind}
 use Rattle.omega_types.specs.Ty.{Ty}
-use Rattle.omega_spelling.specs.Reading.{◌>>=◌, Reader, strip, choose, two, number_at, label_at, kind_at, ty_at, follows, fields_at}
+use Rattle.omega_spelling.specs.Reading.{◌>>=◌, Reader, strip, choose, one, two, number_at, label_at, kind_at, ty_at, follows, fields_at}
 use Rattle.omega_spelling.specs.Spelled.{LabelSpelled, TySpelled, kind_deep, deep}
 use Rattle.omega_terms.specs.declared.version.Version.{Version}
+use Rattle.omega_terms.specs.declared.version.Version.TheVariants.{First, Second}
 use Rattle.omega_terms.specs.declared.op.Op.{Op}
 use Rattle.omega_terms.specs.declared.op.Op.TheVariants.{Add, Sub, Mul, Div, Rem, Less, Equal}
-use Rattle.omega_terms.specs.Term.{Term, TermRow, Var, Int, Bool, Text, Lam, Call, TyLam, Inst, Fields, Get, Pack, Unpack, If, Arith, Fix, End, More}
+use Rattle.omega_terms.specs.Term.{Term, TermRow, Var, Int, Bool, Text, Lam, Call, TyLam, Inst, Fields, Get, Pack, Unpack, If, Arith, Fix, Inj, Case, Roll, Unroll, End, More}
 
 -- ---- numbers and texts
 
@@ -91,9 +92,32 @@ op_at bytes =
 unfoldable pub arith_at : Reader Term → Reader Term
 arith_at f bytes = op_at bytes >>= λ op. two (Arith op.0) f f op.1
 
+-- a term, a type and the branches up to the parenthesis that closes the form, behind the word that begins it
+unfoldable pub case_at : Reader Term → Reader Ty → Reader Term → Reader Term
+case_at whole result branch bytes = do
+  x ← whole bytes
+  s ← strip (codes " ") x.1
+  t ← result s
+  r ← fields_at End More branch (length t.1) None t.1
+  Some (Case x.0 t.0 r.0, r.1)
+
+-- behind the parenthesis that opens a term of the second version only, or an operator
+unfoldable pub second_term_node_at : (ℕ → Reader Ty) → (ℕ → ℕ → Reader Term) → ℕ → ℕ → Reader Term
+second_term_node_at f e n m bytes =
+    choose (strip (codes "inj ") bytes) (three Inj label_at (e n m) (f n)) (
+    choose (strip (codes "case ") bytes) (case_at (e n m) (f n) (e n (m + 1))) (
+    choose (strip (codes "roll ") bytes) (two Roll (e n m) (f n)) (
+    choose (strip (codes "unroll ") bytes) (one Unroll (e n m)) (
+    arith_at (e n m) bytes))))
+
+-- behind the parenthesis that opens a term that the first version does not have, or an operator
+abbrev pub later_term_node_at : Version → (ℕ → Reader Ty) → (ℕ → ℕ → Reader Term) → ℕ → ℕ → Reader Term
+later_term_node_at First f e n m bytes = arith_at (e n m) bytes
+later_term_node_at Second f e n m bytes = second_term_node_at f e n m bytes
+
 -- behind the parenthesis that opens a term
-unfoldable pub term_node_at : Reader Kind → (ℕ → Reader Ty) → (ℕ → ℕ → Reader Term) → ℕ → ℕ → Reader Term
-term_node_at k f e n m bytes =
+unfoldable pub term_node_at : Version → Reader Kind → (ℕ → Reader Ty) → (ℕ → ℕ → Reader Term) → ℕ → ℕ → Reader Term
+term_node_at v k f e n m bytes =
     choose (strip (codes "fn ") bytes) (two Lam (f n) (e n (m + 1))) (
     choose (strip (codes "call ") bytes) (two Call (e n m) (e n m)) (
     choose (strip (codes "tfn ") bytes) (two TyLam k (e (n + 1) m)) (
@@ -104,15 +128,17 @@ term_node_at k f e n m bytes =
     choose (strip (codes "open ") bytes) (two Unpack (e n m) (e (n + 1) (m + 1))) (
     choose (strip (codes "if ") bytes) (three If (e n m) (e n m) (e n m)) (
     choose (strip (codes "fix ") bytes) (three Fix (f n) (f n) (e n (m + 2))) (
-    arith_at (e n m) bytes))))))))))
+    later_term_node_at v f e n m bytes))))))))))
 
 -- a term of a version with n type variables and m term variables in scope
 unfoldable pub term_at : Version → ℕ → ℕ → ℕ → Reader Term
 term_at v zero n m bytes = term_leaf_at m bytes
-term_at v (suc d) n m bytes = choose (strip (codes "(") bytes) (term_node_at (kind_at d) (ty_at v d) (term_at v d) n m) (term_leaf_at m bytes)
+term_at v (suc d) n m bytes = choose (strip (codes "(") bytes) (term_node_at v (kind_at d) (ty_at v d) (term_at v d) n m) (term_leaf_at m bytes)
 
 -- ---- what has a spelling
 
+-- The terms of sums and recursive types have a spelling in the second version only. Branches are in strictly rising order, like
+-- fields, and one more term variable is in scope in each.
 abbrev mutual
   pub TermSpelled : Version → ℕ → ℕ → Term → Type 0
   TermSpelled v n m (Var i) = (i < m) × (m - (i + 1) < 2 ^ 64)
@@ -130,6 +156,10 @@ abbrev mutual
   TermSpelled v n m (If a b c) = TermSpelled v n m a × TermSpelled v n m b × TermSpelled v n m c
   TermSpelled v n m (Arith op a b) = TermSpelled v n m a × TermSpelled v n m b
   TermSpelled v n m (Fix t u e) = TySpelled v n t × TySpelled v n u × TermSpelled v n (m + 2) e
+  TermSpelled v n m (Inj l e t) = (v ≡ Second) × LabelSpelled l × TermSpelled v n m e × TySpelled v n t
+  TermSpelled v n m (Case e t r) = (v ≡ Second) × TermSpelled v n m e × TySpelled v n t × TermRowSpelled v n (m + 1) None r
+  TermSpelled v n m (Roll e t) = (v ≡ Second) × TermSpelled v n m e × TySpelled v n t
+  TermSpelled v n m (Unroll e) = (v ≡ Second) × TermSpelled v n m e
 
   pub TermRowSpelled : Version → ℕ → ℕ → Option Label → TermRow → Type 0
   TermRowSpelled v n m last End = Unit {0}
@@ -152,6 +182,10 @@ abbrev mutual
   term_deep (If a b c) = max (term_deep a) (max (term_deep b) (term_deep c)) + 1
   term_deep (Arith op a b) = max (term_deep a) (term_deep b) + 1
   term_deep (Fix t u e) = max (deep t) (max (deep u) (term_deep e)) + 1
+  term_deep (Inj l e t) = max (term_deep e) (deep t) + 1
+  term_deep (Case e t r) = max (term_deep e) (max (deep t) (term_deep_row r)) + 1
+  term_deep (Roll e t) = max (term_deep e) (deep t) + 1
+  term_deep (Unroll e) = term_deep e + 1
 
   pub term_deep_row : TermRow → ℕ
   term_deep_row End = 0

@@ -1,4 +1,4 @@
--- What stands at a label of the fields of a record is the record's part there.
+-- What stands at a label of the fields of a record, or of the branches of a case, is the part there.
 use Rattle.std.proofs.Common.{◌≡◌, [], ◌∷◌, Some, None, Bool, true, false, if◌then◌else◌, refl, sym, ap, subst, ◌∙◌}
 use Rattle.std.specs.Ordering.{is_eq}
 use Rattle.std.proofs.lemmas.Bool.{false≢true}

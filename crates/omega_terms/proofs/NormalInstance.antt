@@ -25,7 +25,7 @@ use Rattle.omega_terms.specs.declared.op.Op.{Op}
 use Rattle.omega_terms.specs.Term.{Term, TermRow}
 use Rattle.omega_terms.specs.Typing.{At, HasPart, shift_all, result_type}
 use Rattle.omega_terms.specs.Instance.{TyInstance, Instance, Instances}
-use Rattle.omega_terms.proofs.NormalTyping.{Typed, TypedFields, cast, recast, AllNormal, all-shift, typed-normal, normal-all, normal-ex}
+use Rattle.omega_terms.proofs.NormalTyping.{Typed, TypedFields, TypedBranches, cast, recast, AllNormal, all-shift, typed-normal, normal-sum, normal-all, normal-ex, normal-mu}
 
 -- the normal form of a type with types put in
 abbrev pub form_at : List Kind → (ℕ → Ty) → Ty → Ty
@@ -161,10 +161,29 @@ mutual
       let p : Typed to (map (form_at to s) vars) (Term.Fix (form_at to s t) (form_at to s u) d) T = Typed.fix (form-normal g (normal-kind n)).0 (form-normal g (normal-kind m)).0 (typed-instance h g (n, (n_arrow n m, v)) a b) in
       subst (λ x. Typed to (map (form_at to s) vars) (Term.Fix n' x d) T) (sym (tied-form h m j))
       (subst (λ x. Typed to (map (form_at to s) vars) (Term.Fix x (form_at to s u) d) T) (sym (tied-form h n i)) p)
+  typed-instance {to = to} {vars = vars} {s = s} h g v (Typed.inj {r = r} n p a) (Instance.inj {l = l} {d = d} b i) =
+      let U = form_at to s (Ty.Sum r) in
+      subst (λ x. Typed to (map (form_at to s) vars) (Term.Inj l d x) U) (sym (tied-form h n i))
+      (Typed.inj (form-normal g (normal-kind n)).0 (form-part to s p) (typed-instance h g v a b))
+  typed-instance {to = to} {vars = vars} {s = s} h g v (Typed.case {t = t} a n cs) (Instance.case {d = d} {g = q} b i bs) =
+      subst (λ x. Typed to (map (form_at to s) vars) (Term.Case d x q) (form_at to s t)) (sym (tied-form h n i))
+      (Typed.case (typed-instance h g v a b) (form-normal g (normal-kind n)).0 (typed-branch-instances h g v (normal-sum (typed-normal v a)) cs bs))
+  typed-instance {to = to} {vars = vars} {s = s} h g v (Typed.roll {body = body} u f a) (Instance.roll {d = d} b i) =
+      let U = form_at to s (Ty.Mu body) in
+      subst (λ x. Typed to (map (form_at to s) vars) (Term.Roll d x) U) (sym (tied-form h u i))
+      (Typed.roll (form-normal g (normal-kind u)).0 (form-instantiate s body (Ty.Mu body) Kind.Star g (normal-mu u) u f) (typed-instance h g v a b))
+  typed-instance {s = s} h g v (Typed.unroll {body = body} a f) (Instance.unroll b) =
+      let u = typed-normal v a in
+      Typed.unroll (typed-instance h g v a b) (form-instantiate s body (Ty.Mu body) Kind.Star g (normal-mu u) u f)
 
   pub typed-instances : {from to from' to' : List Kind} {vars : List Ty} {s : ℕ → Ty} {f q : TermRow} {r : Row} → Tied from from' to to' s → Substitutes from to s → AllNormal from vars → TypedFields from vars f r → Instances from' to' s f q → TypedFields to (map (form_at to s) vars) q (normal_row to (substitute_row s r))
   typed-instances h g v TypedFields.end Instances.end = TypedFields.end
   typed-instances {to = to} {s = s} h g v (TypedFields.more {l = l} {r = r} a d others) (Instances.more b bs) = TypedFields.more (typed-instance h g v a b) (form-fresh to s l r d) (typed-instances h g v others bs)
+
+  -- each branch stands under one more term variable, whose type is normal
+  pub typed-branch-instances : {from to from' to' : List Kind} {vars : List Ty} {s : ℕ → Ty} {f q : TermRow} {r : Row} {t : Ty} → Tied from from' to to' s → Substitutes from to s → AllNormal from vars → Normals from r → TypedBranches from vars f r t → Instances from' to' s f q → TypedBranches to (map (form_at to s) vars) q (normal_row to (substitute_row s r)) (form_at to s t)
+  typed-branch-instances h g v n_end TypedBranches.none Instances.end = TypedBranches.none
+  typed-branch-instances h g v (n_more d n ns) (TypedBranches.branch a others) (Instances.more b bs) = TypedBranches.branch (typed-instance h g (n, v) a b) (typed-branch-instances h g v ns others bs)
 
 pub tied-self : {from to : List Kind} {s : ℕ → Ty} → Substitutes from to s → Tied from from to to s
 tied-self h i k x y = (h i k x, h i k x, refl)

@@ -8,7 +8,7 @@ use Rattle.omega_types.specs.Substitution.{rename, rename_row, instantiate}
 use Rattle.omega_types.specs.Conversion.{Conv}
 use Rattle.omega_types.specs.Conversion.Conv.{c_refl, c_sym}
 use Rattle.omega_types.specs.Normality.{Normal, Normals}
-use Rattle.omega_types.specs.Normality.Normal.{n_int, n_bool, n_text, n_arrow, n_fields, n_all, n_ex, n_neutral}
+use Rattle.omega_types.specs.Normality.Normal.{n_int, n_bool, n_text, n_arrow, n_fields, n_sum, n_all, n_ex, n_mu, n_neutral}
 use Rattle.omega_types.specs.Normality.Normals.{n_end, n_more}
 use Rattle.omega_types.specs.Normalises.{Maps, NormalForm}
 use Rattle.omega_types.proofs.Algebra.{rename-instantiate, rename-weaken, rename-id}
@@ -16,8 +16,8 @@ use Rattle.omega_types.proofs.Preservation.{maps-suc, lift-maps, fresh-rename, n
 use Rattle.omega_terms.specs.declared.op.Op.{Op}
 use Rattle.omega_terms.specs.Term.{Term, TermRow}
 use Rattle.omega_terms.specs.TermSubst.{ren_term, ren_fields, same_index}
-pub use Rattle.omega_terms.specs.NormalTyping.{Typed, TypedFields, AllNormal}
-use Rattle.omega_terms.specs.Typing.{At, HasPart, HasType, FieldsHave, shift_all, result_type, RenVars}
+pub use Rattle.omega_terms.specs.NormalTyping.{Typed, TypedFields, TypedBranches, AllNormal}
+use Rattle.omega_terms.specs.Typing.{At, HasPart, HasType, FieldsHave, BranchesHave, shift_all, result_type, RenVars}
 
 pub cast : {ctx : List Kind} {vars : List Ty} {e : Term} {t u : Ty} → t ≡ u → Typed ctx vars e t → Typed ctx vars e u
 cast {ctx} {vars} {e} p h = subst (λ x. Typed ctx vars e x) p h
@@ -44,10 +44,18 @@ mutual
   typed-sound (Typed.if_ a b c) = HasType.if_ (typed-sound a) (typed-sound b) (typed-sound c)
   typed-sound (Typed.arith a b) = HasType.arith (typed-sound a) (typed-sound b)
   typed-sound (Typed.fix n m h) = HasType.fix (normal-kind n) (normal-kind m) (typed-sound h)
+  typed-sound (Typed.inj n p h) = HasType.inj (c_refl (normal-kind n)) p (typed-sound h)
+  typed-sound (Typed.case h n hs) = HasType.case (typed-sound h) (normal-kind n) (typed-branches-sound hs)
+  typed-sound (Typed.roll n f h) = HasType.roll (c_refl (normal-kind n)) (HasType.conv (typed-sound h) (c_sym f.1))
+  typed-sound (Typed.unroll h f) = HasType.conv (HasType.unroll (typed-sound h)) f.1
 
   pub typed-fields-sound : {ctx : List Kind} {vars : List Ty} {f : TermRow} {r : Row} → TypedFields ctx vars f r → FieldsHave ctx vars f r
   typed-fields-sound TypedFields.end = FieldsHave.end
   typed-fields-sound (TypedFields.more h d hs) = FieldsHave.more (typed-sound h) d (typed-fields-sound hs)
+
+  pub typed-branches-sound : {ctx : List Kind} {vars : List Ty} {f : TermRow} {r : Row} {t : Ty} → TypedBranches ctx vars f r t → BranchesHave ctx vars f r t
+  typed-branches-sound TypedBranches.none = BranchesHave.none
+  typed-branches-sound (TypedBranches.branch h hs) = BranchesHave.branch (typed-sound h) (typed-branches-sound hs)
 
 -- looking up in a list of shifted types
 
@@ -106,10 +114,19 @@ mutual
   typed-rename q r f g (Typed.if_ a b c) = Typed.if_ (typed-rename q r f g a) (typed-rename q r f g b) (typed-rename q r f g c)
   typed-rename q r f g (Typed.arith {o = o} a b) = cast (rename-result q o) (Typed.arith (typed-rename q r f g a) (typed-rename q r f g b))
   typed-rename q r f g (Typed.fix n m h) = Typed.fix (normal-rename q f n) (normal-rename q f m) (typed-rename q (lift (lift r)) f (lift-vars (lift-vars g)) h)
+  typed-rename q r f g (Typed.inj n p h) = Typed.inj (normal-rename q f n) (rename-part q p) (typed-rename q r f g h)
+  typed-rename q r f g (Typed.case h n hs) = Typed.case (typed-rename q r f g h) (normal-rename q f n) (typed-branches-rename q r f g hs)
+  typed-rename q r f g (Typed.roll {body = body} u m h) = Typed.roll (normal-rename q f u) (form-rename body (Ty.Mu body) q f m) (typed-rename q r f g h)
+  typed-rename q r f g (Typed.unroll {body = body} h m) = Typed.unroll (typed-rename q r f g h) (form-rename body (Ty.Mu body) q f m)
 
   pub typed-fields-rename : {ctx other : List Kind} {vars others : List Ty} {e : TermRow} {t : Row} (q r : ℕ → ℕ) → Maps ctx other q → RenVars vars others q r → TypedFields ctx vars e t → TypedFields other others (ren_fields q r e) (rename_row q t)
   typed-fields-rename q r f g TypedFields.end = TypedFields.end
   typed-fields-rename q r f g (TypedFields.more {l = l} {r = p} h d hs) = TypedFields.more (typed-rename q r f g h) (fresh-rename q l p d) (typed-fields-rename q r f g hs)
+
+  -- each branch stands under one more term variable
+  pub typed-branches-rename : {ctx other : List Kind} {vars others : List Ty} {e : TermRow} {t : Row} {u : Ty} (q r : ℕ → ℕ) → Maps ctx other q → RenVars vars others q r → TypedBranches ctx vars e t u → TypedBranches other others (ren_fields q (lift r) e) (rename_row q t) (rename q u)
+  typed-branches-rename q r f g TypedBranches.none = TypedBranches.none
+  typed-branches-rename q r f g (TypedBranches.branch h hs) = TypedBranches.branch (typed-rename q (lift r) f (lift-vars g) h) (typed-branches-rename q r f g hs)
 
 -- under one more type variable
 pub typed-under : {ctx : List Kind} {vars : List Ty} {e : Term} {t : Ty} (k : Kind) → Typed ctx vars e t → Typed (k ∷ ctx) (shift_all vars) (ren_term suc same_index e) (rename suc t)
@@ -137,6 +154,10 @@ normal-row : {ctx : List Kind} {r : Row} → Normal ctx (Ty.Fields r) Kind.Star 
 normal-row (n_fields r) = r
 normal-row (n_neutral n) = elim n [ ]
 
+pub normal-sum : {ctx : List Kind} {r : Row} → Normal ctx (Ty.Sum r) Kind.Star → Normals ctx r
+normal-sum (n_sum r) = r
+normal-sum (n_neutral n) = elim n [ ]
+
 pub normal-all : {ctx : List Kind} {k : Kind} {b : Ty} → Normal ctx (Ty.All k b) Kind.Star → Normal (k ∷ ctx) b Kind.Star
 normal-all (n_all b) = b
 normal-all (n_neutral n) = elim n [ ]
@@ -144,6 +165,10 @@ normal-all (n_neutral n) = elim n [ ]
 pub normal-ex : {ctx : List Kind} {k : Kind} {b : Ty} → Normal ctx (Ty.Ex k b) Kind.Star → Normal (k ∷ ctx) b Kind.Star
 normal-ex (n_ex b) = b
 normal-ex (n_neutral n) = elim n [ ]
+
+pub normal-mu : {ctx : List Kind} {b : Ty} → Normal ctx (Ty.Mu b) Kind.Star → Normal (Kind.Star ∷ ctx) b Kind.Star
+normal-mu (n_mu b) = b
+normal-mu (n_neutral n) = elim n [ ]
 
 normal-part : {ctx : List Kind} {r : Row} {l : Label} {t : Ty} → Normals ctx r → HasPart r l t → Normal ctx t Kind.Star
 normal-part n_end p = elim p [ ]
@@ -172,6 +197,10 @@ mutual
   typed-normal v (Typed.if_ a b c) = typed-normal v b
   typed-normal v (Typed.arith {o = o} a b) = normal-result o
   typed-normal v (Typed.fix n m h) = n_arrow n m
+  typed-normal v (Typed.inj n p h) = n
+  typed-normal v (Typed.case h n hs) = n
+  typed-normal v (Typed.roll n f h) = n
+  typed-normal v (Typed.unroll h f) = f.0
 
   pub typed-fields-normal : {ctx : List Kind} {vars : List Ty} {f : TermRow} {r : Row} → AllNormal ctx vars → TypedFields ctx vars f r → Normals ctx r
   typed-fields-normal v TypedFields.end = n_end
@@ -204,7 +233,15 @@ mutual
   typed-more others (Typed.if_ a b c) = Typed.if_ (typed-more others a) (typed-more others b) (typed-more others c)
   typed-more others (Typed.arith a b) = Typed.arith (typed-more others a) (typed-more others b)
   typed-more others (Typed.fix n m h) = Typed.fix n m (typed-more others h)
+  typed-more others (Typed.inj n p h) = Typed.inj n p (typed-more others h)
+  typed-more others (Typed.case h n hs) = Typed.case (typed-more others h) n (typed-branches-more others hs)
+  typed-more others (Typed.roll n f h) = Typed.roll n f (typed-more others h)
+  typed-more others (Typed.unroll h f) = Typed.unroll (typed-more others h) f
 
   pub typed-fields-more : {ctx : List Kind} {vars : List Ty} {f : TermRow} {r : Row} (others : List Ty) → TypedFields ctx vars f r → TypedFields ctx (vars ++ others) f r
   typed-fields-more others TypedFields.end = TypedFields.end
   typed-fields-more others (TypedFields.more h d hs) = TypedFields.more (typed-more others h) d (typed-fields-more others hs)
+
+  pub typed-branches-more : {ctx : List Kind} {vars : List Ty} {f : TermRow} {r : Row} {t : Ty} (others : List Ty) → TypedBranches ctx vars f r t → TypedBranches ctx (vars ++ others) f r t
+  typed-branches-more others TypedBranches.none = TypedBranches.none
+  typed-branches-more others (TypedBranches.branch h hs) = TypedBranches.branch (typed-more others h) (typed-branches-more others hs)

@@ -13,7 +13,7 @@ use Rattle.omega_terms.specs.Term.{Term, TermRow}
 use Rattle.omega_terms.specs.Fields.{TermPairs, term_row}
 use Rattle.omega_terms.specs.Size.{pairs_size}
 use Rattle.omega_terms.specs.Bound.{type_bound, term_bound}
-use Rattle.omega_terms.specs.TermSubst.{ren_term, sub_term, under_type, up_term, same_index, fill_term, put_at, put_term, put_type, shift_term}
+use Rattle.omega_terms.specs.TermSubst.{ren_term, ren_fields, sub_term, sub_fields, under_type, up_term, same_index, fill_term, put_at, put_term, put_type, shift_term}
 use Rattle.omega_terms.proofs.Unchanged.{ren_term-unchanged, sub_term-unchanged}
 
 next : (n : ℕ) → suc n ≡ n + 1
@@ -32,6 +32,9 @@ bump-var_above by from i h = ap Term.Var (let e = bump-above by from i h in omeg
 
 pub ren-under_term : (a b i j : ℕ) (e : Term) → ren_term (bump a i) (lift (bump b j)) e ≡ ren_term (bump a i) (bump b (j + 1)) e
 ren-under_term a b i j e = ap (λ n. ren_term (bump a i) (bump b n) e) (next j)
+
+pub ren-row_under_term : (a b i j : ℕ) (row : TermRow) → ren_fields (bump a i) (lift (bump b j)) row ≡ ren_fields (bump a i) (bump b (j + 1)) row
+ren-row_under_term a b i j row = ap (λ n. ren_fields (bump a i) (bump b n) row) (next j)
 
 pub ren-under_type : (a b i j : ℕ) (e : Term) → ren_term (lift (bump a i)) (bump b j) e ≡ ren_term (bump a (i + 1)) (bump b j) e
 ren-under_type a b i j e = ap (λ n. ren_term (bump a n) (bump b j) e) (next i)
@@ -120,6 +123,9 @@ under-vars = fun_ext go
 pub put_term-under_term : (i : ℕ) (a e : Term) → sub_term Ty.Var (up_term (put_at i a)) e ≡ put_term e (i + 1) (shift_term a 0 1)
 put_term-under_term i a e = ap (λ w. sub_term Ty.Var w e) (up-put_at i a)
 
+pub put_term-row_under_term : (i : ℕ) (a : Term) (row : TermRow) → sub_fields Ty.Var (up_term (put_at i a)) row ≡ sub_fields Ty.Var (put_at (i + 1) (shift_term a 0 1)) row
+put_term-row_under_term i a row = ap (λ w. sub_fields Ty.Var w row) (up-put_at i a)
+
 pub put_term-under_type : (i : ℕ) (a e : Term) → sub_term (under Ty.Var) (under_type (put_at i a)) e ≡ put_term e i (shift_term a 1 0)
 put_term-under_type i a e = ap₂ (λ s w. sub_term s w e) under-vars (under_type-put_at i a)
 
@@ -147,6 +153,9 @@ under-put i a = put-under i a ∙ ap₂ put (next i) (sym (shift-suc a))
 
 pub put_type-under_term : (i : ℕ) (a : Ty) (e : Term) → sub_term (put i a) (up_term Term.Var) e ≡ put_type e i a
 put_type-under_term i a e = ap (λ w. sub_term (put i a) w e) up-vars
+
+pub put_type-row_under_term : (i : ℕ) (a : Ty) (row : TermRow) → sub_fields (put i a) (up_term Term.Var) row ≡ sub_fields (put i a) Term.Var row
+put_type-row_under_term i a row = ap (λ w. sub_fields (put i a) w row) up-vars
 
 pub put_type-under_type : (i : ℕ) (a : Ty) (e : Term) → sub_term (under (put i a)) (under_type Term.Var) e ≡ put_type e (i + 1) (shift 1 0 a)
 put_type-under_type i a e = ap (λ s. sub_term s Term.Var e) (under-put i a)

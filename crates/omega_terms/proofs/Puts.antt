@@ -13,7 +13,7 @@ use Rattle.omega_terms.specs.Walk.{walked, walked_row}
 use Rattle.omega_terms.proofs.Unchanged.{ap₃}
 use Rattle.omega_terms.proofs.TermAlgebra.{shift-shift_term}
 use Rattle.omega_terms.proofs.Raises.{shift-none}
-use Rattle.omega_terms.proofs.OneIndex.{put_type-same, put_type-under_term, put_type-under_type, put_type-under_both, put_type-under_two, put_term-same, put_term-under_term, put_term-under_type, put_term-under_both, put_term-under_two, put-var_same, put-var_below, put-var_above}
+use Rattle.omega_terms.proofs.OneIndex.{put_type-same, put_type-under_term, put_type-row_under_term, put_type-under_type, put_type-under_both, put_type-under_two, put_term-same, put_term-under_term, put_term-row_under_term, put_term-under_type, put_term-under_both, put_term-under_two, put-var_same, put-var_below, put-var_above}
 
 -- ---- a type a, put in for the type variable x
 
@@ -50,6 +50,11 @@ mutual
   walk-puts_type x a i j (Term.If c d e) = ap₃ Term.If (walk-puts_type x a i j c) (walk-puts_type x a i j d) (walk-puts_type x a i j e)
   walk-puts_type x a i j (Term.Arith o d e) = ap₂ (Term.Arith o) (walk-puts_type x a i j d) (walk-puts_type x a i j e)
   walk-puts_type x a i j (Term.Fix t u e) = ap (Term.Fix (typed x a i t) (typed x a i u)) (walk-puts_type x a i (j + 1 + 1) e ∙ sym (put_type-under_two (x + i) (shift i 0 a) e))
+  walk-puts_type x a i j (Term.Inj l e t) = ap (λ d. Term.Inj l d (typed x a i t)) (walk-puts_type x a i j e)
+  walk-puts_type x a i j (Term.Case e t row) =
+      ap₂ (λ d r. Term.Case d (typed x a i t) r) (walk-puts_type x a i j e) (row-puts_type x a i (j + 1) row ∙ sym (put_type-row_under_term (x + i) (shift i 0 a) row))
+  walk-puts_type x a i j (Term.Roll e t) = ap (λ d. Term.Roll d (typed x a i t)) (walk-puts_type x a i j e)
+  walk-puts_type x a i j (Term.Unroll e) = ap Term.Unroll (walk-puts_type x a i j e)
 
   row-puts_type : (x : ℕ) (a : Ty) (i j : ℕ) (row : TermRow) → walked_row (typed x a) stays i j row ≡ sub_fields (put (x + i) (shift i 0 a)) Term.Var row
   row-puts_type x a i j TermRow.End = refl
@@ -87,6 +92,9 @@ deeper-type x i j a = ap (put_at (x + j)) (ap (shift_term a (i + 1)) (nothing-mo
 under-term : (x i j : ℕ) (a e : Term) → put_term e (x + (j + 1)) (shift_term a i (j + 1)) ≡ sub_term Ty.Var (up_term (put_at (x + j) (shift_term a i j))) e
 under-term x i j a e = ap (λ w. sub_term Ty.Var w e) (deeper-term x i j a) ∙ sym (put_term-under_term (x + j) (shift_term a i j) e)
 
+row-under-term : (x i j : ℕ) (a : Term) (row : TermRow) → sub_fields Ty.Var (put_at (x + (j + 1)) (shift_term a i (j + 1))) row ≡ sub_fields Ty.Var (up_term (put_at (x + j) (shift_term a i j))) row
+row-under-term x i j a row = ap (λ w. sub_fields Ty.Var w row) (deeper-term x i j a) ∙ sym (put_term-row_under_term (x + j) (shift_term a i j) row)
+
 under-type : (x i j : ℕ) (a e : Term) → put_term e (x + j) (shift_term a (i + 1) j) ≡ sub_term (under Ty.Var) (under_type (put_at (x + j) (shift_term a i j))) e
 under-type x i j a e = ap (λ w. sub_term Ty.Var w e) (deeper-type x i j a) ∙ sym (put_term-under_type (x + j) (shift_term a i j) e)
 
@@ -115,6 +123,11 @@ mutual
   walk-puts_term x a i j (Term.If c d e) = ap₃ Term.If (walk-puts_term x a i j c) (walk-puts_term x a i j d) (walk-puts_term x a i j e)
   walk-puts_term x a i j (Term.Arith o d e) = ap₂ (Term.Arith o) (walk-puts_term x a i j d) (walk-puts_term x a i j e)
   walk-puts_term x a i j (Term.Fix t u e) = ap₃ Term.Fix (sym (substitute-id t)) (sym (substitute-id u)) (walk-puts_term x a i (j + 1 + 1) e ∙ under-two x i j a e)
+  walk-puts_term x a i j (Term.Inj l e t) = ap₂ (Term.Inj l) (walk-puts_term x a i j e) (sym (substitute-id t))
+  walk-puts_term x a i j (Term.Case e t row) =
+      ap₃ Term.Case (walk-puts_term x a i j e) (sym (substitute-id t)) (row-puts_term x a i (j + 1) row ∙ row-under-term x i j a row)
+  walk-puts_term x a i j (Term.Roll e t) = ap₂ Term.Roll (walk-puts_term x a i j e) (sym (substitute-id t))
+  walk-puts_term x a i j (Term.Unroll e) = ap Term.Unroll (walk-puts_term x a i j e)
 
   row-puts_term : (x : ℕ) (a : Term) (i j : ℕ) (row : TermRow) → walked_row same_type (filled x a) i j row ≡ sub_fields Ty.Var (put_at (x + j) (shift_term a i j)) row
   row-puts_term x a i j TermRow.End = refl

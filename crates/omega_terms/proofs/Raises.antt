@@ -8,7 +8,7 @@ use Rattle.omega_terms.specs.Bound.{type_bound, term_bound}
 use Rattle.omega_terms.specs.TermSubst.{ren_term, ren_fields, shift_term}
 use Rattle.omega_terms.specs.Walk.{walked, walked_row}
 use Rattle.omega_terms.proofs.Unchanged.{ap₃, ren_term-unchanged}
-use Rattle.omega_terms.proofs.OneIndex.{ren-under_term, ren-under_type, ren-under_both, ren-under_two}
+use Rattle.omega_terms.proofs.OneIndex.{ren-under_term, ren-row_under_term, ren-under_type, ren-under_both, ren-under_two}
 
 -- the change that adds a to each free type variable, and the one that adds b to each free term variable
 abbrev raised_type : ℕ → ℕ → Ty → Ty
@@ -34,6 +34,11 @@ mutual
   walk-raises a b i j (Term.If c d e) = ap₃ Term.If (walk-raises a b i j c) (walk-raises a b i j d) (walk-raises a b i j e)
   walk-raises a b i j (Term.Arith o d e) = ap₂ (Term.Arith o) (walk-raises a b i j d) (walk-raises a b i j e)
   walk-raises a b i j (Term.Fix t u e) = ap (Term.Fix (shift a i t) (shift a i u)) (walk-raises a b i (j + 1 + 1) e ∙ sym (ren-under_two a b i j e))
+  walk-raises a b i j (Term.Inj l e t) = ap (λ d. Term.Inj l d (shift a i t)) (walk-raises a b i j e)
+  walk-raises a b i j (Term.Case e t row) =
+      ap₂ (λ d r. Term.Case d (shift a i t) r) (walk-raises a b i j e) (row-raises a b i (j + 1) row ∙ sym (ren-row_under_term a b i j row))
+  walk-raises a b i j (Term.Roll e t) = ap (λ d. Term.Roll d (shift a i t)) (walk-raises a b i j e)
+  walk-raises a b i j (Term.Unroll e) = ap Term.Unroll (walk-raises a b i j e)
 
   row-raises : (a b i j : ℕ) (row : TermRow) → walked_row (raised_type a) (raised_variable b) i j row ≡ ren_fields (bump a i) (bump b j) row
   row-raises a b i j TermRow.End = refl

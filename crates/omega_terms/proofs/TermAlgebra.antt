@@ -29,6 +29,10 @@ mutual
   ren-ren_term q p r s (Term.If a b c) = ap₃ Term.If (ren-ren_term q p r s a) (ren-ren_term q p r s b) (ren-ren_term q p r s c)
   ren-ren_term q p r s (Term.Arith o a b) = ap₂ (Term.Arith o) (ren-ren_term q p r s a) (ren-ren_term q p r s b)
   ren-ren_term q p r s (Term.Fix t u e) = ap₃ Term.Fix (rename-rename q p t) (rename-rename q p u) (ren-ren_term q p (lift (lift r)) (lift (lift s)) e ∙ ap (λ f. ren_term (λ i. q (p i)) f e) (two-lifts r s))
+  ren-ren_term q p r s (Term.Inj l e t) = ap₂ (Term.Inj l) (ren-ren_term q p r s e) (rename-rename q p t)
+  ren-ren_term q p r s (Term.Case e t f) = ap₃ Term.Case (ren-ren_term q p r s e) (rename-rename q p t) (ren-ren_fields q p (lift r) (lift s) f ∙ ap (λ g. ren_fields (λ i. q (p i)) g f) (lift-lift r s))
+  ren-ren_term q p r s (Term.Roll e t) = ap₂ Term.Roll (ren-ren_term q p r s e) (rename-rename q p t)
+  ren-ren_term q p r s (Term.Unroll e) = ap Term.Unroll (ren-ren_term q p r s e)
 
   pub ren-ren_fields : (q p r s : ℕ → ℕ) (f : TermRow) → ren_fields q r (ren_fields p s f) ≡ ren_fields (λ i. q (p i)) (λ i. r (s i)) f
   ren-ren_fields q p r s TermRow.End = refl

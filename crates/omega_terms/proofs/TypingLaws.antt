@@ -14,11 +14,11 @@ use Rattle.omega_types.specs.Conversion.Conv.{c_refl, c_sym, c_trans, c_arrow}
 use Rattle.omega_types.specs.Normalises.{Maps}
 use Rattle.omega_types.proofs.Algebra.{rename-instantiate, substitute-instantiate, rename-weaken, substitute-weaken, rename-id, single-rename}
 use Rattle.omega_types.proofs.Preservation.{Substitutes, maps-suc, lift-maps, kind-rename, fresh-rename, conv-rename, under-substitutes, single-substitutes, kind-substitute, fresh-substitute, conv-substitute, conv-kinds}
-use Rattle.omega_types.proofs.Inverse.{arrow-kinds, all-kinds, ex-kinds, fields-kinds}
+use Rattle.omega_types.proofs.Inverse.{arrow-kinds, all-kinds, ex-kinds, fields-kinds, sum-kinds, mu-kinds}
 use Rattle.omega_terms.specs.declared.op.Op.{Op}
 use Rattle.omega_terms.specs.Term.{Term, TermRow}
 use Rattle.omega_terms.specs.TermSubst.{ren_term, ren_fields, sub_term, sub_fields, up_term, under_type, same_index}
-use Rattle.omega_terms.specs.Typing.{At, HasPart, HasType, FieldsHave, shift_all, result_type, GoodVars, RenVars, SubVars}
+use Rattle.omega_terms.specs.Typing.{At, HasPart, HasType, FieldsHave, BranchesHave, shift_all, result_type, GoodVars, RenVars, SubVars}
 use Rattle.omega_terms.proofs.NormalTyping.{at-shift, shift-at, lift-vars, under-vars, rename-part, rename-result}
 use Rattle.omega_terms.proofs.NormalInstance.{conv-instantiate}
 
@@ -45,11 +45,20 @@ mutual
   rename-type q r f g (HasType.if_ h i j) = HasType.if_ (rename-type q r f g h) (rename-type q r f g i) (rename-type q r f g j)
   rename-type q r f g (HasType.arith {o = o} h i) = cast-type (rename-result q o) (HasType.arith (rename-type q r f g h) (rename-type q r f g i))
   rename-type q r f g (HasType.fix k j h) = HasType.fix (kind-rename q f k) (kind-rename q f j) (rename-type q (lift (lift r)) f (lift-vars (lift-vars g)) h)
+  rename-type q r f g (HasType.inj c p h) = HasType.inj (conv-rename q f c) (rename-part q p) (rename-type q r f g h)
+  rename-type q r f g (HasType.case h k i) = HasType.case (rename-type q r f g h) (kind-rename q f k) (rename-branches q r f g i)
+  rename-type q r f g (HasType.roll {body = body} c h) = HasType.roll (conv-rename q f c) (cast-type (rename-instantiate q body (Ty.Mu body)) (rename-type q r f g h))
+  rename-type q r f g (HasType.unroll {body = body} h) = cast-type (sym (rename-instantiate q body (Ty.Mu body))) (HasType.unroll (rename-type q r f g h))
   rename-type q r f g (HasType.conv h c) = HasType.conv (rename-type q r f g h) (conv-rename q f c)
 
   pub rename-types : {ctx other : List Kind} {vars others : List Ty} {e : TermRow} {t : Row} (q r : ℕ → ℕ) → Maps ctx other q → RenVars vars others q r → FieldsHave ctx vars e t → FieldsHave other others (ren_fields q r e) (rename_row q t)
   rename-types q r f g FieldsHave.end = FieldsHave.end
   rename-types q r f g (FieldsHave.more {l = l} {r = p} h d i) = FieldsHave.more (rename-type q r f g h) (fresh-rename q l p d) (rename-types q r f g i)
+
+  -- each branch stands under one more term variable
+  pub rename-branches : {ctx other : List Kind} {vars others : List Ty} {e : TermRow} {t : Row} {u : Ty} (q r : ℕ → ℕ) → Maps ctx other q → RenVars vars others q r → BranchesHave ctx vars e t u → BranchesHave other others (ren_fields q (lift r) e) (rename_row q t) (rename q u)
+  rename-branches q r f g BranchesHave.none = BranchesHave.none
+  rename-branches q r f g (BranchesHave.branch h i) = BranchesHave.branch (rename-type q (lift r) f (lift-vars g) h) (rename-branches q r f g i)
 
 pub shift-types : {ctx : List Kind} {vars : List Ty} {e : Term} {t : Ty} (k : Kind) → HasType ctx vars e t → HasType (k ∷ ctx) (shift_all vars) (ren_term suc same_index e) (rename suc t)
 shift-types {ctx} k h = rename-type suc same_index (maps-suc k ctx) (λ n u a. at-shift a) h
@@ -95,11 +104,20 @@ mutual
   substitute-type s w f g (HasType.if_ h i j) = HasType.if_ (substitute-type s w f g h) (substitute-type s w f g i) (substitute-type s w f g j)
   substitute-type s w f g (HasType.arith {o = o} h i) = cast-type (substitute-result s o) (HasType.arith (substitute-type s w f g h) (substitute-type s w f g i))
   substitute-type s w f g (HasType.fix k j h) = HasType.fix (kind-substitute s f k) (kind-substitute s f j) (substitute-type s (up_term (up_term w)) f (up-vars (up-vars g)) h)
+  substitute-type s w f g (HasType.inj c p h) = HasType.inj (conv-substitute s f c) (substitute-part s p) (substitute-type s w f g h)
+  substitute-type s w f g (HasType.case h k i) = HasType.case (substitute-type s w f g h) (kind-substitute s f k) (substitute-branches s w f g i)
+  substitute-type s w f g (HasType.roll {body = body} c h) = HasType.roll (conv-substitute s f c) (cast-type (substitute-instantiate s body (Ty.Mu body)) (substitute-type s w f g h))
+  substitute-type s w f g (HasType.unroll {body = body} h) = cast-type (sym (substitute-instantiate s body (Ty.Mu body))) (HasType.unroll (substitute-type s w f g h))
   substitute-type s w f g (HasType.conv h c) = HasType.conv (substitute-type s w f g h) (conv-substitute s f c)
 
   pub substitute-types : {ctx other : List Kind} {vars others : List Ty} {e : TermRow} {t : Row} (s : ℕ → Ty) (w : ℕ → Term) → Substitutes ctx other s → SubVars vars other others s w → FieldsHave ctx vars e t → FieldsHave other others (sub_fields s w e) (substitute_row s t)
   substitute-types s w f g FieldsHave.end = FieldsHave.end
   substitute-types s w f g (FieldsHave.more {l = l} {r = p} h d i) = FieldsHave.more (substitute-type s w f g h) (fresh-substitute s l p d) (substitute-types s w f g i)
+
+  -- each branch stands under one more term variable
+  pub substitute-branches : {ctx other : List Kind} {vars others : List Ty} {e : TermRow} {t : Row} {u : Ty} (s : ℕ → Ty) (w : ℕ → Term) → Substitutes ctx other s → SubVars vars other others s w → BranchesHave ctx vars e t u → BranchesHave other others (sub_fields s (up_term w) e) (substitute_row s t) (substitute s u)
+  substitute-branches s w f g BranchesHave.none = BranchesHave.none
+  substitute-branches s w f g (BranchesHave.branch h i) = BranchesHave.branch (substitute-type s (up_term w) f (up-vars g) h) (substitute-branches s w f g i)
 
 -- a type of a term has kind *
 
@@ -153,6 +171,10 @@ mutual
   type-kind g (HasType.if_ h i j) = type-kind g i
   type-kind g (HasType.arith {o = o} h i) = result-kind o
   type-kind g (HasType.fix k j h) = k_arrow k j
+  type-kind g (HasType.inj c p h) = (conv-kinds c).0
+  type-kind g (HasType.case h k i) = k
+  type-kind g (HasType.roll c h) = (conv-kinds c).0
+  type-kind g (HasType.unroll {body = body} h) = let k = type-kind g h in kind-substitute (single (Ty.Mu body)) (single-substitutes k) (mu-kinds k)
   type-kind g (HasType.conv h c) = (conv-kinds c).1
 
   pub types-kind : {ctx : List Kind} {vars : List Ty} {f : TermRow} {r : Row} → GoodVars ctx vars → FieldsHave ctx vars f r → HasKinds ctx r
@@ -193,11 +215,19 @@ mutual
   revars v g (HasType.if_ h i j) = HasType.if_ (revars v g h) (revars v g i) (revars v g j)
   revars v g (HasType.arith h i) = HasType.arith (revars v g h) (revars v g i)
   revars v g (HasType.fix k j h) = HasType.fix k j (revars (good-more k (good-more (k_arrow k j) v)) (conv-more (c_refl k) (conv-more (c_refl (k_arrow k j)) g)) h)
+  revars v g (HasType.inj c p h) = HasType.inj c p (revars v g h)
+  revars v g (HasType.case h k i) = HasType.case (revars v g h) k (revars-branches v g (sum-kinds (type-kind v h)) i)
+  revars v g (HasType.roll c h) = HasType.roll c (revars v g h)
+  revars v g (HasType.unroll h) = HasType.unroll (revars v g h)
   revars v g (HasType.conv h c) = HasType.conv (revars v g h) c
 
   pub revars-fields : {ctx : List Kind} {vars others : List Ty} {f : TermRow} {r : Row} → GoodVars ctx vars → ConvVars ctx vars others → FieldsHave ctx vars f r → FieldsHave ctx others f r
   revars-fields v g FieldsHave.end = FieldsHave.end
   revars-fields v g (FieldsHave.more h d i) = FieldsHave.more (revars v g h) d (revars-fields v g i)
+
+  pub revars-branches : {ctx : List Kind} {vars others : List Ty} {f : TermRow} {r : Row} {t : Ty} → GoodVars ctx vars → ConvVars ctx vars others → HasKinds ctx r → BranchesHave ctx vars f r t → BranchesHave ctx others f r t
+  revars-branches v g k_end BranchesHave.none = BranchesHave.none
+  revars-branches v g (k_more d k ks) (BranchesHave.branch h i) = BranchesHave.branch (revars (good-more k v) (conv-more (c_refl k) g) h) (revars-branches v g ks i)
 
 -- annotations replaced by convertible ones, along a typing: the kind that an open binds is not written in the term
 
@@ -218,11 +248,24 @@ mutual
     if_ : {ctx : List Kind} {vars : List Ty} {a b c x y z : Term} {t : Ty} → Replaced ctx vars a x Ty.Bool → Replaced ctx vars b y t → Replaced ctx vars c z t → Replaced ctx vars (Term.If a b c) (Term.If x y z) t
     arith : {ctx : List Kind} {vars : List Ty} {o : Op} {a b x y : Term} → Replaced ctx vars a x Ty.Int → Replaced ctx vars b y Ty.Int → Replaced ctx vars (Term.Arith o a b) (Term.Arith o x y) (result_type o)
     fix : {ctx : List Kind} {vars : List Ty} {t t' u u' : Ty} {e d : Term} → Conv ctx t t' Kind.Star → Conv ctx u u' Kind.Star → Replaced ctx (t ∷ (Ty.Arrow t u ∷ vars)) e d u → Replaced ctx vars (Term.Fix t u e) (Term.Fix t' u' d) (Ty.Arrow t u)
+    inj : {ctx : List Kind} {vars : List Ty} {l : Label} {e d : Term} {t t' u : Ty} {r : Row} → Conv ctx t (Ty.Sum r) Kind.Star → Conv ctx t t' Kind.Star → HasPart r l u → Replaced ctx vars e d u → Replaced ctx vars (Term.Inj l e t) (Term.Inj l d t') t
+    case : {ctx : List Kind} {vars : List Ty} {e d : Term} {t t' : Ty} {r : Row} {f g : TermRow} → Replaced ctx vars e d (Ty.Sum r) → Conv ctx t t' Kind.Star → ReplacedBranches ctx vars f g r t → Replaced ctx vars (Term.Case e t f) (Term.Case d t' g) t
+    roll : {ctx : List Kind} {vars : List Ty} {e d : Term} {t t' body : Ty} → Conv ctx t (Ty.Mu body) Kind.Star → Conv ctx t t' Kind.Star → Replaced ctx vars e d (instantiate body (Ty.Mu body)) → Replaced ctx vars (Term.Roll e t) (Term.Roll d t') t
+    unroll : {ctx : List Kind} {vars : List Ty} {e d : Term} {body : Ty} → Replaced ctx vars e d (Ty.Mu body) → Replaced ctx vars (Term.Unroll e) (Term.Unroll d) (instantiate body (Ty.Mu body))
     conv : {ctx : List Kind} {vars : List Ty} {e d : Term} {t u : Ty} → Replaced ctx vars e d t → Conv ctx t u Kind.Star → Replaced ctx vars e d u
 
   pub data ReplacedFields : List Kind → List Ty → TermRow → TermRow → Row → Type 0 where
     end : {ctx : List Kind} {vars : List Ty} → ReplacedFields ctx vars TermRow.End TermRow.End Row.End
     more : {ctx : List Kind} {vars : List Ty} {l : Label} {e d : Term} {t : Ty} {f g : TermRow} {r : Row} → Replaced ctx vars e d t → Fresh l r → ReplacedFields ctx vars f g r → ReplacedFields ctx vars (TermRow.More l e f) (TermRow.More l d g) (Row.More l t r)
+
+  pub data ReplacedBranches : List Kind → List Ty → TermRow → TermRow → Row → Ty → Type 0 where
+    none : {ctx : List Kind} {vars : List Ty} {t : Ty} → ReplacedBranches ctx vars TermRow.End TermRow.End Row.End t
+    branch : {ctx : List Kind} {vars : List Ty} {l : Label} {e d : Term} {t u : Ty} {f g : TermRow} {r : Row} → Replaced ctx (u ∷ vars) e d t → ReplacedBranches ctx vars f g r t → ReplacedBranches ctx vars (TermRow.More l e f) (TermRow.More l d g) (Row.More l u r) t
+
+-- branches of a type have each convertible type
+branches-conv : {ctx : List Kind} {vars : List Ty} {f : TermRow} {r : Row} {t u : Ty} → Conv ctx t u Kind.Star → BranchesHave ctx vars f r t → BranchesHave ctx vars f r u
+branches-conv c BranchesHave.none = BranchesHave.none
+branches-conv c (BranchesHave.branch h i) = BranchesHave.branch (HasType.conv h c) (branches-conv c i)
 
 -- the term with the replaced annotations has the type, and so has the given one
 mutual
@@ -262,8 +305,20 @@ mutual
       let r = replaced-typed w h in
       let g = conv-more (c_sym c) (conv-more (c_arrow (c_sym c) (c_sym b)) (conv-same ctx vars)) in
       (HasType.fix k.0 j.0 r.0, HasType.conv (HasType.fix k.1 j.1 (HasType.conv (revars w g r.1) b)) (c_arrow (c_sym c) (c_sym b)))
+  replaced-typed v (Replaced.inj c t p h) = let r = replaced-typed v h in (HasType.inj c p r.0, HasType.conv (HasType.inj (c_trans (c_sym t) c) p r.1) (c_sym t))
+  replaced-typed v (Replaced.case h c i) =
+      let p = replaced-typed v h in
+      let k = conv-kinds c in
+      let q = replaced_branches-typed v (sum-kinds (type-kind v p.0)) i in
+      (HasType.case p.0 k.0 q.0, HasType.conv (HasType.case p.1 k.1 (branches-conv c q.1)) (c_sym c))
+  replaced-typed v (Replaced.roll c t h) = let r = replaced-typed v h in (HasType.roll c r.0, HasType.conv (HasType.roll (c_trans (c_sym t) c) r.1) (c_sym t))
+  replaced-typed v (Replaced.unroll h) = let r = replaced-typed v h in (HasType.unroll r.0, HasType.unroll r.1)
   replaced-typed v (Replaced.conv h c) = let r = replaced-typed v h in (HasType.conv r.0 c, HasType.conv r.1 c)
 
   pub replaced_fields-typed : {ctx : List Kind} {vars : List Ty} {f g : TermRow} {r : Row} → GoodVars ctx vars → ReplacedFields ctx vars f g r → FieldsHave ctx vars f r × FieldsHave ctx vars g r
   replaced_fields-typed v ReplacedFields.end = (FieldsHave.end, FieldsHave.end)
   replaced_fields-typed v (ReplacedFields.more h d i) = let p = replaced-typed v h in let q = replaced_fields-typed v i in (FieldsHave.more p.0 d q.0, FieldsHave.more p.1 d q.1)
+
+  pub replaced_branches-typed : {ctx : List Kind} {vars : List Ty} {f g : TermRow} {r : Row} {t : Ty} → GoodVars ctx vars → HasKinds ctx r → ReplacedBranches ctx vars f g r t → BranchesHave ctx vars f r t × BranchesHave ctx vars g r t
+  replaced_branches-typed v k_end ReplacedBranches.none = (BranchesHave.none, BranchesHave.none)
+  replaced_branches-typed v (k_more d k ks) (ReplacedBranches.branch h i) = let p = replaced-typed (good-more k v) h in let q = replaced_branches-typed v ks i in (BranchesHave.branch p.0 q.0, BranchesHave.branch p.1 q.1)

@@ -44,6 +44,13 @@ mutual
       ap₂ (Term.Arith op) (ren_term-unchanged n m q r a g h (omega arith) (omega arith)) (ren_term-unchanged n m q r b g h (omega arith) (omega arith))
   ren_term-unchanged n m q r (Term.Fix t u e) g h p o =
       ap₃ Term.Fix (rename-unchanged n q t g (omega arith)) (rename-unchanged n q u g (omega arith)) (ren_term-unchanged n (suc (suc m)) q (lift (lift r)) e g (lift-keeps (suc m) (lift r) (lift-keeps m r h)) (omega arith) (omega arith))
+  ren_term-unchanged n m q r (Term.Inj l e t) g h p o =
+      ap₂ (Term.Inj l) (ren_term-unchanged n m q r e g h (omega arith) o) (rename-unchanged n q t g (omega arith))
+  ren_term-unchanged n m q r (Term.Case e t row) g h p o =
+      ap₃ Term.Case (ren_term-unchanged n m q r e g h (omega arith) (omega arith)) (rename-unchanged n q t g (omega arith)) (ren_fields-unchanged n (suc m) q (lift r) row g (lift-keeps m r h) (omega arith) (omega arith))
+  ren_term-unchanged n m q r (Term.Roll e t) g h p o =
+      ap₂ Term.Roll (ren_term-unchanged n m q r e g h (omega arith) o) (rename-unchanged n q t g (omega arith))
+  ren_term-unchanged n m q r (Term.Unroll e) g h p o = ap Term.Unroll (ren_term-unchanged n m q r e g h p o)
 
   ren_fields-unchanged : (n m : ℕ) (q r : ℕ → ℕ) (row : TermRow) → Keeps n q → Keeps m r → row_type_bound row ≤ n → row_term_bound row ≤ m → ren_fields q r row ≡ row
   ren_fields-unchanged n m q r TermRow.End g h p o = refl
@@ -94,6 +101,13 @@ mutual
       ap₂ (Term.Arith op) (sub_term-unchanged n m s w a g h (omega arith) (omega arith)) (sub_term-unchanged n m s w b g h (omega arith) (omega arith))
   sub_term-unchanged n m s w (Term.Fix t u e) g h p o =
       ap₃ Term.Fix (substitute-unchanged n s t g (omega arith)) (substitute-unchanged n s u g (omega arith)) (sub_term-unchanged n (suc (suc m)) s (up_term (up_term w)) e g (up_term-keeps (suc m) (up_term w) (up_term-keeps m w h)) (omega arith) (omega arith))
+  sub_term-unchanged n m s w (Term.Inj l e t) g h p o =
+      ap₂ (Term.Inj l) (sub_term-unchanged n m s w e g h (omega arith) o) (substitute-unchanged n s t g (omega arith))
+  sub_term-unchanged n m s w (Term.Case e t row) g h p o =
+      ap₃ Term.Case (sub_term-unchanged n m s w e g h (omega arith) (omega arith)) (substitute-unchanged n s t g (omega arith)) (sub_fields-unchanged n (suc m) s (up_term w) row g (up_term-keeps m w h) (omega arith) (omega arith))
+  sub_term-unchanged n m s w (Term.Roll e t) g h p o =
+      ap₂ Term.Roll (sub_term-unchanged n m s w e g h (omega arith) o) (substitute-unchanged n s t g (omega arith))
+  sub_term-unchanged n m s w (Term.Unroll e) g h p o = ap Term.Unroll (sub_term-unchanged n m s w e g h p o)
 
   sub_fields-unchanged : (n m : ℕ) (s : ℕ → Ty) (w : ℕ → Term) (row : TermRow) → KeepsTypes n s → KeepsTerms m w → row_type_bound row ≤ n → row_term_bound row ≤ m → sub_fields s w row ≡ row
   sub_fields-unchanged n m s w TermRow.End g h p o = refl

@@ -38,6 +38,10 @@ mutual
   tested (Term.If a b c) p = absurd (no p)
   tested (Term.Arith op a b) p = absurd (no p)
   tested (Term.Fix t u e) p = IsValue.fix
+  tested (Term.Inj l e t) p = IsValue.inj (tested e p)
+  tested (Term.Case e t row) p = absurd (no p)
+  tested (Term.Roll e t) p = IsValue.roll (tested e p)
+  tested (Term.Unroll e) p = absurd (no p)
 
   all_tested : (row : TermRow) → IsTrue (values_test row) → AreValues row
   all_tested TermRow.End p = AreValues.end
@@ -54,6 +58,8 @@ mutual
   passes IsValue.fix = refl
   passes (IsValue.fields f) = all_pass f
   passes (IsValue.pack v) = passes v
+  passes (IsValue.inj v) = passes v
+  passes (IsValue.roll v) = passes v
 
   all_pass : {row : TermRow} → AreValues row → IsTrue (values_test row)
   all_pass AreValues.end = refl

@@ -21,6 +21,10 @@ abbrev mutual
   type_bound (Term.If a b c) = max (max (type_bound a) (type_bound b)) (type_bound c)
   type_bound (Term.Arith op a b) = max (type_bound a) (type_bound b)
   type_bound (Term.Fix t u e) = max (max (bound_of t) (bound_of u)) (type_bound e)
+  type_bound (Term.Inj l e t) = max (type_bound e) (bound_of t)
+  type_bound (Term.Case e t row) = max (max (type_bound e) (bound_of t)) (row_type_bound row)
+  type_bound (Term.Roll e t) = max (type_bound e) (bound_of t)
+  type_bound (Term.Unroll e) = type_bound e
 
   pub row_type_bound : TermRow → ℕ
   row_type_bound TermRow.End = 0
@@ -43,6 +47,10 @@ abbrev mutual
   term_bound (Term.If a b c) = max (max (term_bound a) (term_bound b)) (term_bound c)
   term_bound (Term.Arith op a b) = max (term_bound a) (term_bound b)
   term_bound (Term.Fix t u e) = term_bound e - 2
+  term_bound (Term.Inj l e t) = term_bound e
+  term_bound (Term.Case e t row) = max (term_bound e) (row_term_bound row - 1)
+  term_bound (Term.Roll e t) = term_bound e
+  term_bound (Term.Unroll e) = term_bound e
 
   pub row_term_bound : TermRow → ℕ
   row_term_bound TermRow.End = 0

@@ -9,8 +9,8 @@ use Rattle.omega_types.specs.Code.{stored as stored_ty, restored as restored_ty,
 use Rattle.omega_terms.specs.declared.op.Op.{Op}
 use Rattle.omega_terms.specs.Term.{Term, TermRow}
 
--- A number is a variable. Behind a number stand a number or two parts, behind nothing a text or fields,
--- and behind a number with a part two more parts.
+-- A number is a variable. Behind a number stand a number or two parts, behind nothing a text, fields or one part,
+-- and two more parts behind a number with a part, behind nothing with a label, and behind two of nothing with a part.
 abbrev mutual
   pub stored : Term → Gv
   stored (Term.Var i) = gnum i
@@ -36,6 +36,10 @@ abbrev mutual
   stored (Term.Arith Op.Rem a b) = gcons (gcons (gnum 7) gnil) (gcons (stored a) (stored b))
   stored (Term.Arith Op.Less a b) = gcons (gcons (gnum 8) gnil) (gcons (stored a) (stored b))
   stored (Term.Arith Op.Equal a b) = gcons (gcons (gnum 9) gnil) (gcons (stored a) (stored b))
+  stored (Term.Inj l e t) = gcons (gcons gnil (stored_label l)) (gcons (stored e) (stored_ty t))
+  stored (Term.Case e t row) = gcons (gcons (gcons gnil gnil) (stored e)) (gcons (stored_ty t) (stored_row row))
+  stored (Term.Roll e t) = gcons (gnum 6) (gcons (stored e) (stored_ty t))
+  stored (Term.Unroll e) = gcons gnil (gcons (gcons gnil gnil) (stored e))
 
   pub stored_row : TermRow → Gv
   stored_row TermRow.End = gnil
@@ -47,13 +51,14 @@ restored_literal (suc zero) n = Term.Int (negsuc n)
 restored_literal (suc (suc zero)) n = Term.Bool false
 restored_literal (suc (suc (suc m))) n = Term.Bool true
 
-abbrev pub restored_two : ℕ → (lam call ty_lam inst get unpack : Term) → Term
-restored_two zero a b c d e f = a
-restored_two (suc zero) a b c d e f = b
-restored_two (suc (suc zero)) a b c d e f = c
-restored_two (suc (suc (suc zero))) a b c d e f = d
-restored_two (suc (suc (suc (suc zero)))) a b c d e f = e
-restored_two (suc (suc (suc (suc (suc n))))) a b c d e f = f
+abbrev pub restored_two : ℕ → (lam call ty_lam inst get unpack roll : Term) → Term
+restored_two zero a b c d e f g = a
+restored_two (suc zero) a b c d e f g = b
+restored_two (suc (suc zero)) a b c d e f g = c
+restored_two (suc (suc (suc zero))) a b c d e f g = d
+restored_two (suc (suc (suc (suc zero)))) a b c d e f g = e
+restored_two (suc (suc (suc (suc (suc zero))))) a b c d e f g = f
+restored_two (suc (suc (suc (suc (suc (suc n)))))) a b c d e f g = g
 
 abbrev pub restored_op : ℕ → Op
 restored_op zero = Op.Add
@@ -79,13 +84,17 @@ abbrev mutual
   restored (gcons gnil (gnum n)) = Term.Var 0
   restored (gcons gnil (gcons gnil bytes)) = Term.Text (restored_bytes bytes)
   restored (gcons gnil (gcons (gnum n) row)) = Term.Fields (restored_row row)
-  restored (gcons gnil (gcons (gcons a b) row)) = Term.Var 0
+  restored (gcons gnil (gcons (gcons a b) part)) = Term.Unroll (restored part)
   restored (gcons (gnum tag) gnil) = Term.Var 0
   restored (gcons (gnum tag) (gnum n)) = restored_literal tag n
   restored (gcons (gnum tag) (gcons a b)) =
-      restored_two tag (Term.Lam (restored_ty a) (restored b)) (Term.Call (restored a) (restored b)) (Term.TyLam (restored_kind a) (restored b)) (Term.Inst (restored a) (restored_ty b)) (Term.Get (restored a) (restored_label b)) (Term.Unpack (restored a) (restored b))
-  restored (gcons (gcons gnil a) b) = Term.Var 0
-  restored (gcons (gcons (gcons c d) a) b) = Term.Var 0
+      restored_two tag (Term.Lam (restored_ty a) (restored b)) (Term.Call (restored a) (restored b)) (Term.TyLam (restored_kind a) (restored b)) (Term.Inst (restored a) (restored_ty b)) (Term.Get (restored a) (restored_label b)) (Term.Unpack (restored a) (restored b)) (Term.Roll (restored a) (restored_ty b))
+  restored (gcons (gcons gnil a) gnil) = Term.Var 0
+  restored (gcons (gcons gnil a) (gnum n)) = Term.Var 0
+  restored (gcons (gcons gnil a) (gcons b c)) = Term.Inj (restored_label a) (restored b) (restored_ty c)
+  restored (gcons (gcons (gcons x y) a) gnil) = Term.Var 0
+  restored (gcons (gcons (gcons x y) a) (gnum n)) = Term.Var 0
+  restored (gcons (gcons (gcons x y) a) (gcons b c)) = Term.Case (restored a) (restored_ty b) (restored_row c)
   restored (gcons (gcons (gnum tag) a) gnil) = Term.Var 0
   restored (gcons (gcons (gnum tag) a) (gnum n)) = Term.Var 0
   restored (gcons (gcons (gnum tag) a) (gcons b c)) =
@@ -125,6 +134,12 @@ mutual
   restored-stored (Term.Arith Op.Rem a b) = λ i. Term.Arith Op.Rem (restored-stored a i) (restored-stored b i)
   restored-stored (Term.Arith Op.Less a b) = λ i. Term.Arith Op.Less (restored-stored a i) (restored-stored b i)
   restored-stored (Term.Arith Op.Equal a b) = λ i. Term.Arith Op.Equal (restored-stored a i) (restored-stored b i)
+  restored-stored (Term.Inj l e t) =
+      λ i. Term.Inj (restored-stored_label l i) (restored-stored e i) (restored-stored_ty t i)
+  restored-stored (Term.Case e t row) =
+      λ i. Term.Case (restored-stored e i) (restored-stored_ty t i) (restored-stored_row row i)
+  restored-stored (Term.Roll e t) = λ i. Term.Roll (restored-stored e i) (restored-stored_ty t i)
+  restored-stored (Term.Unroll e) = λ i. Term.Unroll (restored-stored e i)
 
   pub restored-stored_row : (row : TermRow) → restored_row (stored_row row) ≡ row
   restored-stored_row TermRow.End = refl

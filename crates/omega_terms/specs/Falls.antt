@@ -31,6 +31,10 @@ depth_le-term_size (node.Unpack p e) = omega arith
 depth_le-term_size (node.If a b c) = omega arith
 depth_le-term_size (node.Arith op a b) = omega arith
 depth_le-term_size (node.Fix t u e) = omega arith
+depth_le-term_size (node.Inj l e t) = omega arith
+depth_le-term_size (node.Case e t branches) = omega arith
+depth_le-term_size (node.Roll e t) = omega arith
+depth_le-term_size (node.Unroll e) = omega arith
 
 pub made_le-term_size : (m : Made) → max (deep-Made m) 0 ≤ term_size (term_of m.node)
 made_le-term_size m = omega (arith, depth_le-term_size m.node)

@@ -1,4 +1,4 @@
--- The fields of a record of terms, as a list of labels with their terms, and as the row of the plain tree.
+-- The fields of a record of terms, or the branches of a case, as a list of labels with their terms, and as the row of the plain tree.
 use Rattle.std.specs.Prelude.{List, [], ◌∷◌}
 use Rattle.omega_kinds.specs.declared.label.Label.{Label}
 use Rattle.omega_terms.specs.Term.{Term, TermRow}

@@ -21,6 +21,10 @@ abbrev mutual
   term_height (Term.If a b c) = max (max (term_height a) (term_height b)) (term_height c) + 1
   term_height (Term.Arith op a b) = max (term_height a) (term_height b) + 1
   term_height (Term.Fix t u e) = max (max (height t) (height u)) (term_height e) + 1
+  term_height (Term.Inj l e t) = max (term_height e) (height t) + 1
+  term_height (Term.Case e t row) = max (max (term_height e) (height t)) (row_height row) + 1
+  term_height (Term.Roll e t) = max (term_height e) (height t) + 1
+  term_height (Term.Unroll e) = term_height e + 1
 
   pub row_height : TermRow → ℕ
   row_height TermRow.End = 0

@@ -45,6 +45,10 @@ abbrev mutual
   TermInScope n m (Term.If a b c) = TermInScope n m a × TermInScope n m b × TermInScope n m c
   TermInScope n m (Term.Arith op a b) = TermInScope n m a × TermInScope n m b
   TermInScope n m (Term.Fix t u e) = TyInScope n t × TyInScope n u × TermInScope n (m + 2) e
+  TermInScope n m (Term.Inj l e t) = TermInScope n m e × TyInScope n t
+  TermInScope n m (Term.Case e t row) = TermInScope n m e × TyInScope n t × TermRowInScope n (m + 1) row
+  TermInScope n m (Term.Roll e t) = TermInScope n m e × TyInScope n t
+  TermInScope n m (Term.Unroll e) = TermInScope n m e
 
   pub TermRowInScope : (n m : ℕ) → TermRow → Type 0
   TermRowInScope n m TermRow.End = Unit {0}

@@ -31,6 +31,10 @@ mutual
     if_ : {from to : List Kind} {s : ℕ → Ty} {a b c x y z : Term} → Instance from to s a x → Instance from to s b y → Instance from to s c z → Instance from to s (Term.If a b c) (Term.If x y z)
     arith : {from to : List Kind} {s : ℕ → Ty} {o : Op} {a b x y : Term} → Instance from to s a x → Instance from to s b y → Instance from to s (Term.Arith o a b) (Term.Arith o x y)
     fix : {from to : List Kind} {s : ℕ → Ty} {t n u v : Ty} {e d : Term} → TyInstance from to s t Kind.Star n → TyInstance from to s u Kind.Star v → Instance from to s e d → Instance from to s (Term.Fix t u e) (Term.Fix n v d)
+    inj : {from to : List Kind} {s : ℕ → Ty} {l : Label} {e d : Term} {t n : Ty} → Instance from to s e d → TyInstance from to s t Kind.Star n → Instance from to s (Term.Inj l e t) (Term.Inj l d n)
+    case : {from to : List Kind} {s : ℕ → Ty} {e d : Term} {t n : Ty} {f g : TermRow} → Instance from to s e d → TyInstance from to s t Kind.Star n → Instances from to s f g → Instance from to s (Term.Case e t f) (Term.Case d n g)
+    roll : {from to : List Kind} {s : ℕ → Ty} {e d : Term} {t n : Ty} → Instance from to s e d → TyInstance from to s t Kind.Star n → Instance from to s (Term.Roll e t) (Term.Roll d n)
+    unroll : {from to : List Kind} {s : ℕ → Ty} {e d : Term} → Instance from to s e d → Instance from to s (Term.Unroll e) (Term.Unroll d)
 
   pub data Instances : (from to : List Kind) → (ℕ → Ty) → TermRow → TermRow → Type 0 where
     end : {from to : List Kind} {s : ℕ → Ty} → Instances from to s TermRow.End TermRow.End

@@ -1,4 +1,4 @@
--- How many nodes a term has: each form is one, a record's fields are the terms in them, and types are not counted.
+-- How many nodes a term has: each form is one, a record's fields and a case's branches are the terms in them, and types are not counted.
 use Rattle.std.specs.Prelude.{ℕ, ◌+◌}
 use Rattle.omega_terms.specs.Term.{Term, TermRow}
 
@@ -19,6 +19,10 @@ abbrev mutual
   nodes (Term.If a b c) = nodes a + nodes b + nodes c + 1
   nodes (Term.Arith op a b) = nodes a + nodes b + 1
   nodes (Term.Fix t u e) = nodes e + 1
+  nodes (Term.Inj l e t) = nodes e + 1
+  nodes (Term.Case e t row) = nodes e + row_nodes row + 1
+  nodes (Term.Roll e t) = nodes e + 1
+  nodes (Term.Unroll e) = nodes e + 1
 
   pub row_nodes : TermRow → ℕ
   row_nodes TermRow.End = 0

@@ -28,10 +28,18 @@ mutual
     if_ : {ctx : List Kind} {vars : List Ty} {a b c : Term} {t : Ty} → Typed ctx vars a Ty.Bool → Typed ctx vars b t → Typed ctx vars c t → Typed ctx vars (Term.If a b c) t
     arith : {ctx : List Kind} {vars : List Ty} {o : Op} {a b : Term} → Typed ctx vars a Ty.Int → Typed ctx vars b Ty.Int → Typed ctx vars (Term.Arith o a b) (result_type o)
     fix : {ctx : List Kind} {vars : List Ty} {t u : Ty} {e : Term} → Normal ctx t Kind.Star → Normal ctx u Kind.Star → Typed ctx (t ∷ (Ty.Arrow t u ∷ vars)) e u → Typed ctx vars (Term.Fix t u e) (Ty.Arrow t u)
+    inj : {ctx : List Kind} {vars : List Ty} {l : Label} {e : Term} {u : Ty} {r : Row} → Normal ctx (Ty.Sum r) Kind.Star → HasPart r l u → Typed ctx vars e u → Typed ctx vars (Term.Inj l e (Ty.Sum r)) (Ty.Sum r)
+    case : {ctx : List Kind} {vars : List Ty} {e : Term} {t : Ty} {r : Row} {f : TermRow} → Typed ctx vars e (Ty.Sum r) → Normal ctx t Kind.Star → TypedBranches ctx vars f r t → Typed ctx vars (Term.Case e t f) t
+    roll : {ctx : List Kind} {vars : List Ty} {e : Term} {n body : Ty} → Normal ctx (Ty.Mu body) Kind.Star → NormalForm ctx (instantiate body (Ty.Mu body)) Kind.Star n → Typed ctx vars e n → Typed ctx vars (Term.Roll e (Ty.Mu body)) (Ty.Mu body)
+    unroll : {ctx : List Kind} {vars : List Ty} {e : Term} {n body : Ty} → Typed ctx vars e (Ty.Mu body) → NormalForm ctx (instantiate body (Ty.Mu body)) Kind.Star n → Typed ctx vars (Term.Unroll e) n
 
   pub data TypedFields : List Kind → List Ty → TermRow → Row → Type 0 where
     end : {ctx : List Kind} {vars : List Ty} → TypedFields ctx vars TermRow.End Row.End
     more : {ctx : List Kind} {vars : List Ty} {l : Label} {e : Term} {t : Ty} {f : TermRow} {r : Row} → Typed ctx vars e t → Fresh l r → TypedFields ctx vars f r → TypedFields ctx vars (TermRow.More l e f) (Row.More l t r)
+
+  pub data TypedBranches : List Kind → List Ty → TermRow → Row → Ty → Type 0 where
+    none : {ctx : List Kind} {vars : List Ty} {t : Ty} → TypedBranches ctx vars TermRow.End Row.End t
+    branch : {ctx : List Kind} {vars : List Ty} {l : Label} {e : Term} {t u : Ty} {f : TermRow} {r : Row} → Typed ctx (u ∷ vars) e t → TypedBranches ctx vars f r t → TypedBranches ctx vars (TermRow.More l e f) (Row.More l u r) t
 
 -- each of the types is normal, of kind *
 abbrev pub AllNormal : List Kind → List Ty → Type 0

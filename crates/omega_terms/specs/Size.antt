@@ -1,4 +1,4 @@
--- How large a term is, its fields counted, and no types inside it.
+-- How large a term is, its fields and branches counted, and no types inside it.
 use Rattle.std.specs.Prelude.{ℕ, ◌+◌}
 use Rattle.omega_terms.specs.Term.{Term, TermRow}
 use Rattle.omega_terms.specs.Fields.{TermPairs, term_row}
@@ -20,6 +20,10 @@ abbrev mutual
   term_size (Term.If a b c) = term_size a + term_size b + term_size c + 1
   term_size (Term.Arith op a b) = term_size a + term_size b + 1
   term_size (Term.Fix t u e) = term_size e + 1
+  term_size (Term.Inj l e t) = term_size e + 1
+  term_size (Term.Case e t row) = term_size e + row_size row + 1
+  term_size (Term.Roll e t) = term_size e + 1
+  term_size (Term.Unroll e) = term_size e + 1
 
   pub row_size : TermRow → ℕ
   row_size TermRow.End = 0

@@ -1,6 +1,6 @@
 -- Values, steps and faults: call by value, left to right, by substitution, on closed terms (Pierce, "Types and Programming Languages",
--- chapters 5, 23 and 24; arithmetic that does not fit and its faults are own).
--- A record's fields stand in label order.
+-- chapters 5, 11, 20, 23 and 24; arithmetic that does not fit and its faults are own).
+-- A record's fields and the branches of a case stand in label order.
 use Rattle.std.specs.Prelude.{ℕ, zero, suc, List, ◌≡◌, ◌≢◌, Bool, true, false, cond, ◌&&◌, ℤ, pos, negsuc, ◌+ℤ◌, ◌-ℤ◌, ◌*ℤ◌, int_div, int_rem, int_lt, int_le, ◌^◌, ◌-◌, ◌≤◌}
 use Rattle.omega_kinds.specs.Kind.{Kind}
 use Rattle.omega_kinds.specs.declared.label.Label.{Label}
@@ -20,12 +20,14 @@ mutual
     fix : {t u : Ty} {e : Term} → IsValue (Term.Fix t u e)
     fields : {f : TermRow} → AreValues f → IsValue (Term.Fields f)
     pack : {t u : Ty} {e : Term} → IsValue e → IsValue (Term.Pack t e u)
+    inj : {l : Label} {e : Term} {t : Ty} → IsValue e → IsValue (Term.Inj l e t)
+    roll : {e : Term} {t : Ty} → IsValue e → IsValue (Term.Roll e t)
 
   pub data AreValues : TermRow → Type 0 where
     end : AreValues TermRow.End
     more : {l : Label} {e : Term} {f : TermRow} → IsValue e → AreValues f → AreValues (TermRow.More l e f)
 
--- the fields have the term at the label
+-- the fields, or the branches, have the term at the label
 pub data HasField : TermRow → Label → Term → Type 0 where
   here : {l : Label} {e : Term} {f : TermRow} → HasField (TermRow.More l e f) l e
   there : {l m : Label} {e d : Term} {f : TermRow} → l ≢ m → HasField f l e → HasField (TermRow.More m d f) l e
@@ -96,6 +98,12 @@ mutual
     arith_left : {o : Op} {a b d : Term} → Step a d → Step (Term.Arith o a b) (Term.Arith o d b)
     arith_right : {o : Op} {a b d : Term} → IsValue a → Step b d → Step (Term.Arith o a b) (Term.Arith o a d)
     arith : {o : Op} {m n : ℤ} {e : Term} → compute o m n ≡ gives e → Step (Term.Arith o (Term.Int m) (Term.Int n)) e
+    inj_part : {l : Label} {e d : Term} {t : Ty} → Step e d → Step (Term.Inj l e t) (Term.Inj l d t)
+    case_whole : {e d : Term} {t : Ty} {f : TermRow} → Step e d → Step (Term.Case e t f) (Term.Case d t f)
+    case_inj : {l : Label} {v e : Term} {t u : Ty} {f : TermRow} → IsValue v → HasField f l e → Step (Term.Case (Term.Inj l v u) t f) (put_arg v e)
+    roll_part : {e d : Term} {t : Ty} → Step e d → Step (Term.Roll e t) (Term.Roll d t)
+    unroll_whole : {e d : Term} → Step e d → Step (Term.Unroll e) (Term.Unroll d)
+    unroll_roll : {v : Term} {t : Ty} → IsValue v → Step (Term.Unroll (Term.Roll v t)) v
 
   pub data FieldStep : TermRow → TermRow → Type 0 where
     here : {l : Label} {e d : Term} {f : TermRow} → Step e d → FieldStep (TermRow.More l e f) (TermRow.More l d f)
@@ -114,6 +122,10 @@ mutual
     arith_left : {o : Op} {a b : Term} {x : Fault} → Faults a x → Faults (Term.Arith o a b) x
     arith_right : {o : Op} {a b : Term} {x : Fault} → IsValue a → Faults b x → Faults (Term.Arith o a b) x
     arith : {o : Op} {m n : ℤ} {x : Fault} → compute o m n ≡ fails x → Faults (Term.Arith o (Term.Int m) (Term.Int n)) x
+    inj_part : {l : Label} {e : Term} {t : Ty} {x : Fault} → Faults e x → Faults (Term.Inj l e t) x
+    case_whole : {e : Term} {t : Ty} {f : TermRow} {x : Fault} → Faults e x → Faults (Term.Case e t f) x
+    roll_part : {e : Term} {t : Ty} {x : Fault} → Faults e x → Faults (Term.Roll e t) x
+    unroll_whole : {e : Term} {x : Fault} → Faults e x → Faults (Term.Unroll e) x
 
   pub data FieldFaults : TermRow → Fault → Type 0 where
     here : {l : Label} {e : Term} {f : TermRow} {x : Fault} → Faults e x → FieldFaults (TermRow.More l e f) x

@@ -22,6 +22,10 @@ mutual
     If : (test yes no : Term) → Term
     Arith : (op : Op) (left right : Term) → Term
     Fix : (from to : Ty) (body : Term) → Term
+    Inj : (label : Label) (part : Term) (whole : Ty) → Term
+    Case : (whole : Term) (result : Ty) (branches : TermRow) → Term
+    Roll : (part : Term) (whole : Ty) → Term
+    Unroll : (whole : Term) → Term
 
   pub data TermRow : Type 0 where
     End : TermRow

@@ -48,8 +48,14 @@ abbrev mutual
   term_text n m (Term.Arith op a b) = op_front op then term_text n m a then codes " " then term_text n m b then codes ")"
   term_text n m (Term.Fix t u e) =
       codes "(fix " then ty_text n t then codes " " then ty_text n u then codes " " then term_text n (m + 2) e then codes ")"
+  term_text n m (Term.Inj l e t) =
+      codes "(inj " then label_text l then codes " " then term_text n m e then codes " " then ty_text n t then codes ")"
+  term_text n m (Term.Case e t row) =
+      codes "(case " then term_text n m e then codes " " then ty_text n t then term_row_text n (m + 1) row then codes ")"
+  term_text n m (Term.Roll e t) = codes "(roll " then term_text n m e then codes " " then ty_text n t then codes ")"
+  term_text n m (Term.Unroll e) = codes "(unroll " then term_text n m e then codes ")"
 
-  -- each field has a space before it
+  -- each field or branch has a space before it
   pub term_row_text : (n m : ℕ) → TermRow → List ℕ
   term_row_text n m TermRow.End = []
   term_row_text n m (TermRow.More l e rest) =

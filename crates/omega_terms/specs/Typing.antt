@@ -1,4 +1,4 @@
--- Typing: one rule for each form, and the rule of conversion (Pierce, "Types and Programming Languages", chapters 23, 24 and 30).
+-- Typing: one rule for each form, and the rule of conversion (Pierce, "Types and Programming Languages", chapters 11, 20, 23, 24 and 30).
 -- The innermost type variable's kind is the first of ctx, the innermost term variable's type the first of vars.
 use Rattle.std.specs.Prelude.{ℕ, zero, suc, List, [], ◌∷◌, ◌≢◌, Bool, ℤ}
 use Rattle.omega_kinds.specs.Kind.{Kind}
@@ -47,12 +47,21 @@ mutual
     if_ : {ctx : List Kind} {vars : List Ty} {a b c : Term} {t : Ty} → HasType ctx vars a Ty.Bool → HasType ctx vars b t → HasType ctx vars c t → HasType ctx vars (Term.If a b c) t
     arith : {ctx : List Kind} {vars : List Ty} {o : Op} {a b : Term} → HasType ctx vars a Ty.Int → HasType ctx vars b Ty.Int → HasType ctx vars (Term.Arith o a b) (result_type o)
     fix : {ctx : List Kind} {vars : List Ty} {t u : Ty} {e : Term} → HasKind ctx t Kind.Star → HasKind ctx u Kind.Star → HasType ctx (t ∷ (Ty.Arrow t u ∷ vars)) e u → HasType ctx vars (Term.Fix t u e) (Ty.Arrow t u)
+    inj : {ctx : List Kind} {vars : List Ty} {l : Label} {e : Term} {t u : Ty} {r : Row} → Conv ctx t (Ty.Sum r) Kind.Star → HasPart r l u → HasType ctx vars e u → HasType ctx vars (Term.Inj l e t) t
+    case : {ctx : List Kind} {vars : List Ty} {e : Term} {t : Ty} {r : Row} {f : TermRow} → HasType ctx vars e (Ty.Sum r) → HasKind ctx t Kind.Star → BranchesHave ctx vars f r t → HasType ctx vars (Term.Case e t f) t
+    roll : {ctx : List Kind} {vars : List Ty} {e : Term} {t body : Ty} → Conv ctx t (Ty.Mu body) Kind.Star → HasType ctx vars e (instantiate body (Ty.Mu body)) → HasType ctx vars (Term.Roll e t) t
+    unroll : {ctx : List Kind} {vars : List Ty} {e : Term} {body : Ty} → HasType ctx vars e (Ty.Mu body) → HasType ctx vars (Term.Unroll e) (instantiate body (Ty.Mu body))
     conv : {ctx : List Kind} {vars : List Ty} {e : Term} {t u : Ty} → HasType ctx vars e t → Conv ctx t u Kind.Star → HasType ctx vars e u
 
   -- the fields have the types of the row, label by label, and the labels are distinct
   pub data FieldsHave : List Kind → List Ty → TermRow → Row → Type 0 where
     end : {ctx : List Kind} {vars : List Ty} → FieldsHave ctx vars TermRow.End Row.End
     more : {ctx : List Kind} {vars : List Ty} {l : Label} {e : Term} {t : Ty} {f : TermRow} {r : Row} → HasType ctx vars e t → Fresh l r → FieldsHave ctx vars f r → FieldsHave ctx vars (TermRow.More l e f) (Row.More l t r)
+
+  -- the branches have the type t, each under a variable of its label's type in the row, label by label
+  pub data BranchesHave : List Kind → List Ty → TermRow → Row → Ty → Type 0 where
+    none : {ctx : List Kind} {vars : List Ty} {t : Ty} → BranchesHave ctx vars TermRow.End Row.End t
+    branch : {ctx : List Kind} {vars : List Ty} {l : Label} {e : Term} {t u : Ty} {f : TermRow} {r : Row} → HasType ctx (u ∷ vars) e t → BranchesHave ctx vars f r t → BranchesHave ctx vars (TermRow.More l e f) (Row.More l u r) t
 
 -- each term variable's type has kind *
 abbrev pub GoodVars : List Kind → List Ty → Type 0

@@ -19,6 +19,10 @@ abbrev mutual
   value_test (Term.If a b c) = false
   value_test (Term.Arith op a b) = false
   value_test (Term.Fix t u e) = true
+  value_test (Term.Inj l e t) = value_test e
+  value_test (Term.Case e t row) = false
+  value_test (Term.Roll e t) = value_test e
+  value_test (Term.Unroll e) = false
 
   pub values_test : TermRow → Truth
   values_test TermRow.End = true

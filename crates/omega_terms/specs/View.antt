@@ -22,3 +22,7 @@ term_of (node.Unpack p e) = Term.Unpack p e
 term_of (node.If a b c) = Term.If a b c
 term_of (node.Arith op a b) = Term.Arith op a b
 term_of (node.Fix t u e) = Term.Fix t u e
+term_of (node.Inj l e t) = Term.Inj l e t
+term_of (node.Case e t branches) = Term.Case e t (term_row branches)
+term_of (node.Roll e t) = Term.Roll e t
+term_of (node.Unroll e) = Term.Unroll e

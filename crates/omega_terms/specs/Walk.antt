@@ -22,6 +22,10 @@ abbrev mutual
   walked f g i j (Term.If a b c) = Term.If (walked f g i j a) (walked f g i j b) (walked f g i j c)
   walked f g i j (Term.Arith o a b) = Term.Arith o (walked f g i j a) (walked f g i j b)
   walked f g i j (Term.Fix t u e) = Term.Fix (f i t) (f i u) (walked f g i (j + 1 + 1) e)
+  walked f g i j (Term.Inj l e t) = Term.Inj l (walked f g i j e) (f i t)
+  walked f g i j (Term.Case e t row) = Term.Case (walked f g i j e) (f i t) (walked_row f g i (j + 1) row)
+  walked f g i j (Term.Roll e t) = Term.Roll (walked f g i j e) (f i t)
+  walked f g i j (Term.Unroll e) = Term.Unroll (walked f g i j e)
 
   pub walked_row : (ℕ → Ty → Ty) → (ℕ → ℕ → ℕ → Term) → ℕ → ℕ → TermRow → TermRow
   walked_row f g i j TermRow.End = TermRow.End

@@ -6,7 +6,7 @@ ghost use Rattle.omega_terms.specs.Nodes.{nodes, row_nodes};
 use crate::tree::{Term, TermFields, TermNode};
 
 /// The number of nodes of a term without its types, or the greatest `u64` where it is more. A part that stands at two
-/// places is counted twice, and a field of a record is the term in it. Takes no memory.
+/// places is counted twice, and a field of a record, or a branch of a case, is the term in it. Takes no memory.
 #[cycle(nodes)]
 pub fn nodes(term: &Term) -> u64
     ensures { result ≡ min (nodes term.now) (2 ^ 64 - 1) }
@@ -18,17 +18,21 @@ pub fn nodes(term: &Term) -> u64
         | TermNode::Inst(e, _)
         | TermNode::Get(e, _)
         | TermNode::Pack(_, e, _)
-        | TermNode::Fix(_, _, e) => nodes(e),
+        | TermNode::Fix(_, _, e)
+        | TermNode::Inj(_, e, _)
+        | TermNode::Roll(e, _)
+        | TermNode::Unroll(e) => nodes(e),
         TermNode::Call(a, b) | TermNode::Unpack(a, b) | TermNode::Arith(_, a, b) => nodes(
             a,
         ).saturating_add(nodes(b)),
         TermNode::Fields(fields) => field_nodes(fields),
+        TermNode::Case(e, _, branches) => nodes(e).saturating_add(field_nodes(branches)),
         TermNode::If(a, b, c) => nodes(a).saturating_add(nodes(b)).saturating_add(nodes(c)),
     };
     below.saturating_add(1)
 }
 
-// The number of nodes of the fields.
+// The number of nodes of the fields, or of the branches.
 #[cycle(nodes)]
 fn field_nodes(fields: &TermFields) -> u64
     ensures { result ≡ min (row_nodes (term_row fields.now)) (2 ^ 64 - 1) }

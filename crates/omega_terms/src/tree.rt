@@ -19,8 +19,8 @@ use std::rc::Rc;
 /// Contracts see it as the plain tree with de Bruijn indexes, 0 being the innermost; type variables and term
 /// variables are counted apart.
 ///
-/// Pierce, "Types and Programming Languages", section 6.1, Terms and contexts, and figure 30-1; Rossberg, Russo and
-/// Dreyer, "F-ing modules", section 3, System Fω.
+/// Pierce, "Types and Programming Languages", section 6.1, Terms and contexts, and figures 11-11, 20-1 and 30-1;
+/// Rossberg, Russo and Dreyer, "F-ing modules", section 3, System Fω.
 #[cycle(term)]
 #[derive(Drop)]
 pub struct Term {
@@ -41,7 +41,8 @@ struct Made {
 
 /// The outermost form of a term, with its parts in the order in which they are written.
 /// `Lam` binds a term variable in its last part, `TyLam` a type variable, `Unpack` a type variable and a term
-/// variable, and `Fix` two term variables: the function itself and then its argument, which is index 0.
+/// variable, and `Fix` two term variables: the function itself and then its argument, which is index 0. Each branch of
+/// `Case` binds a term variable, what was injected. `Inj` and `Roll` name their type; `Case` names that of its branches.
 #[cycle(term)]
 #[derive(Drop)]
 pub enum TermNode {
@@ -60,9 +61,14 @@ pub enum TermNode {
     If(Term, Term, Term),
     Arith(Op, Term, Term),
     Fix(Ty, Ty, Term),
+    Inj(Label, Term, Ty),
+    Case(Term, Ty, TermFields),
+    Roll(Term, Ty),
+    Unroll(Term),
 }
 
-/// The fields of a record, in strictly rising label order. Contracts see them as the list of labels with terms.
+/// The fields of a record, or the branches of a case, in strictly rising label order. Contracts see them as the list of
+/// labels with terms.
 #[cycle(term)]
 #[derive(Drop)]
 pub struct TermFields {
@@ -197,10 +203,10 @@ impl Term {
     }
 }
 
-/// Whether the term is a value: a number, a truth value, a text, a function of any of the three forms, or a record or a
-/// package of values. Takes one step, since each term keeps the answer.
+/// Whether the term is a value: a number, a truth value, a text, a function of any of the three forms, a record or a
+/// package of values, or a value injected into a sum or rolled. Takes one step, since each term keeps the answer.
 ///
-/// Pierce, "Types and Programming Languages", figures 11-7, 24-1 and 30-1, Values.
+/// Pierce, "Types and Programming Languages", figures 11-7, 11-11, 20-1, 24-1 and 30-1, Values.
 pub fn is_value(term: &Term) -> bool
     ensures value { IsTrue result ↔ IsValue term.now }
     ensures test { result ≡ value_test term.now }
@@ -215,17 +221,24 @@ impl TermNode {
     {
         match self {
             TermNode::Var(_) | TermNode::Int(_) | TermNode::Bool(_) | TermNode::Text(_) => 0,
-            TermNode::Lam(t, e) | TermNode::Inst(e, t) => t.bound().max(e.type_bound()),
+            TermNode::Lam(t, e)
+            | TermNode::Inst(e, t)
+            | TermNode::Inj(_, e, t)
+            | TermNode::Roll(e, t) => t.bound().max(e.type_bound()),
             TermNode::Call(a, b) | TermNode::Arith(_, a, b) => a.type_bound().max(b.type_bound()),
             TermNode::TyLam(_, e) => e.type_bound().saturating_sub(1),
             TermNode::Fields(fields) => fields.type_bound(),
-            TermNode::Get(e, _) => e.type_bound(),
+            TermNode::Get(e, _) | TermNode::Unroll(e) => e.type_bound(),
             TermNode::Pack(t, e, u) | TermNode::Fix(t, u, e) => t
                 .bound()
                 .max(u.bound())
                 .max(e.type_bound()),
             TermNode::Unpack(p, e) => p.type_bound().max(e.type_bound().saturating_sub(1)),
             TermNode::If(a, b, c) => a.type_bound().max(b.type_bound()).max(c.type_bound()),
+            TermNode::Case(e, t, branches) => e
+                .type_bound()
+                .max(t.bound())
+                .max(branches.type_bound()),
         }
     }
 
@@ -243,11 +256,17 @@ impl TermNode {
             TermNode::TyLam(_, e)
             | TermNode::Inst(e, _)
             | TermNode::Get(e, _)
-            | TermNode::Pack(_, e, _) => Ok(e.term_bound()),
+            | TermNode::Pack(_, e, _)
+            | TermNode::Inj(_, e, _)
+            | TermNode::Roll(e, _)
+            | TermNode::Unroll(e) => Ok(e.term_bound()),
             TermNode::Fields(fields) => Ok(fields.term_bound()),
             TermNode::Unpack(p, e) => Ok(p.term_bound().max(e.term_bound().saturating_sub(1))),
             TermNode::If(a, b, c) => Ok(a.term_bound().max(b.term_bound()).max(c.term_bound())),
             TermNode::Fix(_, _, e) => Ok(e.term_bound().saturating_sub(2)),
+            TermNode::Case(e, _, branches) => Ok(
+                e.term_bound().max(branches.term_bound().saturating_sub(1)),
+            ),
         }
     }
 
@@ -259,14 +278,16 @@ impl TermNode {
             TermNode::Int(_) | TermNode::Bool(_) | TermNode::Text(_) => true,
             TermNode::Lam(_, _) | TermNode::TyLam(_, _) | TermNode::Fix(_, _, _) => true,
             TermNode::Fields(fields) => fields.are_values,
-            TermNode::Pack(_, e, _) => e.is_value(),
+            TermNode::Pack(_, e, _) | TermNode::Inj(_, e, _) | TermNode::Roll(e, _) => e.is_value(),
             TermNode::Var(_)
             | TermNode::Call(_, _)
             | TermNode::Inst(_, _)
             | TermNode::Get(_, _)
             | TermNode::Unpack(_, _)
             | TermNode::If(_, _, _)
-            | TermNode::Arith(_, _, _) => false,
+            | TermNode::Arith(_, _, _)
+            | TermNode::Case(_, _, _)
+            | TermNode::Unroll(_) => false,
         }
     }
 
@@ -276,17 +297,23 @@ impl TermNode {
     {
         match self {
             TermNode::Var(_) | TermNode::Int(_) | TermNode::Bool(_) | TermNode::Text(_) => NOTHING,
-            TermNode::Lam(t, e) | TermNode::Inst(e, t) => t.extent().beside(e.extent()),
+            TermNode::Lam(t, e)
+            | TermNode::Inst(e, t)
+            | TermNode::Inj(_, e, t)
+            | TermNode::Roll(e, t) => t.extent().beside(e.extent()),
             TermNode::Call(a, b) | TermNode::Arith(_, a, b) | TermNode::Unpack(a, b) => {
                 a.extent().beside(b.extent())
             }
             TermNode::TyLam(k, e) => k.extent().beside(e.extent()),
             TermNode::Fields(fields) => fields.extent,
-            TermNode::Get(e, _) => e.extent(),
+            TermNode::Get(e, _) | TermNode::Unroll(e) => e.extent(),
             TermNode::Pack(t, e, u) | TermNode::Fix(t, u, e) => {
                 t.extent().beside(u.extent()).beside(e.extent())
             }
             TermNode::If(a, b, c) => a.extent().beside(b.extent()).beside(c.extent()),
+            TermNode::Case(e, t, branches) => {
+                e.extent().beside(t.extent()).beside(branches.extent)
+            }
         }
     }
 }

@@ -59,6 +59,10 @@ pub fn walk<C: Change>(alloc: Global, term: &Term, change: &C, inner: Inner) -> 
         TermNode::If(a, b, c) => walk_choice(alloc, a, b, c, change, inner),
         TermNode::Arith(op, a, b) => walk_arith(alloc, *op, a, b, change, inner),
         TermNode::Fix(t, u, e) => walk_fix(alloc, t, u, e, change, inner),
+        TermNode::Inj(l, e, t) => walk_injected(alloc, l, e, t, change, inner),
+        TermNode::Case(e, t, branches) => walk_case(alloc, e, t, branches, change, inner),
+        TermNode::Roll(e, t) => walk_rolled(alloc, e, t, change, inner),
+        TermNode::Unroll(e) => walk_unrolled(alloc, e, change, inner),
     }
 }
 
@@ -250,6 +254,70 @@ fn walk_fix<C: Change>(
     let u = change.change_type(alloc, u, inner)?;
     let e = walk(alloc, e, change, inner.under_term()?.under_term()?)?;
     Term::make(alloc, TermNode::Fix(t, u, e))
+}
+
+// A term injected into a sum.
+#[cycle(walk)]
+#[inline(never)]
+fn walk_injected<C: Change>(
+    alloc: Global,
+    l: &Label,
+    e: &Term,
+    t: &Ty,
+    change: &C,
+    inner: Inner,
+) -> Result<Term, Mem>
+    ensures { IfOk result (λ made. made ≡ walked (C.type_at change.now) (C.variable_at change.now) inner.types inner.terms (TermTree.Inj l.now e.now t.now)) }
+{
+    let e = walk(alloc, e, change, inner)?;
+    let t = change.change_type(alloc, t, inner)?;
+    Term::make(alloc, TermNode::Inj(l.share()?, e, t))
+}
+
+// A case of a sum.
+#[cycle(walk)]
+#[inline(never)]
+fn walk_case<C: Change>(
+    alloc: Global,
+    e: &Term,
+    t: &Ty,
+    branches: &TermFields,
+    change: &C,
+    inner: Inner,
+) -> Result<Term, Mem>
+    ensures { IfOk result (λ made. made ≡ walked (C.type_at change.now) (C.variable_at change.now) inner.types inner.terms (TermTree.Case e.now t.now (term_row branches.now))) }
+{
+    let e = walk(alloc, e, change, inner)?;
+    let t = change.change_type(alloc, t, inner)?;
+    let branches = walk_row(alloc, branches, change, inner.under_term()?)?;
+    Term::make(alloc, TermNode::Case(e, t, branches))
+}
+
+// A rolled term.
+#[cycle(walk)]
+#[inline(never)]
+fn walk_rolled<C: Change>(
+    alloc: Global,
+    e: &Term,
+    t: &Ty,
+    change: &C,
+    inner: Inner,
+) -> Result<Term, Mem>
+    ensures { IfOk result (λ made. made ≡ walked (C.type_at change.now) (C.variable_at change.now) inner.types inner.terms (TermTree.Roll e.now t.now)) }
+{
+    let e = walk(alloc, e, change, inner)?;
+    let t = change.change_type(alloc, t, inner)?;
+    Term::make(alloc, TermNode::Roll(e, t))
+}
+
+// An unrolled term.
+#[cycle(walk)]
+#[inline(never)]
+fn walk_unrolled<C: Change>(alloc: Global, e: &Term, change: &C, inner: Inner) -> Result<Term, Mem>
+    ensures { IfOk result (λ made. made ≡ walked (C.type_at change.now) (C.variable_at change.now) inner.types inner.terms (TermTree.Unroll e.now)) }
+{
+    let e = walk(alloc, e, change, inner)?;
+    Term::make(alloc, TermNode::Unroll(e))
 }
 
 // The terms of a row, each with the change made in it.

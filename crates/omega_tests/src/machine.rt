@@ -217,3 +217,158 @@ fn recursion(rt: HostRuntime) -> Result<(), Fail> {
     }
     Ok(())
 }
+
+// A type, a term of it, a budget, and how `val x = ..` with the term ends.
+const SUMS: [(&str, &str, u64, Ending); 18] = [
+    // a case runs the branch at the label, with the injected value for its variable
+    (
+        "int",
+        "(case (inj a 5 (sum (a int) (b int))) int (a (+ x0 1)) (b (* x0 10)))",
+        9,
+        Ending::Value("x = 6\n", 2),
+    ),
+    (
+        "int",
+        "(case (inj b (+ 2 3) (sum (a int) (b int))) int (a (+ x0 1)) (b (* x0 10)))",
+        3,
+        Ending::Value("x = 50\n", 3),
+    ),
+    (
+        "int",
+        "(case (inj b (+ 2 3) (sum (a int) (b int))) int (a (+ x0 1)) (b (* x0 10)))",
+        2,
+        Ending::Spent,
+    ),
+    // what is injected is reduced before the case, also where its branch does not use it, and the other branch never is
+    (
+        "int",
+        "(case (inj a (/ 1 0) (sum (a int) (b int))) int (a 1) (b 2))",
+        9,
+        Ending::Fault(Arith::DivideByZero, 1),
+    ),
+    (
+        "int",
+        "(case (inj a 1 (sum (a int) (b int))) int (a x0) (b (/ 1 0)))",
+        9,
+        Ending::Value("x = 1\n", 1),
+    ),
+    // a branch in a branch has both variables
+    (
+        "int",
+        "(case (inj a 1 (sum (a int) (b int))) int (a (case (inj b 2 (sum (a int) (b int))) int (a x1) (b (- x0 x1)))) (b 0))",
+        9,
+        Ending::Value("x = -1\n", 3),
+    ),
+    // `unroll` of a rolled value gives the value
+    (
+        "int",
+        "(unroll (roll (+ 1 2) (mu int)))",
+        2,
+        Ending::Value("x = 3\n", 2),
+    ),
+    ("int", "(unroll (roll (+ 1 2) (mu int)))", 1, Ending::Spent),
+    (
+        "int",
+        "(unroll (roll (% 1 0) (mu int)))",
+        9,
+        Ending::Fault(Arith::DivideByZero, 1),
+    ),
+    // a function that is given itself by a recursive type: without an end, and the sum of the numbers up to 3
+    (
+        "int",
+        "(call (unroll (roll (fn (mu (-> a0 int)) (call (unroll x0) x0)) (mu (-> a0 int)))) (roll (fn (mu (-> a0 int)) (call (unroll x0) x0)) (mu (-> a0 int))))",
+        100_000,
+        Ending::Spent,
+    ),
+    (
+        "int",
+        "(call (fn (mu (-> a0 (-> int int))) (call (call (unroll x0) x0) 3)) (roll (fn (mu (-> a0 (-> int int))) (fn int (if (< x1 1) 0 (+ x1 (call (call (unroll x0) x0) (- x1 1)))))) (mu (-> a0 (-> int int)))))",
+        27,
+        Ending::Value("x = 6\n", 27),
+    ),
+    (
+        "int",
+        "(call (fn (mu (-> a0 (-> int int))) (call (call (unroll x0) x0) 3)) (roll (fn (mu (-> a0 (-> int int))) (fn int (if (< x1 1) 0 (+ x1 (call (call (unroll x0) x0) (- x1 1)))))) (mu (-> a0 (-> int int)))))",
+        26,
+        Ending::Spent,
+    ),
+    // what injected and rolled values show
+    (
+        "(sum (a int) (b int))",
+        "(inj a 1 (sum (a int) (b int)))",
+        0,
+        Ending::Value("x = (a 1)\n", 0),
+    ),
+    (
+        "(sum (.val int))",
+        "(inj .val (+ 1 1) (sum (.val int)))",
+        1,
+        Ending::Value("x = (.val 2)\n", 1),
+    ),
+    (
+        "(mu int)",
+        "(roll (- 1 2) (mu int))",
+        1,
+        Ending::Value("x = (roll -1)\n", 1),
+    ),
+    (
+        "(mu (-> a0 int))",
+        "(roll (fn (mu (-> a0 int)) (call (unroll x0) x0)) (mu (-> a0 int)))",
+        0,
+        Ending::Value("x = (roll fun)\n", 0),
+    ),
+    (
+        "(sum (a (sum (b text))))",
+        "(inj a (inj b \"c\\\"\" (sum (b text))) (sum (a (sum (b text)))))",
+        0,
+        Ending::Value("x = (a (b \"c\\\"\"))\n", 0),
+    ),
+    (
+        "(sum (a (rec (.val int))))",
+        "(inj a (rec (.val 1)) (sum (a (rec (.val int)))))",
+        0,
+        Ending::Value("x = (a 1)\n", 0),
+    ),
+];
+
+// The text of `val x = ..` with a term of this type.
+fn binding(alloc: Global, ty: &str, term: &str) -> Result<String, Fail> {
+    Ok(format!(in alloc; "omega 2\n(rec (x (rec (.val {ty}))))\n(rec (x (rec (.val {term}))))\n")?)
+}
+
+#[test]
+fn sums(rt: HostRuntime) -> Result<(), Fail> {
+    for (ty, term, budget, ending) in &SUMS {
+        let text = binding(rt.alloc(), ty, term)?;
+        ends(&rt, rt.alloc(), &text, *budget, *ending)?;
+    }
+    Ok(())
+}
+
+// The type of the lists of numbers, and what it is unrolled to.
+const LIST: &str = "(mu (sum (cons (rec (hd int) (tl a0))) (nil (rec))))";
+
+const CELL: &str =
+    "(sum (cons (rec (hd int) (tl (mu (sum (cons (rec (hd int) (tl a0))) (nil (rec))))))) (nil (rec)))";
+
+// The list of the number and a list.
+fn cons(alloc: Global, first: &str, rest: &str) -> Result<String, Fail> {
+    Ok(format!(in alloc; "(roll (inj cons (rec (hd {first}) (tl {rest})) {CELL}) {LIST})")?)
+}
+
+#[test]
+fn lists(rt: HostRuntime) -> Result<(), Fail> {
+    let none = format!(in rt.alloc(); "(roll (inj nil (rec) {CELL}) {LIST})")?;
+    let one = cons(rt.alloc(), "(+ 3 4)", &none)?;
+    let shown = binding(rt.alloc(), LIST, &one)?;
+    let list = "x = (roll (cons {hd = 7, tl = (roll (nil {}))}))\n";
+    ends(&rt, rt.alloc(), &shown, 1, Ending::Value(list, 1))?;
+    // the number of items, by a function that calls itself
+    let two = cons(rt.alloc(), "8", &one)?;
+    let term = format!(in rt.alloc();
+        "(call (fix {LIST} int (case (unroll x1) int (cons (+ 1 (call x0 (get x2 tl)))) (nil 0))) {two})"
+    )?;
+    let length = binding(rt.alloc(), "int", &term)?;
+    ends(&rt, rt.alloc(), &length, 14, Ending::Value("x = 2\n", 14))?;
+    ends(&rt, rt.alloc(), &length, 13, Ending::Spent)
+}

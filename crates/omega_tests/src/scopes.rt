@@ -44,7 +44,7 @@ fn no_more_than_the_last_number_below_a_binder(rt: HostRuntime) -> Result<(), Fa
 }
 
 // How many variables of each sort the term below as many binders needs.
-const TERMS: [(u64, u64, &str); 7] = [
+const TERMS: [(u64, u64, &str); 14] = [
     (0, 3, "(fn int (fn int (fn int x0)))"),
     (0, 1, "(fn int (fn int x0))"),
     (0, 1, "(fn int (fix int int x0))"),
@@ -52,6 +52,13 @@ const TERMS: [(u64, u64, &str); 7] = [
     (1, 1, "(tfn * (fn int (tfn * (inst x0 (all * a0)))))"),
     (0, 2, "(fn int (fn int (open x0 x0)))"),
     (0, 1, "(fn int (open x0 x1))"),
+    (1, 0, "(tfn * (inj a 0 a0))"),
+    (0, 1, "(fn int (case x0 int))"),
+    (0, 0, "(case 0 int (a x0) (b x0))"),
+    (0, 2, "(fn int (fn int (case 0 int (a x2) (b x0))))"),
+    (1, 1, "(tfn * (fn int (case x0 a0 (a x1))))"),
+    (1, 0, "(tfn * (roll 0 (mu a0)))"),
+    (0, 1, "(fn int (unroll x0))"),
 ];
 
 #[test]
@@ -61,5 +68,13 @@ fn terms_need_their_variables(rt: HostRuntime) -> Result<(), Fail> {
         let below = below_functions(types.saturating_add(*terms), &whole);
         assert!(rt; needs_both(*types, *terms, below), "at {text}");
     }
+    Ok(())
+}
+
+#[test]
+fn no_more_than_the_last_number_in_a_branch(rt: HostRuntime) -> Result<(), Fail> {
+    let term = term(rt.alloc(), "(case 0 int (a x0))")?;
+    assert!(rt; term_in_scope(0, u64::MAX - 1, &term));
+    assert!(rt; !term_in_scope(0, u64::MAX, &term));
     Ok(())
 }

@@ -14,7 +14,7 @@ use std::alloc::Global;
 use std::test::Fail;
 
 // Terms with calls that go, and what is left of each.
-const SIMPLER: [(&str, &str); 18] = [
+const SIMPLER: [(&str, &str); 25] = [
     // the body is the argument, or the argument's record made anew
     ("(call (fn int x0) 5)", "5"),
     (
@@ -61,10 +61,36 @@ const SIMPLER: [(&str, &str); 18] = [
     ),
     ("(+ (call (fn int x0) 1) (call (fn int x0) 2))", "(+ 1 2)"),
     ("(fix int int (call (fn int x2) x1))", "(fix int int x1)"),
+    (
+        "(inj a (call (fn int x0) 1) (sum (a int) (b bool)))",
+        "(inj a 1 (sum (a int) (b bool)))",
+    ),
+    // what is looked at, and the branches, each under a variable of its own
+    (
+        "(case (call (fn (sum (a int)) x0) (inj a 1 (sum (a int)))) int (a x0))",
+        "(case (inj a 1 (sum (a int))) int (a x0))",
+    ),
+    (
+        "(case (inj a 1 (sum (a int) (b int))) int (a (+ x0 1)) (b (call (fn int x1) x0)))",
+        "(case (inj a 1 (sum (a int) (b int))) int (a (+ x0 1)) (b x0))",
+    ),
+    (
+        "(fn (sum (a int) (b int)) (case x0 int (a (call (fn int x2) x1)) (b (call (fn int x1) x1))))",
+        "(fn (sum (a int) (b int)) (case x0 int (a x1) (b (call (fn int x1) x1))))",
+    ),
+    ("(roll (call (fn int x0) 1) (mu int))", "(roll 1 (mu int))"),
+    (
+        "(unroll (call (fn (mu int) x0) (roll 1 (mu int))))",
+        "(unroll (roll 1 (mu int)))",
+    ),
+    (
+        "(unroll (roll (inj a (call (fn int x0) 1) (sum (a int))) (mu (sum (a int)))))",
+        "(unroll (roll (inj a 1 (sum (a int))) (mu (sum (a int)))))",
+    ),
 ];
 
 // Terms that stay as they are.
-const SIMPLE: [&str; 12] = [
+const SIMPLE: [&str; 17] = [
     "7",
     // a record with a field less or a field more, and one in which parts change places
     "(call (fn (rec (a int) (b int)) (rec (a (get x0 a)))) (rec (a 1) (b 2)))",
@@ -83,6 +109,12 @@ const SIMPLE: [&str; 12] = [
     "(inst (tfn * (fn a0 x0)) int)",
     // an operand that is no function's
     "(fix int int (call x0 x1))",
+    // what was injected or rolled, taken apart and put together
+    "(case (inj a 1 (sum (a int) (b int))) int (a x0) (b 2))",
+    "(call (fn (sum (a int)) (case x0 (sum (a int)) (a (inj a x1 (sum (a int)))))) (inj a 1 (sum (a int))))",
+    "(call (fn int (inj a x0 (sum (a int)))) 1)",
+    "(call (fn (mu int) (roll (unroll x0) (mu int))) (roll 1 (mu int)))",
+    "(unroll (roll 1 (mu int)))",
 ];
 
 // Whether the type and the term have this text.

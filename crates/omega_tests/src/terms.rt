@@ -32,6 +32,31 @@ fn a_record_is_shared(rt: HostRuntime) -> Result<(), Fail> {
     Ok(())
 }
 
+// Terms of sums and recursive types, whether each is a value, and its nodes.
+const SUMS: [(&str, bool, u64); 7] = [
+    ("(inj a 1 (sum (a int)))", true, 2),
+    ("(inj a (+ 1 2) (sum (a int)))", false, 4),
+    ("(inj a (fn int x0) (sum (a (-> int int))))", true, 3),
+    (
+        "(case (inj a 1 (sum (a int) (b int))) int (a x0) (b 2))",
+        false,
+        5,
+    ),
+    ("(roll 0 (mu int))", true, 2),
+    ("(roll (unroll (roll 0 (mu int))) (mu int))", false, 4),
+    ("(unroll (roll 0 (mu int)))", false, 3),
+];
+
+#[test]
+fn values_and_nodes_of_sums(rt: HostRuntime) -> Result<(), Fail> {
+    for (text, value, count) in &SUMS {
+        let term = term(rt.alloc(), text)?;
+        assert!(rt; is_value(&term) == *value, "at {text}");
+        assert!(rt; nodes(&term) == *count, "at {text}");
+    }
+    Ok(())
+}
+
 // Each label finds the number of its own field, and no other label finds any.
 #[test]
 fn a_field_by_its_label(rt: HostRuntime) -> Result<(), Fail> {
@@ -79,5 +104,53 @@ fn indexes_are_raised_and_filled(rt: HostRuntime) -> Result<(), Fail> {
         Some((Some(0), 8, 1))
     );
     assert_eq!(rt; indexes(&typed(rt.alloc(), caller)?), Some((None, 1, 2)));
+    Ok(())
+}
+
+// The indexes in a term (case xE aT (l (call xF xA)) ..), with none for the type where it is no variable.
+fn case_indexes(term: &Term) -> Option<(u64, Option<u64>, u64, u64)> {
+    let TermNode::Case(whole, ty, branches) = term.node() else {
+        return None;
+    };
+    let TermNode::Var(from) = whole.node() else {
+        return None;
+    };
+    let Some((_, branch)) = branches.items().first() else {
+        return None;
+    };
+    let TermNode::Call(function, arg) = branch.node() else {
+        return None;
+    };
+    let ty = match ty.node() {
+        TyNode::Var(index) => Some(*index),
+        _ => None,
+    };
+    match (function.node(), arg.node()) {
+        (TermNode::Var(i), TermNode::Var(j)) => Some((*from, ty, *i, *j)),
+        _ => None,
+    }
+}
+
+// (case x1 a0 (a (call x1 x0))), by index
+const CASE: &str = "(tfn * (fn int (fn int (case x0 a0 (a (call x1 x2))))))";
+
+// What is injected is variable 0 of a branch, which no change from outside reaches.
+#[test]
+fn branches_are_raised_and_filled(rt: HostRuntime) -> Result<(), Fail> {
+    let whole = term(rt.alloc(), CASE)?;
+    let case = below_functions(3, &whole);
+    assert_eq!(rt; case_indexes(case), Some((1, Some(0), 1, 0)));
+    assert_eq!(rt;
+        case_indexes(&shift_term(rt.alloc(), case, 2, 3)?),
+        Some((4, Some(2), 4, 0))
+    );
+    assert_eq!(rt;
+        case_indexes(&filled(rt.alloc(), case)?),
+        Some((0, Some(0), 8, 0))
+    );
+    assert_eq!(rt;
+        case_indexes(&typed(rt.alloc(), case)?),
+        Some((1, None, 1, 0))
+    );
     Ok(())
 }

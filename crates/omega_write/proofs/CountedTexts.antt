@@ -9,7 +9,7 @@ use Rattle.omega_terms.specs.KindText.{kind_text, label_text}
 use Rattle.omega_terms.specs.TypeText.{level_text, ty_text, row_text}
 use Rattle.omega_terms.specs.TermText.{op_front, term_text, term_row_text}
 use Rattle.omega_write.specs.Counted.{level_in, next_in, counted_ty, counted_row, counted_term, counted_term_row}
-use Rattle.omega_write.specs.Pieces.{one_text, two_text, three_text}
+use Rattle.omega_write.specs.Pieces.{one_text, two_text, three_text, case_text}
 
 -- c counts n modulo 2^64
 abbrev pub Counts : (c n : ℕ) → Type 0
@@ -50,6 +50,9 @@ mutual
 three : (front : List ℕ) {a b p q x y : List ℕ} → a ≡ b → p ≡ q → x ≡ y → three_text front a p x ≡ three_text front b q y
 three front d e f = λ i. three_text front (d i) (e i) (f i)
 
+case : {a b p q x y : List ℕ} → a ≡ b → p ≡ q → x ≡ y → case_text a p x ≡ case_text b q y
+case d e f = λ i. case_text (d i) (e i) (f i)
+
 mutual
   pub term-counted : (c d n m : ℕ) (e : Term) → Counts c n → Counts d m → TermInScope n m e → counted_term c d e ≡ term_text n m e
   term-counted c d n m (Term.Var i) u v s = ap (λ (w : List ℕ). codes "x" then w) (level-text d m i v s)
@@ -82,6 +85,13 @@ mutual
     where
       twice : (d m : ℕ) → Counts d m → Counts (next_in (next_in d)) (m + 2)
       twice d m v = omega arith
+  term-counted c d n m (Term.Inj l e t) u v s =
+      ap₂ (three_text (codes "(inj ") (label_text l)) (term-counted c d n m e u v s.0) (ty-counted c n t u s.1)
+  term-counted c d n m (Term.Case e t row) u v s =
+      case (term-counted c d n m e u v s.0) (ty-counted c n t u s.1) (term_row-counted c (next_in d) n (m + 1) row u (next-counts d m v) s.2)
+  term-counted c d n m (Term.Roll e t) u v s =
+      ap₂ (two_text (codes "(roll ")) (term-counted c d n m e u v s.0) (ty-counted c n t u s.1)
+  term-counted c d n m (Term.Unroll e) u v s = ap (one_text (codes "(unroll ")) (term-counted c d n m e u v s)
 
   term_row-counted : (c d n m : ℕ) (row : TermRow) → Counts c n → Counts d m → TermRowInScope n m row → counted_term_row c d row ≡ term_row_text n m row
   term_row-counted c d n m TermRow.End u v s = refl

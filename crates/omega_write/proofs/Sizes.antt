@@ -49,6 +49,10 @@ abbrev mutual
   term_size (Term.If a b c) = term_size a + term_size b + term_size c + 1
   term_size (Term.Arith op a b) = term_size a + term_size b + 1
   term_size (Term.Fix t u e) = ty_size t + ty_size u + term_size e + 1
+  term_size (Term.Inj l e t) = term_size e + ty_size t + 1
+  term_size (Term.Case e t row) = term_size e + ty_size t + term_row_size row + 1
+  term_size (Term.Roll e t) = term_size e + ty_size t + 1
+  term_size (Term.Unroll e) = term_size e + 1
 
   pub term_row_size : TermRow → ℕ
   term_row_size TermRow.End = 0

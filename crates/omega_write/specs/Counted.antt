@@ -61,6 +61,13 @@ abbrev mutual
       op_front op then counted_term n m a then codes " " then counted_term n m b then codes ")"
   counted_term n m (Term.Fix t u e) =
       codes "(fix " then counted_ty n t then codes " " then counted_ty n u then codes " " then counted_term n (next_in (next_in m)) e then codes ")"
+  counted_term n m (Term.Inj l e t) =
+      codes "(inj " then label_text l then codes " " then counted_term n m e then codes " " then counted_ty n t then codes ")"
+  counted_term n m (Term.Case e t row) =
+      codes "(case " then counted_term n m e then codes " " then counted_ty n t then counted_term_row n (next_in m) row then codes ")"
+  counted_term n m (Term.Roll e t) =
+      codes "(roll " then counted_term n m e then codes " " then counted_ty n t then codes ")"
+  counted_term n m (Term.Unroll e) = codes "(unroll " then counted_term n m e then codes ")"
 
   pub counted_term_row : (n m : ℕ) → TermRow → List ℕ
   counted_term_row n m TermRow.End = []

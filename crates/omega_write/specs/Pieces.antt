@@ -38,6 +38,10 @@ abbrev pub three_text : (front first second third : List ℕ) → List ℕ
 three_text front first second third =
     front then first then codes " " then second then codes " " then third then codes ")"
 
--- a field of a record, whose part has this text
+-- a case, whose branches each begin with a space
+abbrev pub case_text : (whole ty branches : List ℕ) → List ℕ
+case_text whole ty branches = codes "(case " then whole then codes " " then ty then branches then codes ")"
+
+-- a field of a record or a branch of a case, whose part has this text
 abbrev pub field_text : Label → (part : List ℕ) → List ℕ
 field_text l part = two_text (codes " (") (label_text l) part

@@ -6,6 +6,7 @@ ghost use Rattle.omega_terms.specs.Fields.{term_row};
 ghost use Rattle.omega_terms.specs.InScope.{TyInScope, TermInScope};
 ghost use Rattle.omega_terms.specs.KindText.{kind_text};
 ghost use Rattle.omega_terms.specs.OmegaText.{omega_text};
+ghost use Rattle.omega_terms.specs.Term.{Term as TermTree};
 ghost use Rattle.omega_terms.specs.TermText.{term_text, op_front, quoted_text};
 ghost use Rattle.omega_terms.specs.TypeText.{ty_text};
 ghost use Rattle.std.specs.Prelude.{◌≡◌, decimal};
@@ -170,7 +171,74 @@ fn write_expression<K: Sink>(sink: &mut K, here: Scope, term: &Term) -> Result<(
             let body = under.under_term().term(e);
             write_three(sink, b"(fix ", here.ty(t), here.ty(u), body)
         }
+        TermNode::Inj(l, e, t) => write_injected(sink, here, l, e, t),
+        TermNode::Case(e, t, branches) => write_case(sink, here, e, t, branches),
+        TermNode::Roll(e, t) => write_rolled(sink, here, e, t),
+        TermNode::Unroll(e) => write_unrolled(sink, here, e),
     }
+}
+
+// Writes a term injected into a sum.
+#[cycle(trees)]
+#[inline(never)]
+fn write_injected<'x, K: Sink>(
+    sink: &mut K,
+    here: Scope,
+    l: &'x Label,
+    e: &'x Term,
+    t: &'x Ty,
+) -> Result<(), WriteFault>
+    ensures { Wrote (K.told sink.old) (K.told sink.new) (counted_term here.types here.terms (TermTree.Inj l.now e.now t.now)) result }
+{
+    write_three(sink, b"(inj ", Piece::Label(l), here.term(e), here.ty(t))
+}
+
+// Writes a case of a sum, each branch below a binder of a term variable.
+#[cycle(trees)]
+#[inline(never)]
+fn write_case<'x, K: Sink>(
+    sink: &mut K,
+    here: Scope,
+    e: &'x Term,
+    t: &'x Ty,
+    branches: &'x TermFields,
+) -> Result<(), WriteFault>
+    ensures { Wrote (K.told sink.old) (K.told sink.new) (counted_term here.types here.terms (TermTree.Case e.now t.now (term_row branches.now))) result }
+{
+    write_pieces(
+        sink,
+        &[
+            Piece::Bytes(b"(case "),
+            here.term(e),
+            Piece::Bytes(b" "),
+            here.ty(t),
+            Piece::TermFields(here.under_term(), branches),
+            Piece::Bytes(b")"),
+        ],
+    )
+}
+
+// Writes a rolled term.
+#[cycle(trees)]
+#[inline(never)]
+fn write_rolled<'x, K: Sink>(
+    sink: &mut K,
+    here: Scope,
+    e: &'x Term,
+    t: &'x Ty,
+) -> Result<(), WriteFault>
+    ensures { Wrote (K.told sink.old) (K.told sink.new) (counted_term here.types here.terms (TermTree.Roll e.now t.now)) result }
+{
+    write_two(sink, b"(roll ", here.term(e), here.ty(t))
+}
+
+// Writes an unrolled term.
+#[cycle(trees)]
+#[inline(never)]
+fn write_unrolled<K: Sink>(sink: &mut K, here: Scope, e: &Term) -> Result<(), WriteFault>
+    ensures { Wrote (K.told sink.old) (K.told sink.new) (counted_term here.types here.terms (TermTree.Unroll e.now)) result }
+{
+    write_one(sink, b"(unroll ", here.term(e))
 }
 
 // What an operator's form begins with.
@@ -188,7 +256,7 @@ fn front(op: Op) -> &'static [u8]
     }
 }
 
-// Writes the fields of a record, each with a space before it.
+// Writes the fields of a record, or the branches of a case, each with a space before it.
 #[cycle(trees)]
 fn write_term_fields<K: Sink>(
     sink: &mut K,
@@ -203,7 +271,7 @@ fn write_term_fields<K: Sink>(
     Ok(())
 }
 
-// Writes a field of a record, with a space before it.
+// Writes a field of a record, or a branch of a case, with a space before it.
 #[cycle(trees)]
 fn write_field<'x, K: Sink>(
     sink: &mut K,

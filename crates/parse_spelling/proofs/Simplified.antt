@@ -32,6 +32,10 @@ module _ (v : Version) where
     simplified-legible (Term.If a b c) h = (simplified-legible a h.0, simplified-legible b h.1, simplified-legible c h.2)
     simplified-legible (Term.Arith o a b) h = (simplified-legible a h.0, simplified-legible b h.1)
     simplified-legible (Term.Fix t u e) h = (h.0, h.1, simplified-legible e h.2)
+    simplified-legible (Term.Inj l e t) h = (h.0, h.1, simplified-legible e h.2, h.3)
+    simplified-legible (Term.Case e t row) h = (h.0, simplified-legible e h.1, h.2, simplified_row-legible None row h.3)
+    simplified-legible (Term.Roll e t) h = (h.0, simplified-legible e h.1, h.2)
+    simplified-legible (Term.Unroll e) h = (h.0, simplified-legible e h.1)
 
     simplified_row-legible : (last : Option Label) (row : TermRow) → TermRowLegible v last row → TermRowLegible v last (simplified_row row)
     simplified_row-legible last TermRow.End h = tt

@@ -55,6 +55,10 @@ mutual
   instance-given (Instance.if_ a b c) = Instance.if_ (instance-given a) (instance-given b) (instance-given c)
   instance-given (Instance.arith a b) = Instance.arith (instance-given a) (instance-given b)
   instance-given (Instance.fix t u e) = Instance.fix (ty-given t) (ty-given u) (instance-given e)
+  instance-given (Instance.inj e t) = Instance.inj (instance-given e) (ty-given t)
+  instance-given (Instance.case e t f) = Instance.case (instance-given e) (ty-given t) (instances-given f)
+  instance-given (Instance.roll e t) = Instance.roll (instance-given e) (ty-given t)
+  instance-given (Instance.unroll e) = Instance.unroll (instance-given e)
 
   instances-given : {from to : List Kind} {s : ℕ → Ty} {f g : TermRow} → Instances from to s f g → Instances to to Ty.Var g g
   instances-given Instances.end = Instances.end
@@ -82,6 +86,10 @@ mutual
   term-renamed q r m (Instance.if_ a b c) = Instance.if_ (term-renamed q r m a) (term-renamed q r m b) (term-renamed q r m c)
   term-renamed q r m (Instance.arith a b) = Instance.arith (term-renamed q r m a) (term-renamed q r m b)
   term-renamed q r m (Instance.fix t u e) = Instance.fix (ty-renamed q m t) (ty-renamed q m u) (term-renamed q (lift (lift r)) m e)
+  term-renamed q r m (Instance.inj e t) = Instance.inj (term-renamed q r m e) (ty-renamed q m t)
+  term-renamed q r m (Instance.case e t f) = Instance.case (term-renamed q r m e) (ty-renamed q m t) (fields-renamed q (lift r) m f)
+  term-renamed q r m (Instance.roll e t) = Instance.roll (term-renamed q r m e) (ty-renamed q m t)
+  term-renamed q r m (Instance.unroll e) = Instance.unroll (term-renamed q r m e)
 
   fields-renamed : {from to mid : List Kind} {s : ℕ → Ty} {f g : TermRow} (q r : ℕ → ℕ) → Maps from to q → Instances from mid s f g → Instances to to Ty.Var (ren_fields q r f) (ren_fields q r f)
   fields-renamed q r m Instances.end = Instances.end

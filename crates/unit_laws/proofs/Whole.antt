@@ -6,7 +6,6 @@ use Rattle.omega_kinds.specs.Kind.{Kind}
 use Rattle.omega_kinds.specs.Name.{Name}
 use Rattle.sig_definitions.specs.Signatures.Sig.{Sig, Abs, SigRow, HasField, Module, made}
 use Rattle.sig_definitions.specs.Env.{Env, kinds}
-use Rattle.sig_definitions.specs.Explicit.WellFormed.{WellFormedAbs}
 use Rattle.fing_syntax.specs.Phrase.{Span, Mod, SigEx}
 use Rattle.refusal_reasons.specs.Refusal.{Refusal}
 use Rattle.elab_judgments.specs.Judgments.Meaning.{ModMeans}
@@ -15,7 +14,7 @@ use Rattle.elab_judgments.specs.Refusals.Refused.{Refused}
 use Rattle.module_judgments.specs.Sequence.{Collected}
 use Rattle.module_judgments.specs.Projection.{Projected}
 use Rattle.module_judgments.proofs.Determined.{projected-one}
-use Rattle.sig_laws.specs.Good.{OkEnv, OkModule}
+use Rattle.sig_laws.specs.Good.{OkAbs, OkEnv, OkModule}
 use Rattle.elab_laws.proofs.Kept.{mod_ok}
 use Rattle.elab_exact.proofs.Theorems.{total, exclusive, refusals-equal}
 use Rattle.unit_judgments.specs.Interfaces.{sig_in, with_interface}
@@ -31,7 +30,7 @@ first-field (LinkGives.end (Collected.next {l = l} {s = s} {fs = rest} f c)) = (
 
 field-of : (ctx : List Kind) (W : Module) (l : Name) (fs : SigRow) (t : Sig) → OkModule ctx W → body_in W ≡ Sig.Str fs → HasField fs l t → (N : Module) × Projected ctx W l N
 field-of ctx (made f (Abs.Ex ks s) ts e) l fs t w q h =
-    let o = projected-one ctx ks f fs ts e l t (subst (λ s. WellFormedAbs ctx (Abs.Ex ks s)) q w.0.0) h in
+    let o = projected-one ctx ks f fs ts e l t (subst (λ s. OkAbs ctx (Abs.Ex ks s)) q w.0) h in
     subst (λ s. (N : Module) × Projected ctx (made f (Abs.Ex ks s) ts e) l N) (sym q) (o.0, o.1)
 
 pub unit-total : (g : Env) (at : Span) (a : SigEx) (b : Mod) (M N : Module) → OkEnv g → ModMeans g b M → ModMeans (with_interface g sealing_name (sig_in M)) (unit_sealing at a) N → (m : Module) × ModMeans g (sealed at b a) m

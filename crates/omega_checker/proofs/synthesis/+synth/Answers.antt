@@ -1,13 +1,15 @@
-use Rattle.std.proofs.Common.{Some, None, sym, ap, ap₂, ◌∙◌}
+use Rattle.std.proofs.Common.{◌≡◌, ◌<◌, Some, None, true, false, arith, sym, ap, ap₂, subst, ◌∙◌}
+use Rattle.std.proofs.lemmas.Grind.{common_steps}
+use Rattle.omega_types.specs.Fields.{row}
 use Rattle.omega_types.specs.Scope.{scope_of}
 use Rattle.omega_terms.specs.Fields.{term_row}
 use Rattle.omega_terms.proofs.OneIndex.{left-smaller}
-use Rattle.omega_checker.specs.Found.{synth_in, synth_row}
+use Rattle.omega_checker.specs.Found.{synth_in, synth_row, synth_branches}
 use Rattle.omega_checker.specs.Vars.{types_of}
 use Rattle.std.proofs.lemmas.Result.{IfOk-weaker, on_ok_weaker}
 use Rattle.omega_terms.specs.View.{term_of}
 use Rattle.omega_checker.proofs.CallSteps.{without-argument, plain-call, let-call, let-differs, no-function}
-use Rattle.omega_checker.proofs.FieldLoop.{found-more, found-none, found-all, labels-more, next-follows, none-is, record-type}
+use Rattle.omega_checker.proofs.FieldLoop.{found-more, found-none, found-all, labels-more, next-follows, none-is, record-type, branches-length, passes, branch-passes, label-differs, branch-fails}
 use Rattle.omega_checker.proofs.synthesis.+synth.Goals as goal
 
 pub synth_fields-loop-field-preserved : goal.synth_fields-loop-field-preserved
@@ -59,4 +61,33 @@ synth_call-returns-in_default-node t c =
       kinds = on_ok_weaker called.result (λ e. e ∙ c.in_ok-found.ensures.kinds) called.ensures.kinds;
       vars = on_ok_weaker called.result (λ e. e ∙ c.in_ok-found.ensures.vars) called.ensures.vars;
       found = IfOk-weaker called.result _ _ (λ o h. plain-call (scope_of c.args.kinds.now.items) _ c.args.vars.now _ c.args.function.now c.args.arg.now c.in-Some.found o (no-function c.node.result.now c.args.function.now c.node.ensures c.in_default-node.not-Lam) c.in_ok-found.ensures.kinds c.in_ok-found.ensures.vars (sym c.in-Some.is ∙ c.in_ok-found.ensures.found) h) called.ensures.found;
+    }
+
+pub synth_branches-returns-then-terms-types-clause-value : goal.synth_branches-returns-then-terms-types-clause-value
+synth_branches-returns-then-terms-types-clause-value t c =
+    branches-length (scope_of c.args.kinds.now.items) (types_of c.args.vars.now) c.args.target.now c.items-terms.result.now c.items-types.result.now c.if-terms-types.true ∙ ap₂ (λ xs ys. synth_branches (scope_of c.args.kinds.now.items) (types_of c.args.vars.now) (term_row xs) (row ys) c.args.target.now) c.items-terms.ensures.value c.items-types.ensures.value
+
+pub synth_branches-returns-then-not-same_label-clause-value : goal.synth_branches-returns-then-not-same_label-clause-value
+synth_branches-returns-then-not-same_label-clause-value t c =
+    let i = c.loop-i.invariant in
+    label-differs (scope_of c.args.kinds.now.items) (types_of c.args.vars.now) c.args.target.now c.loop-i.i c.items-terms.result.now c.items-types.result.now c.index-terms-i.result c.index-types-i.result _ (subst (λ m. c.loop-i.i < m) (sym c.if-terms-types.false) c.loop-i-test.true) c.loop-i-test.true c.index-terms-i.is c.index-types-i.is i.found (λ l. let h = c.same_label.ensures.1 l in grind (arith, common_steps)) ∙ ap₂ (λ xs ys. synth_branches (scope_of c.args.kinds.now.items) (types_of c.args.vars.now) (term_row xs) (row ys) c.args.target.now) c.items-terms.ensures.value c.items-types.ensures.value
+
+pub synth_branches-returns-then-not-branch-clause-value : goal.synth_branches-returns-then-not-branch-clause-value
+synth_branches-returns-then-not-branch-clause-value t c =
+    let i = c.loop-i.invariant in
+    let at = ap₂ (λ k v. passes k (types_of v) c.args.target.now c.index-terms-i.result c.index-types-i.result) i.same_kinds i.same_vars in
+    let fails : false ≡ passes (scope_of c.args.kinds.now.items) (types_of c.args.vars.now) c.args.target.now c.index-terms-i.result c.index-types-i.result = let v = c.in_ok-synth_branch.ensures.value ∙ at in grind (arith, common_steps) in
+    branch-fails (scope_of c.args.kinds.now.items) (types_of c.args.vars.now) c.args.target.now c.loop-i.i c.items-terms.result.now c.items-types.result.now c.index-terms-i.result c.index-types-i.result _ (subst (λ m. c.loop-i.i < m) (sym c.if-terms-types.false) c.loop-i-test.true) c.loop-i-test.true c.index-terms-i.is c.index-types-i.is i.found fails ∙ ap₂ (λ xs ys. synth_branches (scope_of c.args.kinds.now.items) (types_of c.args.vars.now) (term_row xs) (row ys) c.args.target.now) c.items-terms.ensures.value c.items-types.ensures.value
+
+pub synth_branches-loop-i-preserved : goal.synth_branches-loop-i-preserved
+synth_branches-loop-i-preserved t c =
+    let i = c.loop-i.invariant in
+    let at = ap₂ (λ k v. passes k (types_of v) c.args.target.now c.index-terms-i.result c.index-types-i.result) i.same_kinds i.same_vars in
+    let label : c.index-terms-i.result.0 ≡ c.index-types-i.result.0 = c.same_label.ensures.0 (grind (arith, common_steps)) in
+    let yes : true ≡ passes (scope_of c.args.kinds.now.items) (types_of c.args.vars.now) c.args.target.now c.index-terms-i.result c.index-types-i.result = let v = c.in_ok-synth_branch.ensures.value ∙ at in grind (arith, common_steps) in
+    record {
+      same_kinds = c.in_ok-synth_branch.ensures.kinds ∙ i.same_kinds;
+      same_vars = c.in_ok-synth_branch.ensures.vars ∙ i.same_vars;
+      found = branch-passes (scope_of c.args.kinds.now.items) (types_of c.args.vars.now) c.args.target.now c.loop-i.i c.items-terms.result.now c.items-types.result.now c.index-terms-i.result c.index-types-i.result _ (subst (λ m. c.loop-i.i < m) (sym c.if-terms-types.false) c.loop-i-test.true) c.loop-i-test.true c.index-terms-i.is c.index-types-i.is i.found label yes;
+      size = left-smaller _ _;
     }

@@ -2,7 +2,7 @@ use Rattle.std.proofs.lemmas.Result.{on_ok_weaker}
 use Rattle.omega_terms.specs.KindText.{label_text}
 use Rattle.omega_terms.proofs.OneIndex.{left-smaller}
 use Rattle.omega_terms.specs.ValueText.{shown}
-use Rattle.omega_machine.proofs.Texts.{field-text, fields-first, fields-more, fields-end, single-val, single-other, record-many}
+use Rattle.omega_machine.proofs.Texts.{injected-text, rolled-text, field-text, fields-first, fields-more, fields-end, single-val, single-other, record-many}
 use Rattle.omega_machine.proofs.shown.+show.Goals as goal
 
 pub show_field-returns : goal.show_field-returns
@@ -35,3 +35,11 @@ show_single-returns-in_default t c =
 pub show_record-returns-else-items-eq1 : goal.show_record-returns-else-items-eq1
 show_record-returns-else-items-eq1 t c =
     on_ok_weaker c.show_fields.result (λ e. record-many c.args.out.now.items c.show_fields.new.out.items _ c.args.fields.now c.items-items.ensures.value c.if-items-eq1.false e) c.show_fields.ensures
+
+pub show_injected-returns : goal.show_injected-returns
+show_injected-returns t c =
+    on_ok_weaker c.add-4.result (λ e. injected-text c.args.out.now.items c.add.new.out.items c.add-2.new.out.items c.add-3.new.out.items c.show.new.out.items c.add-4.new.out.items c.label_bytes.result.now (label_text c.args.label.now) (shown c.args.part.now) c.in_ok-add.ensures c.label_bytes.ensures c.in_ok-add-2.ensures c.in_ok-add-3.ensures c.in_ok-show.ensures e) c.add-4.ensures
+
+pub show_rolled-returns : goal.show_rolled-returns
+show_rolled-returns t c =
+    on_ok_weaker c.add-2.result (λ e. rolled-text c.args.out.now.items c.add.new.out.items c.show.new.out.items c.add-2.new.out.items (shown c.args.part.now) c.in_ok-add.ensures c.in_ok-show.ensures e) c.add-2.ensures

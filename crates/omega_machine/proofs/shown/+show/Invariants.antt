@@ -19,6 +19,12 @@ decreases-show_fields l = 4 * pairs_size l.fields.now + 1
 abbrev pub decreases-show_field : goal.decreases-show_field
 decreases-show_field l = 4 * term_size l.value.now + 1
 
+abbrev pub decreases-show_injected : goal.decreases-show_injected
+decreases-show_injected l = 4 * term_size l.part.now + 1
+
+abbrev pub decreases-show_rolled : goal.decreases-show_rolled
+decreases-show_rolled l = 4 * term_size l.part.now + 1
+
 abbrev pub invariant-show_fields-loop-place : goal.invariant-show_fields-loop-place
 invariant-show_fields-loop-place l =
     record {

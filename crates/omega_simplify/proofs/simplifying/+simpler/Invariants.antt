@@ -41,6 +41,18 @@ decreases-simpler_arith l = 4 * (term_size l.a.now + term_size l.b.now) + 3
 abbrev pub decreases-simpler_fix : goal.decreases-simpler_fix
 decreases-simpler_fix l = 4 * term_size l.e.now + 3
 
+abbrev pub decreases-simpler_injected : goal.decreases-simpler_injected
+decreases-simpler_injected l = 4 * term_size l.e.now + 3
+
+abbrev pub decreases-simpler_case : goal.decreases-simpler_case
+decreases-simpler_case l = 4 * (term_size l.e.now + pairs_size l.branches.now) + 3
+
+abbrev pub decreases-simpler_rolled : goal.decreases-simpler_rolled
+decreases-simpler_rolled l = 4 * term_size l.e.now + 3
+
+abbrev pub decreases-simpler_unrolled : goal.decreases-simpler_unrolled
+decreases-simpler_unrolled l = 4 * term_size l.e.now + 3
+
 abbrev pub decreases-simpler_row : goal.decreases-simpler_row
 decreases-simpler_row l = 4 * pairs_size l.fields.now + 2
 

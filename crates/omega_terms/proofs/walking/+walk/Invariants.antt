@@ -40,6 +40,18 @@ decreases-walk_arith g l = 4 * (term_size l.a.now + term_size l.b.now) + 3
 abbrev pub decreases-walk_fix : goal.decreases-walk_fix
 decreases-walk_fix g l = 4 * term_size l.e.now + 3
 
+abbrev pub decreases-walk_injected : goal.decreases-walk_injected
+decreases-walk_injected g l = 4 * term_size l.e.now + 3
+
+abbrev pub decreases-walk_case : goal.decreases-walk_case
+decreases-walk_case g l = 4 * (term_size l.e.now + pairs_size l.branches.now) + 3
+
+abbrev pub decreases-walk_rolled : goal.decreases-walk_rolled
+decreases-walk_rolled g l = 4 * term_size l.e.now + 3
+
+abbrev pub decreases-walk_unrolled : goal.decreases-walk_unrolled
+decreases-walk_unrolled g l = 4 * term_size l.e.now + 3
+
 abbrev pub decreases-walk_row : goal.decreases-walk_row
 decreases-walk_row g l = 4 * pairs_size l.fields.now + 2
 

@@ -21,6 +21,18 @@ decreases-write_ty_fields g l = 6 * row_size (row l.fields.now)
 abbrev pub decreases-write_expression : goal.decreases-write_expression
 decreases-write_expression g l = 6 * term_size l.term.now
 
+abbrev pub decreases-write_injected : goal.decreases-write_injected
+decreases-write_injected g l = 6 * (term_size l.e.now + ty_size l.t.now) + 5
+
+abbrev pub decreases-write_case : goal.decreases-write_case
+decreases-write_case g l = 6 * (term_size l.e.now + ty_size l.t.now + term_row_size (term_row l.branches.now)) + 5
+
+abbrev pub decreases-write_rolled : goal.decreases-write_rolled
+decreases-write_rolled g l = 6 * (term_size l.e.now + ty_size l.t.now) + 5
+
+abbrev pub decreases-write_unrolled : goal.decreases-write_unrolled
+decreases-write_unrolled g l = 6 * term_size l.e.now + 5
+
 abbrev pub decreases-write_term_fields : goal.decreases-write_term_fields
 decreases-write_term_fields g l = 6 * term_row_size (term_row l.fields.now)
 
