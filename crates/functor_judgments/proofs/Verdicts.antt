@@ -22,6 +22,6 @@ view : {ctx ks : List Kind} {s : Sig} {y : Abs} {ts : List Ty} {e : Term} {m : M
 view (PureFunctorGives.pure_functor {z = z} l) = (z, l, refl)
 
 pub one_pure_functor : OnePureFunctor
-one_pure_functor ctx ks s y ts e h w =
-    let l = lift-one ctx ks s y h w in
+one_pure_functor ctx ks s y ts e n w =
+    let l = lift-one ctx ks s y n w in
     (result ks s ts e l.0, PureFunctorGives.pure_functor l.1, λ m g. let v = view g in v.2 ∙ ap (result ks s ts e) (l.2 v.0 v.1))

@@ -7,46 +7,45 @@ use Rattle.omega_kinds.specs.declared.effect.Effect.{Effect}
 use Rattle.omega_kinds.specs.declared.effect.Effect.TheVariants.{Pure, Impure}
 use Rattle.omega_kinds.specs.Name.{Name}
 use Rattle.omega_types.specs.Ty.{Ty}
+use Rattle.omega_types.specs.Normality.{Normal}
 use Rattle.omega_types.specs.Substitution.{substitute}
-use Rattle.omega_types.specs.Binders.{extend, raise, vars, puts, NormalForms}
+use Rattle.omega_types.specs.Binders.{extend, raise, vars, puts, ex_over, NormalForms}
 use Rattle.omega_types.proofs.Preservation.{Substitutes}
 use Rattle.omega_terms.specs.Term.{Term, TermRow}
 use Rattle.omega_terms.specs.Shorthands.{Packs, let_in, opens}
 use Rattle.omega_terms.specs.Instance.{Instance}
-use Rattle.sig_premise_laws.proofs.Determined.{form_sig-one, packed-one}
-use Rattle.sig_laws.specs.Good.{OkRow, NormalTerm}
-use Rattle.sig_laws.proofs.Formed.Conditions.{row-first}
-use Rattle.sig_laws.proofs.Encoded.EncodingLaws.{enc-normal}
+use Rattle.sig_premise_laws.proofs.Determined.{put_sig-one, packed-kinded}
+use Rattle.sig_laws.proofs.Encoded.EncodingTyping.{distinct-normal, distinct_abs-normal, shape_abs-distinct}
+use Rattle.sig_laws.proofs.Formed.WellFormedShape.{kinded, well_formed_abs-shape}
 use Rattle.omega_terms.proofs.InstanceLaws.{type-self}
 use Rattle.module_judgments.specs.Sequence.{field_lets}
 use Rattle.sig_definitions.specs.Signatures.Sig.{Sig, Abs, SigRow, HasField, Module, made}
 use Rattle.sig_definitions.specs.Signatures.SigSubst.{sig_at}
-use Rattle.sig_definitions.specs.Signatures.Alike.{NormalSigForm}
+use Rattle.sig_definitions.specs.Signatures.Alike.{NormalSigRow, NormalSigForm}
 use Rattle.sig_definitions.specs.Signatures.Encoding.{enc, enc_abs}
-use Rattle.sig_definitions.specs.Explicit.WellFormed.{WellFormed, WellFormedAbs, abs}
 use Rattle.sig_definitions.specs.Packing.{Packed}
 use Rattle.sig_definitions.specs.Env.{Env, find}
-use Rattle.sig_laws.proofs.Algebra.BinderLaws.{extend-append}
-use Rattle.sig_laws.proofs.Formed.WellFormedLaws.{well_formed-kinds, well_formed-substitute}
 use Rattle.sig_laws.proofs.Algebra.Instances.{normals_of, at-substitutes}
-use Rattle.sig_laws.proofs.Formed.Conditions.{abs-body, str-fields, row-field}
 use Rattle.sig_match_laws.proofs.AnyTypes.AnyTypesSubst.{kinds-substituted}
 use Rattle.module_judgments.specs.Projection.{Projected}
 use Rattle.module_judgments.specs.Sequence.{Seq, joined, past_opens, Collected}
 use Rattle.sig_definitions.specs.Verdict.{One}
-use Rattle.sig_laws.specs.Good.{OkModule, Bound}
+use Rattle.sig_laws.specs.Good.{Distinct, DistinctRow, KindedAbs, KindedModule, NormalTerm, OkAbs, OkModule, Bound}
 use Rattle.omega_terms.proofs.InstanceLaws.{instance-one}
-use Rattle.sig_premise_laws.proofs.Terms.{instance-total, forms-unique, repack-one, repack_all-one}
+use Rattle.sig_premise_laws.proofs.Terms.{instance-total, forms-unique, repack-one}
 use Rattle.sig_premise_laws.proofs.Environments.{some-same}
-use Rattle.omega_types.proofs.BinderPuts.{forms-kinds}
-use Rattle.sig_laws.proofs.Algebra.PathLaws.{one-field}
+use Rattle.omega_types.proofs.BinderPuts.{forms-kinds, ex_over-append, ex_over-normal}
+use Rattle.sig_laws.proofs.Algebra.PathLaws.{one-field, field-normal}
 
 -- lets round a term of normal types
-pub lets-normal : (ctx : List Kind) (i : ℕ) (fs : SigRow) (e : Term) → OkRow ctx fs → NormalTerm ctx e → NormalTerm ctx (field_lets i fs e)
-lets-normal ctx i SigRow.End e w n = n
-lets-normal ctx i (SigRow.More l s rest) e w n =
-    let q = row-first w.0 in
-    Instance.call (Instance.lam (type-self (enc-normal q.0 w.1.0)) (lets-normal ctx (suc i) rest e (q.1, w.1.1) n)) (Instance.get Instance.var)
+pub lets-normal : (ctx : List Kind) (i : ℕ) (fs : SigRow) (e : Term) → DistinctRow fs → NormalSigRow ctx fs → NormalTerm ctx e → NormalTerm ctx (field_lets i fs e)
+lets-normal ctx i SigRow.End e d w n = n
+lets-normal ctx i (SigRow.More l s rest) e d w n =
+    Instance.call (Instance.lam (type-self (distinct-normal s d.1 w.0)) (lets-normal ctx (suc i) rest e d.2 w.1 n)) (Instance.get Instance.var)
+
+distinct-field : {fs : SigRow} {l : Name} {s : Sig} → DistinctRow fs → HasField fs l s → Distinct s
+distinct-field d HasField.here = d.1
+distinct-field d (HasField.there n h) = distinct-field d.2 h
 
 -- fields of modules
 abbrev ProjectedView : List Kind → Effect → List Kind → SigRow → List Ty → Term → Name → Module → Type 0
@@ -57,18 +56,21 @@ projected-view : {ctx ks : List Kind} {f : Effect} {fs : SigRow} {ts : List Ty} 
 projected-view (Projected.pure {s = s} h) = (s, h, refl)
 projected-view (Projected.impure {s = s} {d = d} h p) = (s, d, h, p, refl)
 
-pub projected-one : (ctx ks : List Kind) (f : Effect) (fs : SigRow) (ts : List Ty) (e : Term) (l : Name) (t : Sig) → WellFormedAbs ctx (Abs.Ex ks (Sig.Str fs)) → HasField fs l t → One (Projected ctx (made f (Abs.Ex ks (Sig.Str fs)) ts e) l)
-projected-one ctx ks Pure fs ts e l t w h = (made Pure (Abs.Ex ks t) ts (Term.Get e (Label.Name l)), Projected.pure h, only)
+pub projected-pure : (ctx ks : List Kind) (fs : SigRow) (ts : List Ty) (e : Term) (l : Name) (t : Sig) → HasField fs l t → One (Projected ctx (made Pure (Abs.Ex ks (Sig.Str fs)) ts e) l)
+projected-pure ctx ks fs ts e l t h = (made Pure (Abs.Ex ks t) ts (Term.Get e (Label.Name l)), Projected.pure h, only)
   where
     only : (N : Module) → Projected ctx (made Pure (Abs.Ex ks (Sig.Str fs)) ts e) l N → N ≡ made Pure (Abs.Ex ks t) ts (Term.Get e (Label.Name l))
     only N p = let v = projected-view p in v.2 ∙ ap (λ s. made Pure (Abs.Ex ks s) ts (Term.Get e (Label.Name l))) (one-field v.1 h refl)
-projected-one ctx ks Impure fs ts e l t w h = (result t p.0, Projected.impure h p.1, only)
+
+pub projected-kinded : (ctx ks : List Kind) (f : Effect) (fs : SigRow) (ts : List Ty) (e : Term) (l : Name) (t : Sig) → KindedAbs ctx (Abs.Ex ks (Sig.Str fs)) → HasField fs l t → One (Projected ctx (made f (Abs.Ex ks (Sig.Str fs)) ts e) l)
+projected-kinded ctx ks Pure fs ts e l t w h = projected-pure ctx ks fs ts e l t h
+projected-kinded ctx ks Impure fs ts e l t w h = (result t p.0, Projected.impure h p.1, only)
   where
     result : Sig → Term → Module
     result s d = made Impure (Abs.Ex ks s) [] (opens ks e (enc_abs (Abs.Ex ks (Sig.Str fs))) d)
 
     p : One (λ d. Packs (extend ctx ks) (vars ks) (Term.Get (Term.Var zero) (Label.Name l)) (raise ks (enc_abs (Abs.Ex ks t))) d)
-    p = repack_all-one ctx ks (Term.Get (Term.Var zero) (Label.Name l)) t (abs (row-field (str-fields (abs-body w)) h))
+    p = repack-one ctx ks (Term.Get (Term.Var zero) (Label.Name l)) (enc t) (distinct_abs-normal (Abs.Ex ks t) (distinct-field w.0 h) (field-normal (extend ctx ks) w.1 h))
 
     only : (N : Module) → Projected ctx (made Impure (Abs.Ex ks (Sig.Str fs)) ts e) l N → N ≡ result t p.0
     only N q =
@@ -117,10 +119,10 @@ seq-view Pure Pure (Seq.some_impure j p q r) = absurd (pure-not_impure j)
     pure-not_impure e = cc
 seq-view _ _ (Seq.some_impure {p = p} {q = q} {r = r} j a b c) = (p, q, r, a, b, c, refl)
 
-whole-well : (ctx ks js : List Kind) (t : Sig) → WellFormedAbs (extend ctx ks) (Abs.Ex js t) → WellFormedAbs ctx (Abs.Ex (ks ++ js) t)
-whole-well ctx ks js t (abs w) = abs (subst (λ c. WellFormed c t) (sym (extend-append ks js ctx)) w)
+whole-normal : (ctx ks js : List Kind) (t : Sig) → KindedAbs (extend ctx ks) (Abs.Ex js t) → Normal ctx (ex_over ks (ex_over js (enc t))) Kind.Star
+whole-normal ctx ks js t w = ex_over-normal ks (distinct_abs-normal (Abs.Ex js t) w.0 w.1)
 
-seq-pure : (ctx ks : List Kind) (s : Sig) (ts : List Ty) (e : Term) (js : List Kind) (t : Sig) (us : List Ty) (d : Term) → OkModule ctx (made Pure (Abs.Ex ks s) ts e) → OkModule (extend ctx ks) (made Pure (Abs.Ex js t) us d) → One (Seq ctx (made Pure (Abs.Ex ks s) ts e) (made Pure (Abs.Ex js t) us d))
+seq-pure : (ctx ks : List Kind) (s : Sig) (ts : List Ty) (e : Term) (js : List Kind) (t : Sig) (us : List Ty) (d : Term) → KindedModule ctx (made Pure (Abs.Ex ks s) ts e) → KindedModule (extend ctx ks) (made Pure (Abs.Ex js t) us d) → One (Seq ctx (made Pure (Abs.Ex ks s) ts e) (made Pure (Abs.Ex js t) us d))
 seq-pure ctx ks s ts e js t us d a b = (result n.0 ns.0 c.0, Seq.both_pure n.1 ns.1 c.1, only)
   where
     result : Sig → List Ty → Term → Module
@@ -130,7 +132,7 @@ seq-pure ctx ks s ts e js t us d a b = (result n.0 ns.0 c.0, Seq.both_pure n.1 n
     put = at-substitutes (forms-kinds a.1)
 
     n : One (NormalSigForm ctx (sig_at ts s))
-    n = form_sig-one (well_formed-kinds (well_formed-substitute (puts ts Ty.Var) put (abs-body a.0.0)))
+    n = put_sig-one s put a.0.1
 
     ns : (ns : List Ty) × NormalForms ctx (map (substitute (puts ts Ty.Var)) us) js ns
     ns = normals_of (kinds-substituted (puts ts Ty.Var) put (forms-kinds b.1))
@@ -148,20 +150,20 @@ seq-pure ctx ks s ts e js t us d a b = (result n.0 ns.0 c.0, Seq.both_pure n.1 n
 
 seq-impure : (ctx ks : List Kind) (s : Sig) (ts : List Ty) (e : Term) (js : List Kind) (t : Sig) (us : List Ty) (d : Term) (f h : Effect) → joined f h ≡ Impure
     → ((N : Module) → Seq ctx (made f (Abs.Ex ks s) ts e) (made h (Abs.Ex js t) us d) N → ImpureView ctx f ks s ts e h js t us d N)
-    → OkModule ctx (made f (Abs.Ex ks s) ts e) → OkModule (extend ctx ks) (made h (Abs.Ex js t) us d) → One (Seq ctx (made f (Abs.Ex ks s) ts e) (made h (Abs.Ex js t) us d))
+    → KindedModule ctx (made f (Abs.Ex ks s) ts e) → KindedModule (extend ctx ks) (made h (Abs.Ex js t) us d) → One (Seq ctx (made f (Abs.Ex ks s) ts e) (made h (Abs.Ex js t) us d))
 seq-impure ctx ks s ts e js t us d f h j view a b = (result p.0 r.0, Seq.some_impure j p.1 q.1 r.1, only)
   where
     result : Term → Term → Module
     result p r = made Impure (Abs.Ex (ks ++ js) t) [] (opens ks p (enc_abs (Abs.Ex ks s)) r)
 
     p : One (Packed ctx (made f (Abs.Ex ks s) ts e))
-    p = packed-one ctx (made f (Abs.Ex ks s) ts e) a
+    p = packed-kinded ctx (made f (Abs.Ex ks s) ts e) a
 
     q : One (Packed (extend ctx ks) (made h (Abs.Ex js t) us d))
-    q = packed-one (extend ctx ks) (made h (Abs.Ex js t) us d) b
+    q = packed-kinded (extend ctx ks) (made h (Abs.Ex js t) us d) b
 
     r : One (λ r. Packs (extend ctx ks) (vars ks) (past_opens ks q.0) (raise ks (enc_abs (Abs.Ex (ks ++ js) t))) r)
-    r = repack-one ctx ks js (past_opens ks q.0) t (whole-well ctx ks js t b.0.0)
+    r = subst (λ u. One (λ r. Packs (extend ctx ks) (vars ks) (past_opens ks q.0) (raise ks u) r)) (sym (ex_over-append ks js (enc t))) (repack-one ctx ks (past_opens ks q.0) (ex_over js (enc t)) (whole-normal ctx ks js t b.0))
 
     only : (N : Module) → Seq ctx (made f (Abs.Ex ks s) ts e) (made h (Abs.Ex js t) us d) N → N ≡ result p.0 r.0
     only N m =
@@ -171,8 +173,15 @@ seq-impure ctx ks s ts e js t us d f h j view a b = (result p.0 r.0, Seq.some_im
         let z = r.2 v.2 (subst (λ c. Packs (extend ctx ks) (vars ks) (past_opens ks c) (raise ks (enc_abs (Abs.Ex (ks ++ js) t))) v.2) y v.5) in
         v.6 ∙ (λ i. result (x i) (z i))
 
+pub seq-kinded : (ctx ks : List Kind) (f : Effect) (s : Sig) (ts : List Ty) (e : Term) (M : Module) → KindedModule ctx (made f (Abs.Ex ks s) ts e) → KindedModule (extend ctx ks) M → One (Seq ctx (made f (Abs.Ex ks s) ts e) M)
+seq-kinded ctx ks Pure s ts e (made Pure (Abs.Ex js t) us d) a b = seq-pure ctx ks s ts e js t us d a b
+seq-kinded ctx ks Pure s ts e (made Impure (Abs.Ex js t) us d) a b = seq-impure ctx ks s ts e js t us d Pure Impure refl (λ N m. seq-view Pure Impure m) a b
+seq-kinded ctx ks Impure s ts e (made Pure (Abs.Ex js t) us d) a b = seq-impure ctx ks s ts e js t us d Impure Pure refl (λ N m. seq-view Impure Pure m) a b
+seq-kinded ctx ks Impure s ts e (made Impure (Abs.Ex js t) us d) a b = seq-impure ctx ks s ts e js t us d Impure Impure refl (λ N m. seq-view Impure Impure m) a b
+
+-- the same of well formed modules
+pub projected-one : (ctx ks : List Kind) (f : Effect) (fs : SigRow) (ts : List Ty) (e : Term) (l : Name) (t : Sig) → OkAbs ctx (Abs.Ex ks (Sig.Str fs)) → HasField fs l t → One (Projected ctx (made f (Abs.Ex ks (Sig.Str fs)) ts e) l)
+projected-one ctx ks f fs ts e l t w h = projected-kinded ctx ks f fs ts e l t (shape_abs-distinct (Abs.Ex ks (Sig.Str fs)) (well_formed_abs-shape w.0), w.1) h
+
 pub seq-one : (ctx ks : List Kind) (f : Effect) (s : Sig) (ts : List Ty) (e : Term) (M : Module) → OkModule ctx (made f (Abs.Ex ks s) ts e) → OkModule (extend ctx ks) M → One (Seq ctx (made f (Abs.Ex ks s) ts e) M)
-seq-one ctx ks Pure s ts e (made Pure (Abs.Ex js t) us d) a b = seq-pure ctx ks s ts e js t us d a b
-seq-one ctx ks Pure s ts e (made Impure (Abs.Ex js t) us d) a b = seq-impure ctx ks s ts e js t us d Pure Impure refl (λ N m. seq-view Pure Impure m) a b
-seq-one ctx ks Impure s ts e (made Pure (Abs.Ex js t) us d) a b = seq-impure ctx ks s ts e js t us d Impure Pure refl (λ N m. seq-view Impure Pure m) a b
-seq-one ctx ks Impure s ts e (made Impure (Abs.Ex js t) us d) a b = seq-impure ctx ks s ts e js t us d Impure Impure refl (λ N m. seq-view Impure Impure m) a b
+seq-one ctx ks f s ts e M a b = seq-kinded ctx ks f s ts e M (kinded ctx (made f (Abs.Ex ks s) ts e) a) (kinded (extend ctx ks) M b)

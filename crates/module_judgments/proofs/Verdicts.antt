@@ -8,35 +8,35 @@ use Rattle.omega_kinds.specs.declared.effect.Effect.{Effect}
 use Rattle.omega_kinds.specs.declared.effect.Effect.TheVariants.{Pure, Impure}
 use Rattle.omega_kinds.specs.Name.{Name}
 use Rattle.omega_types.specs.Ty.{Ty}
-use Rattle.omega_types.specs.Kinding.{HasKind}
-use Rattle.omega_types.specs.Binders.{extend}
+use Rattle.omega_types.specs.Binders.{extend, OfKinds}
+use Rattle.omega_types.proofs.BinderPuts.{forms-kinds}
+use Rattle.omega_types.proofs.Preservation.{normal-kind}
 use Rattle.omega_terms.specs.Term.{Term}
 use Rattle.omega_terms.specs.Shorthands.{insts, ty_lam_over}
 use Rattle.omega_terms.specs.Coercions.{result_label}
 use Rattle.omega_terms.specs.PartTerms.{one_field, value_term, type_term, sig_term}
 use Rattle.sig_definitions.specs.Signatures.Sig.{Sig, Abs, SigRow, HasField, Module, made}
 use Rattle.sig_definitions.specs.Signatures.SigSubst.{abs_at}
-use Rattle.sig_definitions.specs.Signatures.Alike.{ConvAbs, NormalAbsForm}
+use Rattle.sig_definitions.specs.Signatures.Alike.{NormalSig, NormalSigRow, NormalAbsForm}
 use Rattle.sig_definitions.specs.Signatures.Encoding.{enc, enc_abs}
-use Rattle.sig_definitions.specs.Explicit.WellFormed.{WellFormed, WellFormedAbs}
 use Rattle.sig_definitions.specs.Matching.Subtyping.{Match}
 use Rattle.sig_definitions.specs.Env.{Env, find}
 use Rattle.sig_definitions.specs.Packing.{Packed}
 use Rattle.sig_definitions.specs.Verdict.{Verdict, holds, refuses, One, Perhaps, one, none}
-use Rattle.sig_laws.proofs.Formed.Conditions.{abs-body, str-fields, left-functor, match-kinds}
-use Rattle.sig_laws.proofs.Formed.WellFormedLaws.{explicit-kinds}
+use Rattle.sig_laws.proofs.Formed.Conditions.{left-functor, match-kinds}
+use Rattle.sig_laws.proofs.Formed.WellFormedShape.{kinded}
 use Rattle.sig_laws.proofs.Formed.Forms.{sig-functor, sig-type, sig-value, sig-meta, sig-structure, field-at}
-use Rattle.sig_premise_laws.proofs.Determined.{packed-one, result-one}
+use Rattle.sig_premise_laws.proofs.Determined.{packed-kinded, result-one, normal-conv_abs}
 use Rattle.module_judgments.specs.PathUse.{Outside, SigOutside, TypeOfPath, ValueOfPath, SigOfPath, value_of}
 use Rattle.module_judgments.specs.Projection.{Projected}
 use Rattle.module_judgments.specs.Sequence.{Seq, field_lets}
-use Rattle.sig_laws.specs.Good.{OkRow, OkModule, OkSig, OkRight}
+use Rattle.sig_laws.specs.Good.{DistinctRow, KindedAbs, KindedModule, OkModule, OkSig, OkRight}
 use Rattle.module_judgments.specs.ModWhy.{ModWhy, Unbound, NoPart, NotStructure, NotFunctor, WrongPath, Escapes}
 use Rattle.module_judgments.specs.ModRules.{NamedGives, NamedRefuses, ProjectRefuses, TypePathRefuses, ValuePathRefuses, SigPathRefuses, GenerativeGives, PartsGive, FunctorRefuses, ApplyGives, IncludeGives, IncludeRefuses, SealGives, ValueGives, TypeGives, SignatureGives}
-use Rattle.module_judgments.specs.OneOutcome.{OneNamed, OneProjected, OneTypePath, OneValuePath, OneSigPath, OneGenerative, OneParts, OneApply, OneInclude, OneSeal, OneValueModule, OneTypeModule, OneSignatureModule}
+use Rattle.module_judgments.specs.OneOutcome.{OneNamed, OneProjected, OnePureProjected, OneTypePath, OneValuePath, OneSigPath, OneGenerative, OneParts, OneApply, OneInclude, OneSeal, OneValueModule, OneTypeModule, OneSignatureModule}
 use Rattle.module_judgments.proofs.Escapes.{type-outside, sig-outside}
 use Rattle.sig_premise_laws.proofs.Environments.{some-same}
-use Rattle.module_judgments.proofs.Determined.{projected-one, lets-normal, seq-one}
+use Rattle.module_judgments.proofs.Determined.{projected-kinded, projected-pure, lets-normal, seq-kinded}
 
 -- names
 
@@ -109,14 +109,21 @@ project-reason : {ks : List Kind} {f : Effect} {s : Sig} {ts : List Ty} {e : Ter
 project-reason _ (ProjectRefuses.no_structure n) = inl (n, refl)
 project-reason _ (ProjectRefuses.no_part {fs = fs} n) = inr (fs, refl, n, refl)
 
-pub one_projected : OneProjected
-one_projected ctx (made f (Abs.Ex ks s) ts e) l ok =
+projected-outcome : (ctx ks : List Kind) (f : Effect) (s : Sig) (ts : List Ty) (e : Term) (l : Name) → ((fs : SigRow) (t : Sig) → s ≡ Sig.Str fs → HasField fs l t → One (Projected ctx (made f (Abs.Ex ks (Sig.Str fs)) ts e) l)) → Verdict (Projected ctx (made f (Abs.Ex ks s) ts e) l) (ProjectRefuses (made f (Abs.Ex ks s) ts e) l)
+projected-outcome ctx ks f s ts e l part =
     two-conditions (sig-structure s) (λ fs i. field-at fs l)
-    (λ fs t i h only. subst (λ s. One (Projected ctx (made f (Abs.Ex ks s) ts e) l)) (sym i) (projected-one ctx ks f fs ts e l t (subst (λ s. WellFormedAbs ctx (Abs.Ex ks s)) i ok.0.0) h))
+    (λ fs t i h only. subst (λ s. One (Projected ctx (made f (Abs.Ex ks s) ts e) l)) (sym i) (part fs t i h))
     projected-part
     ProjectRefuses.no_structure
     (λ fs i n. subst (λ s. ProjectRefuses (made f (Abs.Ex ks s) ts e) l (NoPart l)) (sym i) (ProjectRefuses.no_part n))
     project-reason
+
+pub one_projected : OneProjected
+one_projected ctx (made f (Abs.Ex ks s) ts e) l ok =
+    projected-outcome ctx ks f s ts e l (λ fs t i h. projected-kinded ctx ks f fs ts e l t (subst (λ s. KindedAbs ctx (Abs.Ex ks s)) i ok.0) h)
+
+pub one_pure_projected : OnePureProjected
+one_pure_projected ctx (Abs.Ex ks s) ts e l = projected-outcome ctx ks Pure s ts e l (λ fs t i h. projected-pure ctx ks fs ts e l t h)
 
 -- paths: a part of one form, said without the hidden types
 
@@ -143,19 +150,10 @@ type-reason : {ctx ks : List Kind} {f : Effect} {s : Sig} {ts : List Ty} {e : Te
 type-reason _ (TypePathRefuses.no_type n) = inl ((λ p e. n p.0 p.1 e), refl)
 type-reason _ (TypePathRefuses.escapes {t = t} {k = k} n) = inr ((t, k), refl, n, refl)
 
-kind-of-part : {ctx : List Kind} {t : Ty} {k : Kind} → WellFormed ctx (Sig.Typ t k) → HasKind ctx t k
-kind-of-part (WellFormed.typ h) = h
-
-kind-of-value : {ctx : List Kind} {t : Ty} → WellFormed ctx (Sig.Val t) → HasKind ctx t Kind.Star
-kind-of-value (WellFormed.val h) = h
-
-meta-kinds : {ctx : List Kind} {x : Abs} → WellFormed ctx (Sig.Meta x) → ConvAbs ctx x x
-meta-kinds (WellFormed.meta h) = explicit-kinds h
-
 pub one_type_path : OneTypePath
 one_type_path ctx (made f (Abs.Ex ks s) ts e) ok =
     path-verdict (λ p n. (n, p.1)) (sig-type s)
-    (λ p i. type-outside ctx ks p.0 p.1 (kind-of-part (subst (λ s. WellFormed (extend ctx ks) s) i (abs-body ok.0.0))))
+    (λ p i. type-outside ctx ks p.0 p.1 (normal-kind (subst (NormalSig (extend ctx ks)) i ok.0.1)))
     (λ p n i o. subst (λ s. TypeOfPath ctx (made f (Abs.Ex ks s) ts e) n p.1) (sym i) (TypeOfPath.type_of o))
     type-view
     (λ n. TypePathRefuses.no_type (λ t k. n (t, k)))
@@ -174,7 +172,7 @@ value-reason _ (ValuePathRefuses.escapes {t = t} n) = inr (t, refl, n, refl)
 pub one_value_path : OneValuePath
 one_value_path ctx (made f (Abs.Ex ks s) ts e) ok =
     path-verdict (λ t n. (n, value_of f ks e (enc_abs (Abs.Ex ks (Sig.Val t))))) (sig-value s)
-    (λ t i. type-outside ctx ks t Kind.Star (kind-of-value (subst (λ s. WellFormed (extend ctx ks) s) i (abs-body ok.0.0))))
+    (λ t i. type-outside ctx ks t Kind.Star (normal-kind (subst (NormalSig (extend ctx ks)) i ok.0.1)))
     (λ t n i o. subst (λ s. ValueOfPath ctx (made f (Abs.Ex ks s) ts e) n (value_of f ks e (enc_abs (Abs.Ex ks (Sig.Val t))))) (sym i) (ValueOfPath.value_at o))
     value-view
     ValuePathRefuses.no_value
@@ -193,7 +191,7 @@ sig-reason _ (SigPathRefuses.escapes {x = x} n) = inr (x, refl, n, refl)
 pub one_sig_path : OneSigPath
 one_sig_path ctx (made f (Abs.Ex ks s) ts e) ok =
     path-verdict (λ x n. n) (sig-meta s)
-    (λ x i. sig-outside ctx ks x (meta-kinds (subst (λ s. WellFormed (extend ctx ks) s) i (abs-body ok.0.0))))
+    (λ x i. sig-outside ctx ks x (normal-conv_abs (extend ctx ks) x (subst (NormalSig (extend ctx ks)) i ok.0.1)))
     (λ x n i o. subst (λ s. SigOfPath ctx (made f (Abs.Ex ks s) ts e) n) (sym i) (SigOfPath.sig_of o))
     sig-view
     SigPathRefuses.no_signature
@@ -207,7 +205,7 @@ generative-view (GenerativeGives.generative {d = d} p) = (d, p, refl)
 
 pub one_generative : OneGenerative
 one_generative ctx ks s (made f y ts e) ok =
-    let p = packed-one (extend ctx ks) (made f y ts e) ok in
+    let p = packed-kinded (extend ctx ks) (made f y ts e) ok in
     (made Pure (Abs.Ex [] (Sig.Fun Impure ks s y)) [] (ty_lam_over ks (Term.Lam (enc s) (one_field Label.Gen p.0))), GenerativeGives.generative p.1, λ n g. let v = generative-view g in v.2 ∙ ap (λ d. made Pure (Abs.Ex [] (Sig.Fun Impure ks s y)) [] (ty_lam_over ks (Term.Lam (enc s) (one_field Label.Gen d)))) (p.2 v.0 v.1))
 
 -- applications
@@ -240,17 +238,23 @@ apply-parts (ApplyGives.apply {f = f} {ks = ks} {s = t} {y = y} n) = ((f, Abs.Ex
 apply-functor : {ctx ks : List Kind} {f : Effect} {t : Sig} {y : Abs} {ts : List Ty} {c d e : Term} {m : Module} → ApplyGives ctx (Sig.Fun f ks t y) d ts c e m → (w : Abs) × NormalAbsForm ctx (abs_at ts y) w × (m ≡ applied f w ts d c e)
 apply-functor (ApplyGives.apply {w = w} n) = (w, n, refl)
 
-pub applies-one : {ctx : List Kind} {s t : Sig} {f : Effect} {param result : Abs} {ts : List Ty} {c d e : Term} → PartsGive s f param result → Match ctx t param ts c → OkSig ctx s → One (ApplyGives ctx s d ts c e)
-applies-one {ts = ts} {c = c} {d = d} {e = e} (PartsGive.parts {f = f}) m w =
-    let r = result-one (match-kinds m) (left-functor w.0).1 in
-    (applied f r.0 ts d c e, ApplyGives.apply r.1, λ n g. let v = apply-functor g in v.2 ∙ ap (λ w. applied f w ts d c e) (r.2 v.0 v.1))
+apply-one : {ctx ks : List Kind} {f : Effect} {t : Sig} {y : Abs} {ts : List Ty} {c d e : Term} → OfKinds ctx ts ks → NormalSig ctx (Sig.Fun f ks t y) → One (ApplyGives ctx (Sig.Fun f ks t y) d ts c e)
+apply-one {f = f} {y = y} {ts = ts} {c = c} {d = d} {e = e} h n =
+    let r = result-one y h n.1 in
+    (applied f r.0 ts d c e, ApplyGives.apply r.1, λ m g. let v = apply-functor g in v.2 ∙ ap (λ w. applied f w ts d c e) (r.2 v.0 v.1))
 
 pub one_apply : OneApply
-one_apply ctx s d t e ts c ok m = go (one_parts s)
+one_apply ctx s d ts c e n fits = go (sig-functor s)
   where
-    go : Verdict (λ (o : Effect × Abs × Abs). PartsGive s o.0 o.1 o.2) (FunctorRefuses s) → Verdict (ApplyGives ctx s d ts c e) (FunctorRefuses s)
-    go (holds o p only never) = let r = applies-one {d = d} {e = e} p (m o.0 o.1 o.2 p) ok in holds r.0 r.1 r.2 never
-    go (refuses why r only never) = refuses why r only (λ k g. let v = apply-parts g in never v.0 v.1)
+    go : Perhaps (λ (p : Effect × List Kind × Sig × Abs). s ≡ Sig.Fun p.0 p.1 p.2 p.3) → Verdict (ApplyGives ctx s d ts c e) (FunctorRefuses s)
+    go (one p i only) =
+        let r = subst (λ s. One (ApplyGives ctx s d ts c e)) (sym i) (apply-one (forms-kinds (fits p.0 p.1 p.2 p.3 i)) (subst (NormalSig ctx) i n)) in
+        holds r.0 r.1 r.2 (λ why q. (functor-refused q).0 p.0 p.1 p.2 p.3 i)
+    go (none never) = refuses NotFunctor (FunctorRefuses.no_functor (λ f ks t x. never (f, ks, t, x))) (λ why q. (functor-refused q).1) (λ m g. let v = apply-parts g in let u = parts-view {o = v.0} v.1 in never (v.0.0, u.0, u.1, v.0.2) u.2)
+
+-- at the types of a match
+pub applies-one : {ctx : List Kind} {s t : Sig} {f : Effect} {param result : Abs} {ts : List Ty} {c d e : Term} → PartsGive s f param result → Match ctx t param ts c → OkSig ctx s → One (ApplyGives ctx s d ts c e)
+applies-one PartsGive.parts m w = apply-one (match-kinds m) w.1
 
 -- included modules
 
@@ -269,13 +273,17 @@ include-gives (made h y us d) q = IncludeGives.include q
 include-refused : {ks : List Kind} {f : Effect} {s : Sig} {ts : List Ty} {e : Term} {why : ModWhy} → IncludeRefuses (made f (Abs.Ex ks s) ts e) why → ((fs : SigRow) → s ≢ Sig.Str fs) × (why ≡ NotStructure)
 include-refused (IncludeRefuses.no_structure n) = (n, refl)
 
-lets-ok : (ctx : List Kind) (fs : SigRow) (rest : Module) → OkRow ctx fs → OkModule ctx rest → OkModule ctx (with_lets fs rest)
-lets-ok ctx fs (made f (Abs.Ex js t) us d) w h = (h.0, h.1, lets-normal ctx 0 fs d w h.2)
+lets-kinded : (ctx : List Kind) (fs : SigRow) (rest : Module) → DistinctRow fs → NormalSigRow ctx fs → KindedModule ctx rest → KindedModule ctx (with_lets fs rest)
+lets-kinded ctx fs (made f (Abs.Ex js t) us e) d w h = (h.0, h.1, lets-normal ctx 0 fs e d w h.2)
 
-pub include-one : (ctx ks : List Kind) (f : Effect) (fs : SigRow) (ts : List Ty) (e : Term) (rest : Module) → OkModule ctx (made f (Abs.Ex ks (Sig.Str fs)) ts e) → OkModule (extend ctx ks) rest → One (IncludeGives ctx (made f (Abs.Ex ks (Sig.Str fs)) ts e) rest)
-include-one ctx ks f fs ts e rest v inner =
-    let q = seq-one ctx ks f (Sig.Str fs) ts e (with_lets fs rest) v (lets-ok (extend ctx ks) fs rest (str-fields (abs-body v.0.0), v.0.1) inner) in
+include-kinded : (ctx ks : List Kind) (f : Effect) (fs : SigRow) (ts : List Ty) (e : Term) (rest : Module) → KindedModule ctx (made f (Abs.Ex ks (Sig.Str fs)) ts e) → KindedModule (extend ctx ks) rest → One (IncludeGives ctx (made f (Abs.Ex ks (Sig.Str fs)) ts e) rest)
+include-kinded ctx ks f fs ts e rest v inner =
+    let q = seq-kinded ctx ks f (Sig.Str fs) ts e (with_lets fs rest) v (lets-kinded (extend ctx ks) fs rest v.0.0 v.0.1 inner) in
     (q.0, include-gives rest q.1, λ m g. let u = include-view g in q.2 m (subst (λ gs. Seq ctx (made f (Abs.Ex ks (Sig.Str gs)) ts e) (with_lets gs rest) m) (sym (str-same u.1)) u.2))
+
+-- the same of well formed modules
+pub include-one : (ctx ks : List Kind) (f : Effect) (fs : SigRow) (ts : List Ty) (e : Term) (rest : Module) → OkModule ctx (made f (Abs.Ex ks (Sig.Str fs)) ts e) → OkModule (extend ctx ks) rest → One (IncludeGives ctx (made f (Abs.Ex ks (Sig.Str fs)) ts e) rest)
+include-one ctx ks f fs ts e rest v inner = include-kinded ctx ks f fs ts e rest (kinded ctx (made f (Abs.Ex ks (Sig.Str fs)) ts e) v) (kinded (extend ctx ks) rest inner)
 
 -- what is included is a structure, or refused
 pub included-structure : (ks : List Kind) (f : Effect) (s : Sig) (ts : List Ty) (e : Term) → Verdict (λ fs. s ≡ Sig.Str fs) (IncludeRefuses (made f (Abs.Ex ks s) ts e))
@@ -290,7 +298,7 @@ one_include ctx ks f s ts e rest ok inner = go (included-structure ks f s ts e)
   where
     go : Verdict (λ fs. s ≡ Sig.Str fs) (IncludeRefuses (made f (Abs.Ex ks s) ts e)) → Verdict (IncludeGives ctx (made f (Abs.Ex ks s) ts e) rest) (IncludeRefuses (made f (Abs.Ex ks s) ts e))
     go (holds fs i only never) =
-        let q = subst (λ s. One (IncludeGives ctx (made f (Abs.Ex ks s) ts e) rest)) (sym i) (include-one ctx ks f fs ts e rest (subst (λ s. OkModule ctx (made f (Abs.Ex ks s) ts e)) i ok) inner) in
+        let q = subst (λ s. One (IncludeGives ctx (made f (Abs.Ex ks s) ts e) rest)) (sym i) (include-kinded ctx ks f fs ts e rest (subst (λ s. KindedModule ctx (made f (Abs.Ex ks s) ts e)) i ok) inner) in
         holds q.0 q.1 q.2 never
     go (refuses why r only never) = refuses why r only (λ m g. let u = include-view g in never u.0 u.1)
 

@@ -55,6 +55,10 @@ mutual
   term-past f p q w r s (Term.If a b c) h k = ap₃ Term.If (term-past f p q w r s a h k) (term-past f p q w r s b h k) (term-past f p q w r s c h k)
   term-past f p q w r s (Term.Arith o a b) h k = ap₂ (Term.Arith o) (term-past f p q w r s a h k) (term-past f p q w r s b h k)
   term-past f p q w r s (Term.Fix t u e) h k = ap₃ Term.Fix (ty-past f p q t h) (ty-past f p q u h) (term-past f p q (up_term (up_term w)) (lift (lift r)) (lift (lift s)) e h (terms-up (up_term w) (lift r) (lift s) (terms-up w r s k)))
+  term-past f p q w r s (Term.Inj l e t) h k = ap₂ (Term.Inj l) (term-past f p q w r s e h k) (ty-past f p q t h)
+  term-past f p q w r s (Term.Case e t row) h k = ap₃ Term.Case (term-past f p q w r s e h k) (ty-past f p q t h) (row-past f p q (up_term w) (lift r) (lift s) row h (terms-up w r s k))
+  term-past f p q w r s (Term.Roll e t) h k = ap₂ Term.Roll (term-past f p q w r s e h k) (ty-past f p q t h)
+  term-past f p q w r s (Term.Unroll e) h k = ap Term.Unroll (term-past f p q w r s e h k)
 
   row-past : (f : ℕ → Ty) (p q : ℕ → ℕ) (w : ℕ → Term) (r s : ℕ → ℕ) (row : TermRow) → VarsTy f p q → VarsTerm w r s → sub_fields f w (ren_fields p r row) ≡ ren_fields q s row
   row-past f p q w r s TermRow.End h k = refl

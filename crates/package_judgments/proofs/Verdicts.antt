@@ -1,24 +1,30 @@
--- Each rule of packages has exactly one conclusion or exactly one refusal.
+-- Each rule of packages has exactly one conclusion or exactly one refusal, and signatures that match share a package type.
 use Rattle.std.specs.Prelude.{List, [], ◌≡◌, ◌≢◌}
 use Rattle.std.proofs.Math.Path.{refl, sym, subst, ap, ◌∙◌}
 use Rattle.omega_kinds.specs.Kind.{Kind}
 use Rattle.omega_kinds.specs.declared.effect.Effect.TheVariants.{Impure}
 use Rattle.omega_types.specs.Ty.{Ty}
+use Rattle.omega_types.proofs.BinderPuts.{forms-kinds, forms-normal}
 use Rattle.omega_terms.specs.Term.{Term}
 use Rattle.omega_terms.specs.Shorthands.{Packs}
-use Rattle.sig_definitions.specs.Signatures.Sig.{Abs, Module, made}
-use Rattle.sig_definitions.specs.Signatures.Encoding.{enc_abs}
+use Rattle.sig_definitions.specs.Signatures.Sig.{Sig, Abs, Module, made}
+use Rattle.sig_definitions.specs.Signatures.Encoding.{enc, enc_abs}
 use Rattle.sig_definitions.specs.QuantifierOrder.{Norm}
-use Rattle.sig_definitions.specs.Verdict.{Verdict, holds, refuses}
+use Rattle.sig_definitions.specs.Matching.Subtyping.{Match}
+use Rattle.sig_definitions.specs.Verdict.{Verdict, holds, refuses, One}
+use Rattle.sig_laws.specs.Good.{OkRight}
 use Rattle.sig_laws.specs.Decide.{dec_ty}
-use Rattle.sig_laws.proofs.Formed.Conditions.{explicit-abs, match-kinds}
+use Rattle.sig_laws.proofs.Encoded.EncodingLaws.{enc_well_formed-normal}
+use Rattle.sig_laws.proofs.Formed.Conditions.{explicit-abs}
 use Rattle.sig_laws.proofs.Formed.Forms.{pair-same}
 use Rattle.sig_premise_laws.proofs.Determined.{norm-one}
-use Rattle.sig_premise_laws.proofs.Terms.{packs_all-one}
+use Rattle.sig_premise_laws.proofs.Terms.{packs-one}
 use Rattle.package_judgments.specs.Package.{PackTypeGives, PackGives, UnpackGives, UnpackWhy, Differ, UnpackRefuses}
+use Rattle.sig_package_laws.proofs.PackageClaims.{one_normal_package_type}
+use Rattle.package_judgments.specs.SharedType.{OneSharedType}
 use Rattle.package_judgments.specs.OneOutcome.{OnePackType, OnePack, OneUnpack}
 
-pack_type-view : {ctx : List Kind} {x : Abs} {t : Ty} → PackTypeGives ctx x t → (y : Abs) × Norm ctx x y × (t ≡ enc_abs y)
+pub pack_type-view : {ctx : List Kind} {x : Abs} {t : Ty} → PackTypeGives ctx x t → (y : Abs) × Norm ctx x y × (t ≡ enc_abs y)
 pack_type-view (PackTypeGives.pack_type {y = y} n) = (y, n, refl)
 
 pub one_pack_type : OnePackType
@@ -26,13 +32,23 @@ one_pack_type ctx x h =
     let n = norm-one ctx x h in
     (enc_abs n.0, PackTypeGives.pack_type n.1, λ t g. let v = pack_type-view g in v.2 ∙ ap enc_abs (n.2 v.0 v.1))
 
+pub one_shared_type : OneSharedType
+one_shared_type ctx x t ok p y u f g right a b same q =
+    let v = pack_type-view p in
+    let w = pack_type-view q in
+    v.2 ∙ (one_normal_package_type ctx x y v.0 w.0 f g ok right a b same v.1 w.1 ∙ sym w.2)
+
 pack-view : {ctx : List Kind} {e c : Term} {z : Abs} {ts : List Ty} (o : Ty × Term) → PackGives ctx e z ts c o.0 o.1 → (o.0 ≡ enc_abs z) × Packs ctx ts (Term.Call c e) (enc_abs z) o.1
 pack-view _ (PackGives.pack p) = (refl, p)
 
 pub one_pack : OnePack
-one_pack ctx s e (Abs.Ex ks t) ts c h m =
-    let p = packs_all-one (Term.Call c e) t (match-kinds m) (explicit-abs h.0) in
-    ((enc_abs (Abs.Ex ks t), p.0), PackGives.pack p.1, λ o g. let v = pack-view o g in pair-same o v.0 (p.2 o.1 v.1))
+one_pack ctx ks s e ts c h n =
+    let p = packs-one (Term.Call c e) (enc s) (forms-kinds n) (enc_well_formed-normal h.0 h.1) in
+    ((enc_abs (Abs.Ex ks s), p.0), PackGives.pack p.1, λ o g. let v = pack-view o g in pair-same o v.0 (p.2 o.1 v.1))
+
+-- at the types of a match
+pub one_pack_matched : (ctx : List Kind) (s : Sig) (e : Term) (z : Abs) (ts : List Ty) (c : Term) → OkRight ctx z → Match ctx s z ts c → One (λ (o : Ty × Term). PackGives ctx e z ts c o.0 o.1)
+one_pack_matched ctx s e (Abs.Ex ks t) ts c h (Match.at g n r f) = one_pack ctx ks t e ts c (explicit-abs h.0, h.1) (forms-normal n)
 
 unpack-only : {t : Ty} {e : Term} {y : Abs} (m : Module) → UnpackGives t e y m → (t ≡ enc_abs y) × (m ≡ made Impure y [] e)
 unpack-only _ UnpackGives.unpack = (refl, refl)

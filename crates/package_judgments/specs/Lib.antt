@@ -1,2 +1,3 @@
 pub mod OneOutcome
 pub mod Package
+pub mod SharedType

@@ -15,6 +15,8 @@ use Rattle.sig_laws.specs.Good.{OkAbs, OkRight}
 use Rattle.sig_laws.proofs.Encoded.EncodingLaws.{enc_well_formed-normal}
 use Rattle.sig_laws.proofs.Formed.Conditions.{explicit-abs}
 use Rattle.package_judgments.specs.Package.{PackTypeGives, PackGives, UnpackGives, UnpackWhy, UnpackRefuses}
+use Rattle.package_judgments.specs.SharedType.{IsSharedType}
+use Rattle.package_judgments.proofs.Verdicts.{one_shared_type}
 use Rattle.semantic_sigs.specs.View.{kinds_of}
 use Rattle.omega_shorthands.specs.Packed.{Fills}
 
@@ -26,7 +28,10 @@ type-normal x y t h e ctx ok = let q = h ctx ok in subst (λ u. Normal ctx u Kin
 pub type-given : (x y : Abs) (t : Ty) → ((ctx : List Kind) → OkRight ctx x → Norm ctx x y) → t ≡ enc_abs y → (ctx : List Kind) → OkRight ctx x → PackTypeGives ctx x t
 type-given x y t h e ctx ok = subst (PackTypeGives ctx x) (sym e) (PackTypeGives.pack_type (h ctx ok))
 
-pub ruleset type_steps = (type-normal, type-given)
+pub type-shared : (x y : Abs) (t : Ty) → ((ctx : List Kind) → OkRight ctx x → Norm ctx x y) → t ≡ enc_abs y → (ctx : List Kind) → OkRight ctx x → IsSharedType ctx x t
+type-shared x y t h e ctx ok = one_shared_type ctx x t ok (type-given x y t h e ctx ok)
+
+pub ruleset type_steps = (type-normal, type-given, type-shared)
 
 -- packed modules
 

@@ -6,6 +6,7 @@ ghost use Rattle.omega_types.specs.Binders.{NormalForms};
 ghost use Rattle.omega_types.specs.Normality.{Normal};
 ghost use Rattle.sig_laws.specs.Good.{OkAbs, OkRight};
 ghost use Rattle.package_judgments.specs.Package.{PackTypeGives, PackGives, UnpackGives, UnpackRefuses};
+ghost use Rattle.package_judgments.specs.SharedType.{IsSharedType};
 ghost use Rattle.semantic_sigs.specs.Made.{module_of};
 ghost use Rattle.semantic_sigs.specs.View.{kinds_of};
 ghost use Rattle.packages.specs.Plain.{plain_why};
@@ -20,7 +21,9 @@ use std::alloc::Global;
 use type_normal::{NormalTy, as_normal, same};
 
 /// `pack S` as a type: the encoding of S with its quantifiers in their order, which has kind `*`. S is ordered explicit.
-/// `Err` is out of memory, also where an index would pass the last number.
+/// It is the package type of each signature that matches S and that S matches, if the hidden types of both, and of all
+/// signatures inside, are rooted at the same paths, and the parameters of pure functors hide them in one order. `Err` is out
+/// of memory, also where an index would pass the last number.
 ///
 /// Rossberg, Russo and Dreyer, "F-ing modules", section 6, Modules as first-class values; the order of quantifiers is this
 /// project's own.
@@ -29,6 +32,7 @@ pub fn pack_type(alloc: Global, abs: &Abs) -> Result<Kinded, Mem>
     ensures kind { IfOk result (λ k. kind_tree k.kind ≡ KindTree.Star) }
     ensures normal { IfOk result (λ k. (ctx : List KindTree) → OkRight ctx abs.now → Normal ctx k.ty KindTree.Star) }
     ensures given { IfOk result (λ k. (ctx : List KindTree) → OkRight ctx abs.now → PackTypeGives ctx abs.now k.ty) }
+    ensures shared { IfOk result (λ k. (ctx : List KindTree) → OkRight ctx abs.now → IsSharedType ctx abs.now k.ty) }
 {
     let ordered = norm(alloc, abs)?;
     Ok(Kinded {

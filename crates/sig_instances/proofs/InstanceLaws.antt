@@ -34,6 +34,10 @@ mutual
   given g (Instance.if_ a b c) = Instance.if_ (given g a) (given g b) (given g c)
   given g (Instance.arith a b) = Instance.arith (given g a) (given g b)
   given g (Instance.fix t u e) = Instance.fix (type-given g t) (type-given g u) (given g e)
+  given g (Instance.inj e t) = Instance.inj (given g e) (type-given g t)
+  given g (Instance.case e t row) = Instance.case (given g e) (type-given g t) (row-given g row)
+  given g (Instance.roll e t) = Instance.roll (given g e) (type-given g t)
+  given g (Instance.unroll e) = Instance.unroll (given g e)
 
   row-given : {from mid other : List Kind} {s v : ℕ → Ty} {h : ℕ → Head} {f g : TermRow} → Good from other s h → Instances from mid v f g → Instances from other s f (fields_in h f)
   row-given g Instances.end = Instances.end

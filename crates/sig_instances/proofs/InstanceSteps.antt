@@ -26,6 +26,10 @@ mutual
   unchanged n h (Term.If a b c) k le = ap₃ Term.If (unchanged n h a k (omega arith)) (unchanged n h b k (omega arith)) (unchanged n h c k (omega arith))
   unchanged n h (Term.Arith o a b) k le = ap₂ (Term.Arith o) (unchanged n h a k (omega arith)) (unchanged n h b k (omega arith))
   unchanged n h (Term.Fix t u e) k le = ap₃ Term.Fix (ap tree (head-unchanged n h t k (omega arith))) (ap tree (head-unchanged n h u k (omega arith))) (unchanged n h e k (omega arith))
+  unchanged n h (Term.Inj l e t) k le = ap₂ (Term.Inj l) (unchanged n h e k (omega arith)) (ap tree (head-unchanged n h t k (omega arith)))
+  unchanged n h (Term.Case e t row) k le = ap₃ Term.Case (unchanged n h e k (omega arith)) (ap tree (head-unchanged n h t k (omega arith))) (row-unchanged n h row k (omega arith))
+  unchanged n h (Term.Roll e t) k le = ap₂ Term.Roll (unchanged n h e k (omega arith)) (ap tree (head-unchanged n h t k (omega arith)))
+  unchanged n h (Term.Unroll e) k le = ap Term.Unroll (unchanged n h e k le)
 
   row-unchanged : (n : ℕ) (h : ℕ → Head) (row : TermRow) → Keeps n h → row_type_bound row ≤ n → fields_in h row ≡ row
   row-unchanged n h TermRow.End k le = refl
@@ -64,6 +68,10 @@ mutual
   walk-fills h i j (Term.If a b c) = ap₃ Term.If (walk-fills h i j a) (walk-fills h i j b) (walk-fills h i j c)
   walk-fills h i j (Term.Arith o a b) = ap₂ (Term.Arith o) (walk-fills h i j a) (walk-fills h i j b)
   walk-fills h i j (Term.Fix t u e) = ap (Term.Fix (filling h i t) (filling h i u)) (walk-fills h i (j + 1 + 1) e)
+  walk-fills h i j (Term.Inj l e t) = ap (λ d. Term.Inj l d (filling h i t)) (walk-fills h i j e)
+  walk-fills h i j (Term.Case e t row) = ap₂ (λ d f. Term.Case d (filling h i t) f) (walk-fills h i j e) (row-fills h i (j + 1) row)
+  walk-fills h i j (Term.Roll e t) = ap (λ d. Term.Roll d (filling h i t)) (walk-fills h i j e)
+  walk-fills h i j (Term.Unroll e) = ap Term.Unroll (walk-fills h i j e)
 
   row-fills : (h : ℕ → Head) (i j : ℕ) (row : TermRow) → walked_row (filling h) staying i j row ≡ fields_in (sunk i h) row
   row-fills h i j TermRow.End = refl

@@ -20,6 +20,10 @@ abbrev mutual
   term_in h (Term.If a b c) = Term.If (term_in h a) (term_in h b) (term_in h c)
   term_in h (Term.Arith o a b) = Term.Arith o (term_in h a) (term_in h b)
   term_in h (Term.Fix t u e) = Term.Fix (ty_in h t) (ty_in h u) (term_in h e)
+  term_in h (Term.Inj l e t) = Term.Inj l (term_in h e) (ty_in h t)
+  term_in h (Term.Case e t row) = Term.Case (term_in h e) (ty_in h t) (fields_in h row)
+  term_in h (Term.Roll e t) = Term.Roll (term_in h e) (ty_in h t)
+  term_in h (Term.Unroll e) = Term.Unroll (term_in h e)
 
   pub fields_in : (ℕ → Head) → TermRow → TermRow
   fields_in h TermRow.End = TermRow.End

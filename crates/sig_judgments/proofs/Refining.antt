@@ -7,13 +7,11 @@ use Rattle.omega_types.specs.Kinding.{HasKind, here, there}
 use Rattle.omega_types.specs.Kinding.HasKind.{k_var}
 use Rattle.omega_types.specs.Binders.{extend, past, unders, raise, front}
 use Rattle.omega_types.proofs.Preservation.{Substitutes, kind-rename}
-use Rattle.sig_premise_laws.proofs.Determined.{form_sig-one}
+use Rattle.sig_premise_laws.proofs.Determined.{put_sig-one}
 use Rattle.sig_definitions.specs.Signatures.Sig.{Sig}
 use Rattle.sig_definitions.specs.Signatures.SigSubst.{substitute_sig}
-use Rattle.sig_definitions.specs.Signatures.Alike.{NormalSigForm}
-use Rattle.sig_definitions.specs.Explicit.WellFormed.{WellFormed}
+use Rattle.sig_definitions.specs.Signatures.Alike.{NormalSig, NormalSigForm}
 use Rattle.sig_laws.proofs.Algebra.BinderLaws.{extend-append}
-use Rattle.sig_laws.proofs.Formed.WellFormedLaws.{well_formed-kinds, well_formed-substitute}
 use Rattle.sig_definitions.specs.Verdict.{One}
 use Rattle.omega_types.proofs.BinderLaws.{past-maps}
 use Rattle.omega_types.proofs.BinderPuts.{unders-substitutes}
@@ -30,5 +28,5 @@ refining ctx before after k u h =
     (subst (λ c. Substitutes (extend (k ∷ extend ctx before) after) c s) (sym (extend-append before after ctx))
     (unders-substitutes after (front-substitutes ctx before k u h)))
 
-pub refined-one : (ctx before after ks : List Kind) (k : Kind) (u : Ty) (s : Sig) → ks ≡ before ++ (k ∷ after) → HasKind ctx u k → WellFormed (extend ctx ks) s → One (λ n. NormalSigForm (extend ctx (before ++ after)) (substitute_sig (unders after (front (raise before u) Ty.Var)) s) n)
-refined-one ctx before after ks k u s e h w = form_sig-one (well_formed-kinds (well_formed-substitute (unders after (front (raise before u) Ty.Var)) (refining ctx before after k u h) (subst (λ ls. WellFormed (extend ctx ls) s) e w)))
+pub refined-one : (ctx before after ks : List Kind) (k : Kind) (u : Ty) (s : Sig) → ks ≡ before ++ (k ∷ after) → HasKind ctx u k → NormalSig (extend ctx ks) s → One (λ n. NormalSigForm (extend ctx (before ++ after)) (substitute_sig (unders after (front (raise before u) Ty.Var)) s) n)
+refined-one ctx before after ks k u s e h n = put_sig-one s (refining ctx before after k u h) (subst (λ ls. NormalSig (extend ctx ls) s) e n)

@@ -7,13 +7,12 @@ use Rattle.omega_kinds.specs.Name.{Name}
 use Rattle.omega_types.specs.Ty.{Ty}
 use Rattle.omega_types.specs.Kinding.{HasKind}
 use Rattle.omega_types.specs.Binders.{extend, unders, raise, front}
+use Rattle.omega_types.proofs.Preservation.{normal-kind}
 use Rattle.sig_definitions.specs.Signatures.Sig.{Sig, Abs}
 use Rattle.sig_definitions.specs.Signatures.SigSubst.{substitute_sig}
-use Rattle.sig_definitions.specs.Signatures.Alike.{NormalSigForm}
+use Rattle.sig_definitions.specs.Signatures.Alike.{NormalSig, NormalSigForm}
 use Rattle.sig_definitions.specs.Explicit.SigPath.{Item}
-use Rattle.sig_definitions.specs.Explicit.WellFormed.{WellFormed}
 use Rattle.sig_definitions.specs.Verdict.{Verdict, holds, refuses, One, Perhaps, one, none}
-use Rattle.sig_laws.proofs.Formed.Conditions.{explicit-right}
 use Rattle.sig_judgments.specs.Refinement.{Leads, LeavesAt, Refined, own_part}
 use Rattle.sig_judgments.specs.SigWhy.{SigWhy, NotAbstract, NoPart, KindDiffer}
 use Rattle.sig_judgments.specs.SigRules.{WhereRefuses}
@@ -41,7 +40,7 @@ reason (WhereRefuses.leaves {l = l} h) = inl (l, h, refl)
 reason (WhereRefuses.not_own {q = q} h n) = inr (inl (q, h, (λ o e. n o.0 o.1 o.2 e.0 e.1), refl))
 reason (WhereRefuses.kind before after {j = j} e h n) = inr (inr ((before, j, after), e, h, n, refl))
 
-module _ (ctx ks : List Kind) (s : Sig) (names : List Name) (u : Ty) (k : Kind) (w : WellFormed (extend ctx ks) s) (h : HasKind ctx u k) where
+module _ (ctx ks : List Kind) (s : Sig) (names : List Name) (u : Ty) (k : Kind) (w : NormalSig (extend ctx ks) s) (h : HasKind ctx u k) where
   abbrev Outcome : Type 0
   Outcome = Verdict (Refined ctx (Abs.Ex ks s) names u k) (WhereRefuses (Abs.Ex ks s) names u k)
 
@@ -104,6 +103,6 @@ module _ (ctx ks : List Kind) (s : Sig) (names : List Name) (u : Ty) (k : Kind) 
   decided (refuses l g only never) = at_leaving l g only never
 
 pub one_where : OneWhere
-one_where ctx (Abs.Ex ks s) names u k ok h =
-    decided ctx ks s names u k (explicit-right ok.0).0 h
+one_where ctx (Abs.Ex ks s) names u k n h =
+    decided ctx ks s names u k n (normal-kind h)
     (subst (λ ms. Verdict (λ q. Leads s ms q) (λ l. LeavesAt (λ m. m) s names l)) (same-names names) (leads (λ m. m) s names))

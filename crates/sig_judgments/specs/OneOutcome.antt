@@ -1,13 +1,13 @@
--- The statements that each rule has exactly one conclusion, or exactly one refusal.
+-- The statements that each rule has exactly one conclusion, or exactly one refusal. The calls of the rules ask for no less.
 use Rattle.std.specs.Prelude.{List}
 use Rattle.omega_kinds.specs.Kind.{Kind}
 use Rattle.omega_kinds.specs.Name.{Name}
 use Rattle.omega_types.specs.Ty.{Ty}
-use Rattle.omega_types.specs.Kinding.{HasKind}
+use Rattle.omega_types.specs.Normality.{Normal}
 use Rattle.sig_definitions.specs.Signatures.Sig.{Sig, Abs, SigRow}
+use Rattle.sig_definitions.specs.Signatures.Alike.{NormalAbs}
 use Rattle.sig_definitions.specs.Signatures.RecordOrder.{AreNew}
 use Rattle.sig_definitions.specs.Verdict.{Verdict, One}
-use Rattle.sig_laws.specs.Good.{OkRight}
 use Rattle.sig_judgments.specs.Refinement.{Refined}
 use Rattle.sig_judgments.specs.SigRules.{ValueGives, ValueRefuses, TypeGives, AbstractGives, ModuleGives, SignatureGives, IncludeGives, IncludeRefuses, DistinctRefuses, DeclarationsGive, GenerativeGives, WhereRefuses}
 
@@ -39,4 +39,4 @@ abbrev pub OneGenerative : Type 0
 OneGenerative = (x y : Abs) → One (GenerativeGives x y)
 
 abbrev pub OneWhere : Type 0
-OneWhere = (ctx : List Kind) (x : Abs) (names : List Name) (u : Ty) (k : Kind) → OkRight ctx x → HasKind ctx u k → Verdict (Refined ctx x names u k) (WhereRefuses x names u k)
+OneWhere = (ctx : List Kind) (x : Abs) (names : List Name) (u : Ty) (k : Kind) → NormalAbs ctx x → Normal ctx u k → Verdict (Refined ctx x names u k) (WhereRefuses x names u k)

@@ -1,14 +1,14 @@
 -- The laws as they are stated.
 use Rattle.std.proofs.Math.Path.{sym, subst}
 use Rattle.sig_definitions.specs.Signatures.Alike.{NormalSigForm}
-use Rattle.sig_laws.specs.SigLaws.{SubstituteId, SubstituteTwice, SubstituteAgree, SizeKept, PartKept, RootKept, WellFormedKept, ResultsKept, ExplicitKept, WellFormedConv, NormalSigGives, EncNormal, EncInjective, ConvExactly, OperatorFound}
+use Rattle.sig_laws.specs.SigLaws.{SubstituteId, SubstituteTwice, SubstituteAgree, SizeKept, PartKept, RootKept, WellFormedKept, ResultsKept, ExplicitKept, WellFormedConv, NormalSigGives, EncNormal, EncInjective, ConvExactly, ConvAbsExactly, OperatorFound}
 use Rattle.sig_laws.proofs.Algebra.SigAlgebra.{substitute_sig-id, substitute-substitute_sig}
 use Rattle.sig_laws.proofs.Algebra.SigMention.{substitute_sig-agree}
 use Rattle.sig_laws.proofs.Algebra.SizeLaws.{size-substitute}
 use Rattle.sig_laws.proofs.Algebra.PathLaws.{part-substitute}
 use Rattle.sig_laws.proofs.Algebra.AlikeLaws.{form_sig-same, conv_sig-gives}
 use Rattle.sig_laws.proofs.Formed.WellFormedLaws.{root-substitute, well_formed-substitute, explicit_results-substitute, explicit-substitute, well_formed-conv, well_formed-kinds}
-use Rattle.sig_laws.proofs.Encoded.EncodingLaws.{enc-normal, enc-injective, enc-conv, conv-enc, enc-substitute}
+use Rattle.sig_laws.proofs.Encoded.EncodingLaws.{enc-normal, enc-injective, enc-conv, conv-enc, enc_well_formed-conv, conv-enc_abs, enc-substitute}
 use Rattle.sig_laws.proofs.Algebra.EtaLaws.{operator_found}
 use Rattle.omega_types.specs.Ty.{Ty}
 use Rattle.omega_types.specs.Conversion.Conv.{c_refl, c_sym, c_arrow}
@@ -66,6 +66,9 @@ enc_injective s t e = enc-injective s t e
 
 pub conv_exactly : ConvExactly
 conv_exactly ctx s t w v = (λ c. enc-conv w c, λ c. conv-enc w v c)
+
+pub conv_abs_exactly : ConvAbsExactly
+conv_abs_exactly ctx x y w v = (λ c. enc_well_formed-conv w c, λ c. conv-enc_abs w v c)
 
 pub found_operator : OperatorFound
 found_operator ctx ks t u k n m c = operator_found ks n m c

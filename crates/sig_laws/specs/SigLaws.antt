@@ -14,9 +14,9 @@ use Rattle.sig_definitions.specs.Signatures.SigMentions.{MentionsSig}
 use Rattle.sig_definitions.specs.Explicit.SigPath.{SigPath, PartAt}
 use Rattle.sig_definitions.specs.Explicit.RootPath.{RootPath}
 use Rattle.sig_laws.specs.NormalSig.{normal_sig}
-use Rattle.sig_definitions.specs.Signatures.Alike.{ConvSig, NormalSigForm, NormalSig}
-use Rattle.sig_definitions.specs.Explicit.WellFormed.{WellFormed, ExplicitResults, Explicit}
-use Rattle.sig_definitions.specs.Signatures.Encoding.{enc}
+use Rattle.sig_definitions.specs.Signatures.Alike.{ConvSig, ConvAbs, NormalSigForm, NormalSig}
+use Rattle.sig_definitions.specs.Explicit.WellFormed.{WellFormed, WellFormedAbs, ExplicitResults, Explicit}
+use Rattle.sig_definitions.specs.Signatures.Encoding.{enc, enc_abs}
 
 -- each variable of a context is put to a type of its kind
 abbrev pub PutsKinds : List Kind → List Kind → (ℕ → Ty) → Type 0
@@ -64,6 +64,10 @@ EncInjective = (s t : Sig) → enc s ≡ enc t → s ≡ t
 
 abbrev pub ConvExactly : Type 0
 ConvExactly = (ctx : List Kind) (s t : Sig) → WellFormed ctx s → WellFormed ctx t → ConvSig ctx s t ↔ Conv ctx (enc s) (enc t) Kind.Star
+
+-- so for signatures that hide types
+abbrev pub ConvAbsExactly : Type 0
+ConvAbsExactly = (ctx : List Kind) (x y : Abs) → WellFormedAbs ctx x → WellFormedAbs ctx y → ConvAbs ctx x y ↔ Conv ctx (enc_abs x) (enc_abs y) Kind.Star
 
 -- the one operator whose application to the variables of binders is a type
 abbrev pub OperatorFound : Type 0

@@ -5,7 +5,7 @@
 // has the type that its rule says (`coercions`).
 #![tactic(auto)]
 
-ghost use Rattle.sig_laws.specs.SigLaws.{SubstituteId, SubstituteTwice, SubstituteAgree, SizeKept, PartKept, RootKept, WellFormedKept, ResultsKept, ExplicitKept, WellFormedConv, NormalSigGives, EncNormal, EncInjective, ConvExactly, OperatorFound};
+ghost use Rattle.sig_laws.specs.SigLaws.{SubstituteId, SubstituteTwice, SubstituteAgree, SizeKept, PartKept, RootKept, WellFormedKept, ResultsKept, ExplicitKept, WellFormedConv, NormalSigGives, EncNormal, EncInjective, ConvExactly, ConvAbsExactly, OperatorFound};
 ghost use Rattle.sig_laws.specs.LiftingLaws.{LiftingKinds, LiftingMaps};
 ghost use Rattle.sig_laws.specs.CoercionTypes.{SubIsTyped, SubAbsIsTyped, MatchIsTyped};
 ghost use Rattle.sig_laws.specs.EncodingLaws.{EncSubstitute, EncAbsSubstitute, EncRename, EncAbsRename, EncKind, EncAbsKind};
@@ -35,15 +35,16 @@ pub fn substitution()
 {}
 
 /// Conversion keeps signatures well formed; each well formed signature has exactly one normal form, whose encoding is
-/// normal; signatures of one encoding are the same; two well formed signatures are convertible exactly where their
-/// encodings are; and at most one normal operator, applied to the variables of binders, is convertible to a given
-/// normal type.
+/// normal; signatures of one encoding are the same; two well formed signatures, and two that hide types, are convertible
+/// exactly where their encodings are; and at most one normal operator, applied to the variables of binders, is convertible
+/// to a given normal type.
 pub fn normal_signatures()
     ensures conv { WellFormedConv }
     ensures normal { NormalSigGives }
     ensures enc { EncNormal }
     ensures injective { EncInjective }
     ensures exactly { ConvExactly }
+    ensures abs_exactly { ConvAbsExactly }
     ensures operator { OperatorFound }
 {}
 

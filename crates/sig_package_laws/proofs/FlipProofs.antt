@@ -8,6 +8,7 @@ use Rattle.omega_types.specs.Kinding.{HasKind}
 use Rattle.omega_types.specs.Kinding
 use Rattle.omega_types.specs.Kinding.HasKind.{k_var, k_lam, k_apply}
 use Rattle.omega_types.specs.Conversion.Conv.{c_sym}
+use Rattle.omega_types.specs.Normality.{Normal}
 use Rattle.omega_types.specs.Normality.Neutral.{n_var}
 use Rattle.omega_types.specs.Binders.{past, own, raise, OfKinds, NormalForms}
 use Rattle.omega_types.proofs.Preservation.{kind-rename, kind-substitute, single-substitutes, conv-kinds}
@@ -25,6 +26,7 @@ use Rattle.sig_laws.proofs.Formed.RootNumbers.{by_numbers}
 use Rattle.sig_definitions.specs.Matching.Subtyping.{Sub, SubFields, SubAbs, Match}
 use Rattle.sig_definitions.specs.QuantifierOrder.{NewOrder, reordered, renumber, NormSig, Norm, NormRow}
 use Rattle.sig_definitions.specs.Explicit.WellFormed.{EachRooted, WellFormed, WellFormedRow, ExplicitResults, Explicit, explicit, in_typ, in_str, in_more, in_end}
+use Rattle.sig_laws.specs.Good.{OkRight}
 use Rattle.sig_laws.proofs.Algebra.AlikeLaws.{conv_sig-gives}
 use Rattle.sig_laws.proofs.Algebra.Instances.{at-substitutes}
 use Rattle.sig_laws.proofs.Formed.WellFormedLaws.{well_formed-kinds, explicit-kinds, explicit-rename, well_formed-substitute}
@@ -72,6 +74,18 @@ g-after-f e = let h : nth named_g 0 ≡ nth named_f 0 = ap (λ l. nth l 0) e in 
 
 pub g_explicit : Explicit [] g_first
 g_explicit = explicit (parts-good flipped direct (flipped-kind []) (direct-kind [])) (parts-results flipped direct) (at-part flipped direct (Item.Part named_g ∷ []) (PartAt.field (there g-after-f here) PartAt.end))
+
+direct-normal : Normal (binary ∷ []) direct binary
+direct-normal = (eta-normal binary (n_var {ctx = binary ∷ []} Kinding.here)).0
+
+flipped-normal : Normal (binary ∷ []) flipped binary
+flipped-normal = (normal-gives (flipped-kind [])).0
+
+pub f_right : OkRight [] f_first
+f_right = (f_explicit, (direct-normal, (flipped-normal, tt)))
+
+pub g_right : OkRight [] g_first
+g_right = (g_explicit, (flipped-normal, (direct-normal, tt)))
 
 -- matching, by the flip of the variable
 

@@ -1,4 +1,5 @@
 pub mod FlipProofs
+pub mod NormConv
 pub mod NormMapped
 pub mod OneCondition
 pub mod OrderProofs
@@ -6,3 +7,4 @@ pub mod Pairs
 pub mod SameLaws
 pub mod SamePackage
 pub mod PackageClaims
+pub mod PackageConv

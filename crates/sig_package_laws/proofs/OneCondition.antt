@@ -13,8 +13,7 @@ use Rattle.sig_definitions.specs.Explicit.SigPath.{SigPath, Item, PartAt}
 use Rattle.sig_definitions.specs.Explicit.RootPath.{Rooted}
 use Rattle.sig_package_laws.specs.FlipExample.{binary}
 use Rattle.sig_package_laws.specs.OrderExample.{two_types, two_stars, functor}
-use Rattle.sig_package_laws.specs.SamePaths.{RootsIn}
-use Rattle.sig_package_laws.specs.Conditions.{Condition, EachAbs, EachSig}
+use Rattle.sig_package_laws.specs.Conditions.{RootsIn, Condition, EachAbs, EachSig}
 use Rattle.sig_package_laws.specs.PackageTypes.{FlipInOneOrder, OrderAtSamePaths}
 use Rattle.sig_package_laws.proofs.OrderProofs.{b-after-a}
 

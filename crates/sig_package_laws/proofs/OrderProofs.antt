@@ -10,6 +10,7 @@ use Rattle.omega_types.specs.Kinding
 use Rattle.omega_types.specs.Kinding.{HasKind}
 use Rattle.omega_types.specs.Kinding.HasKind.{k_var, k_apply}
 use Rattle.omega_types.specs.Conversion.Conv.{c_refl}
+use Rattle.omega_types.specs.Normality.{Normal}
 use Rattle.omega_types.specs.Mentions.{Mentions}
 use Rattle.omega_types.specs.Binders.{extend, past, own, OfKinds, NormalForms}
 use Rattle.omega_types.proofs.Hereditary.{normal-gives}
@@ -27,6 +28,7 @@ use Rattle.sig_laws.proofs.Formed.RootNumbers.{by_numbers}
 use Rattle.sig_definitions.specs.Matching.Subtyping.{Sub, SubFields, SubResult, SubAbs, Match}
 use Rattle.sig_definitions.specs.QuantifierOrder.{reordered, renumber, NormSig, Norm, NormRow}
 use Rattle.sig_definitions.specs.Explicit.WellFormed.{EachRooted, WellFormed, WellFormedRow, Explicit, explicit, in_typ, in_str, in_pure, in_more, in_end}
+use Rattle.sig_laws.specs.Good.{OkRight}
 use Rattle.sig_laws.proofs.Algebra.AlikeLaws.{conv_sig-gives}
 use Rattle.sig_laws.proofs.Formed.WellFormedLaws.{well_formed-kinds, well_formed-substitute, explicit-rename}
 use Rattle.omega_types.proofs.BinderLaws.{past-maps}
@@ -122,6 +124,23 @@ b_explicit = functor-explicit (Ty.Var 0) (Ty.Var 1) first second (not-two 0 1 (o
     (param-explicit (Ty.Var 0) (Ty.Var 1) first second (each-type (Ty.Var 0) (Ty.Var 1) (Item.Part (98 ∷ []) ∷ []) (Item.Part (97 ∷ []) ∷ [])
     (Rooted.at (PartAt.field (there b-after-a here) PartAt.end) (c_refl second)) (Rooted.at (PartAt.field here PartAt.end) (c_refl first))))
 
+-- of normal types
+
+first-normal : Normal inner (Ty.Var 0) Kind.Star
+first-normal = (normal-gives first).0
+
+second-normal : Normal inner (Ty.Var 1) Kind.Star
+second-normal = (normal-gives second).0
+
+order-normal : Normal inner in_order Kind.Star
+order-normal = (normal-gives at-order).0
+
+pub a_right : OkRight [] a_first
+a_right = (a_explicit, ((second-normal, (first-normal, tt)), (order-normal, tt)))
+
+pub b_right : OkRight [] b_first
+b_right = (b_explicit, ((first-normal, (second-normal, tt)), (order-normal, tt)))
+
 -- matching
 
 types-same : (ctx : List Kind) (t u : Ty) → (f : Term) × Sub ctx (two_types t u) (two_types t u) f
@@ -173,10 +192,10 @@ b_matches =
 own-norm : (ctx : List Kind) (t u : Ty) → NormSig ctx (functor t u) (functor t u)
 own-norm ctx t u = NormSig.pure (NormSig.str (NormRow.more NormSig.typ (NormRow.more NormSig.typ NormRow.end))) (NormSig.str (NormRow.more NormSig.typ NormRow.end))
 
-a_norm : (x : Abs) → Norm [] a_first x → x ≡ a_first
+pub a_norm : (x : Abs) → Norm [] a_first x → x ≡ a_first
 a_norm x (Norm.ex {order = o} a w) = ap (λ s. Abs.Ex (reordered (binary ∷ []) o) (rename_sig (renumber (binary ∷ []) o) s)) (norm_unique a (own-norm outer (Ty.Var 1) (Ty.Var 0))) ∙ ap (λ l. Abs.Ex (reordered (binary ∷ []) l) (rename_sig (renumber (binary ∷ []) l) (functor (Ty.Var 1) (Ty.Var 0)))) (one-order o w)
 
-b_norm : (x : Abs) → Norm [] b_first x → x ≡ b_first
+pub b_norm : (x : Abs) → Norm [] b_first x → x ≡ b_first
 b_norm x (Norm.ex {order = o} a w) = ap (λ s. Abs.Ex (reordered (binary ∷ []) o) (rename_sig (renumber (binary ∷ []) o) s)) (norm_unique a (own-norm outer (Ty.Var 0) (Ty.Var 1))) ∙ ap (λ l. Abs.Ex (reordered (binary ∷ []) l) (rename_sig (renumber (binary ∷ []) l) (functor (Ty.Var 0) (Ty.Var 1)))) (one-order o w)
 
 pub two_orders : (x y : Abs) → Norm [] a_first x → Norm [] b_first y → enc_abs x ≢ enc_abs y

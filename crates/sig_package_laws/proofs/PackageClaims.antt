@@ -3,18 +3,22 @@ use Rattle.std.proofs.Math.Path.{ap}
 use Rattle.sig_definitions.specs.Signatures.Encoding.{enc_abs}
 use Rattle.sig_package_laws.proofs.NormMapped.{norm_abs-mapped}
 use Rattle.sig_package_laws.proofs.SamePackage.{same_package}
-use Rattle.sig_package_laws.proofs.OrderProofs.{a_explicit, b_explicit, a_matches, b_matches, two_orders}
-use Rattle.sig_package_laws.proofs.FlipProofs.{f_explicit, g_explicit, f_matches, g_matches, two_packages}
-use Rattle.sig_package_laws.specs.PackageTypes.{NormOfRenamed, OnePackageType, TwoPackageTypes, OrderMatters}
+use Rattle.sig_package_laws.proofs.PackageConv.{one_type, types_differ}
+use Rattle.sig_package_laws.proofs.OrderProofs.{a_right, b_right, a_matches, b_matches, a_norm, b_norm, two_orders}
+use Rattle.sig_package_laws.proofs.FlipProofs.{f_right, g_right, f_matches, g_matches, f_norm, g_norm, two_packages}
+use Rattle.sig_package_laws.specs.PackageTypes.{NormOfRenamed, OnePackageType, OneNormalPackageType, TwoPackageTypes, OrderMatters}
 
 pub norm_of_renamed : NormOfRenamed
 norm_of_renamed ctx other r x y h w n = norm_abs-mapped r h w n
 
 pub one_package_type : OnePackageType
-one_package_type ctx x y n m f g nx ny ex ey a b s hx hy = ap enc_abs (same_package nx ny ex ey a b s hx hy)
+one_package_type ctx x y n m ex ey a b s hx hy = one_type ex ey a b s hx hy
+
+pub one_normal_package_type : OneNormalPackageType
+one_normal_package_type ctx x y n m f g ox oy a b s hx hy = ap enc_abs (same_package ox.1 oy.1 ox.0 oy.0 a b s hx hy)
 
 pub two_package_types : TwoPackageTypes
-two_package_types = (f_explicit, g_explicit, f_matches, g_matches, two_packages)
+two_package_types = types_differ f_right g_right f_matches g_matches f_norm g_norm two_packages
 
 pub order_matters : OrderMatters
-order_matters = (a_explicit, b_explicit, a_matches, b_matches, two_orders)
+order_matters = types_differ a_right b_right a_matches b_matches a_norm b_norm two_orders

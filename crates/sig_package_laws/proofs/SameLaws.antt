@@ -12,7 +12,7 @@ use Rattle.sig_definitions.specs.Signatures.SigSubst.{rename_sig, rename_abs, re
 use Rattle.sig_definitions.specs.Explicit.SigPath.{SigPath}
 use Rattle.sig_definitions.specs.Explicit.RootPath.{Rooted}
 use Rattle.sig_definitions.specs.Explicit.WellFormed.{EachRooted, WellFormed, explicit}
-use Rattle.sig_package_laws.specs.SamePaths.{SameNumbers, SameAbs, SameSig}
+use Rattle.sig_package_laws.specs.Conditions.{SameNumbers, EachAbs, EachSig, SameAbs, SameSig}
 use Rattle.sig_explicit_laws.proofs.Positions.{own-below}
 use Rattle.sig_explicit_laws.proofs.Liftings.{lifts-below}
 use Rattle.sig_norm_laws.proofs.Norm.NormRenamed.{Undone, turned, undone-lifts, undone-sig}
@@ -23,16 +23,16 @@ use Rattle.sig_laws.proofs.Formed.RootNumbers.{rooted-of}
 
 mutual
   pub same-flip : {ctx other : List Kind} {s t : Sig} → SameSig ctx other s t → SameSig other ctx t s
-  same-flip SameSig.val = SameSig.val
-  same-flip SameSig.typ = SameSig.typ
-  same-flip (SameSig.meta x) = SameSig.meta (same_abs-flip x)
-  same-flip (SameSig.str h) = SameSig.str (λ l s t f g. same-flip (h l t s g f))
-  same-flip (SameSig.pure n m a b) = SameSig.pure m n (same-flip a) (same-flip b)
-  same-flip (SameSig.impure a b) = SameSig.impure (same_abs-flip a) (same_abs-flip b)
-  same-flip (SameSig.mixed h) = SameSig.mixed (λ e. h (sym e))
+  same-flip EachSig.val = EachSig.val
+  same-flip EachSig.typ = EachSig.typ
+  same-flip (EachSig.meta x) = EachSig.meta (same_abs-flip x)
+  same-flip (EachSig.str h) = EachSig.str (λ l s t f g. same-flip (h l t s g f))
+  same-flip (EachSig.pure (n, m) a b) = EachSig.pure (m, n) (same-flip a) (same-flip b)
+  same-flip (EachSig.impure a b) = EachSig.impure (same_abs-flip a) (same_abs-flip b)
+  same-flip (EachSig.mixed h) = EachSig.mixed (λ e. h (sym e))
 
   pub same_abs-flip : {ctx other : List Kind} {x y : Abs} → SameAbs ctx other x y → SameAbs other ctx y x
-  same_abs-flip (SameAbs.ex f g a) = SameAbs.ex g f (same-flip a)
+  same_abs-flip (EachAbs.ex (f, g) a) = EachAbs.ex (g, f) (same-flip a)
 
 -- own variables are rooted at the same paths in a renamed signature
 
@@ -49,22 +49,20 @@ field-renamed r (SigRow.More m s rest) (there n h) = let q = field-renamed r res
 
 mutual
   pub same-renamed : {ctx other third : List Kind} {s t : Sig} (r q : ℕ → ℕ) → Undone other third r q → SameSig ctx other s t → SameSig ctx third s (rename_sig r t)
-  same-renamed r q u SameSig.val = SameSig.val
-  same-renamed r q u SameSig.typ = SameSig.typ
-  same-renamed r q u (SameSig.meta x) = SameSig.meta (same_abs-renamed r q u x)
-  same-renamed {ctx} {third = third} r q u (SameSig.str {gs = gs} h) = SameSig.str (λ l s t f g. let w = field-renamed r gs g in subst (SameSig ctx third s) (sym w.2) (same-renamed r q u (h l s w.0 f w.1)))
-  same-renamed {ctx} {other} {third} r q u (SameSig.pure {ks = ks} {js = js} n m a b) = SameSig.pure
-      (λ i p lt x. let w = n i p lt x in (w.0, own-renamed other third js r q u i p w.0 w.1))
-      (λ i p lt x. m i p lt (own-renamed_back other third js r q u i p lt x))
+  same-renamed r q u EachSig.val = EachSig.val
+  same-renamed r q u EachSig.typ = EachSig.typ
+  same-renamed r q u (EachSig.meta x) = EachSig.meta (same_abs-renamed r q u x)
+  same-renamed {ctx} {third = third} r q u (EachSig.str {gs = gs} h) = EachSig.str (λ l s t f g. let w = field-renamed r gs g in subst (SameSig ctx third s) (sym w.2) (same-renamed r q u (h l s w.0 f w.1)))
+  same-renamed {ctx} {other} {third} r q u (EachSig.pure {ks = ks} {js = js} (n, m) a b) = EachSig.pure
+      (λ i p lt x. let w = n i p lt x in (w.0, own-renamed other third js r q u i p w.0 w.1), λ i p lt x. m i p lt (own-renamed_back other third js r q u i p lt x))
       (same-renamed (lifts js r) (lifts js q) (undone-lifts js u) a)
       (same-renamed (lifts js r) (lifts js q) (undone-lifts js u) b)
-  same-renamed r q u (SameSig.impure {js = js} a b) = SameSig.impure (same_abs-renamed r q u a) (same_abs-renamed (lifts js r) (lifts js q) (undone-lifts js u) b)
-  same-renamed r q u (SameSig.mixed h) = SameSig.mixed h
+  same-renamed r q u (EachSig.impure {js = js} a b) = EachSig.impure (same_abs-renamed r q u a) (same_abs-renamed (lifts js r) (lifts js q) (undone-lifts js u) b)
+  same-renamed r q u (EachSig.mixed h) = EachSig.mixed h
 
   pub same_abs-renamed : {ctx other third : List Kind} {x y : Abs} (r q : ℕ → ℕ) → Undone other third r q → SameAbs ctx other x y → SameAbs ctx third x (rename_abs r y)
-  same_abs-renamed {ctx} {other} {third} r q u (SameAbs.ex {ks = ks} {js = js} f g a) = SameAbs.ex
-      (λ p x. let w = f p x in (w.0, w.1, own-renamed other third js r q u w.0 p w.1 w.2))
-      (λ p x. g p (x.0, x.1, own-renamed_back other third js r q u x.0 p x.1 x.2))
+  same_abs-renamed {ctx} {other} {third} r q u (EachAbs.ex {ks = ks} {js = js} (f, g) a) = EachAbs.ex
+      (λ p x. let w = f p x in (w.0, w.1, own-renamed other third js r q u w.0 p w.1 w.2), λ p x. g p (x.0, x.1, own-renamed_back other third js r q u x.0 p x.1 x.2))
       (same-renamed (lifts js r) (lifts js q) (undone-lifts js u) a)
 
 -- parameters with the same numbers are joined
@@ -85,10 +83,10 @@ mixed-aligned Pure Impure h = Aligned.a_right
 mixed-aligned Impure d h = Aligned.a_left
 
 pub same-aligned : {ctx other : List Kind} {s t : Sig} → SameSig ctx other s t → WellFormed ctx s → WellFormed other t → Aligned ctx other s t
-same-aligned SameSig.val w v = Aligned.a_val
-same-aligned SameSig.typ w v = Aligned.a_typ
-same-aligned (SameSig.meta x) w v = Aligned.a_meta
-same-aligned (SameSig.str h) (WellFormed.str r w) (WellFormed.str q v) = Aligned.a_str (λ l s t f g. same-aligned (h l s t f g) (row-field w f) (row-field v g))
-same-aligned {ctx} {other} (SameSig.pure {ks = ks} {js = js} {s = s} {t = t} n m a b) (WellFormed.pure (explicit w r e) w') (WellFormed.pure (explicit v q f) v') = Aligned.a_pure (joined ctx ks s other js t e f n m) (same-aligned a w v) (same-aligned b w' v')
-same-aligned (SameSig.impure a b) w v = Aligned.a_left
-same-aligned (SameSig.mixed {e = e} {d = d} h) w v = mixed-aligned e d h
+same-aligned EachSig.val w v = Aligned.a_val
+same-aligned EachSig.typ w v = Aligned.a_typ
+same-aligned (EachSig.meta x) w v = Aligned.a_meta
+same-aligned (EachSig.str h) (WellFormed.str r w) (WellFormed.str q v) = Aligned.a_str (λ l s t f g. same-aligned (h l s t f g) (row-field w f) (row-field v g))
+same-aligned {ctx} {other} (EachSig.pure {ks = ks} {js = js} {s = s} {t = t} (n, m) a b) (WellFormed.pure (explicit w r e) w') (WellFormed.pure (explicit v q f) v') = Aligned.a_pure (joined ctx ks s other js t e f n m) (same-aligned a w v) (same-aligned b w' v')
+same-aligned (EachSig.impure a b) w v = Aligned.a_left
+same-aligned (EachSig.mixed {e = e} {d = d} h) w v = mixed-aligned e d h

@@ -27,7 +27,7 @@ use Rattle.sig_laws.proofs.Algebra.AlikeLaws.{form-conv_sig, normal_sig-rename, 
 use Rattle.sig_laws.proofs.Algebra.Own.{split_index}
 use Rattle.sig_laws.proofs.Algebra.Instances.{past-substitutes}
 use Rattle.sig_laws.proofs.Formed.WellFormedLaws.{well_formed-kinds, explicit-kinds, well_formed-rename, explicit_results-rename, explicit-rename, before_all-field}
-use Rattle.sig_package_laws.specs.SamePaths.{SameAbs, SameSig, SameNumbers}
+use Rattle.sig_package_laws.specs.Conditions.{SameNumbers, EachAbs, EachSig, SameAbs, SameSig}
 use Rattle.omega_kinds.proofs.NameLaws.{name-irreflexive, name-transitive}
 use Rattle.omega_types.specs.Normaliser.{kind_at}
 use Rattle.sig_norm_laws.proofs.Orders.OrderUnique.{one-rooted, same-own}
@@ -107,13 +107,13 @@ root-of : {ctx ks : List Kind} {s : Sig} {i : ℕ} → Explicit ctx (Abs.Ex ks s
 root-of {ctx} {ks} {s} {i} (explicit w r e) lt = ((e i lt).0, rooted-of (e i lt).1)
 
 linked-right : (ctx ks js : List Kind) (s t : Sig) → SameAbs ctx ctx (Abs.Ex ks s) (Abs.Ex js t) → Explicit ctx (Abs.Ex js t) → (j : ℕ) → j < length js → (i : ℕ) × (i < length ks) × Linked ctx ks s ctx js t i j
-linked-right ctx ks js s t (SameAbs.ex f g a) e j lt = let x = root-of e lt in let w = g x.0 (j, lt, x.1) in (w.0, w.1, (x.0, w.2, x.1))
+linked-right ctx ks js s t (EachAbs.ex (f, g) a) e j lt = let x = root-of e lt in let w = g x.0 (j, lt, x.1) in (w.0, w.1, (x.0, w.2, x.1))
 
 linked-left : (ctx ks js : List Kind) (s t : Sig) → SameAbs ctx ctx (Abs.Ex ks s) (Abs.Ex js t) → Explicit ctx (Abs.Ex ks s) → (i : ℕ) → i < length ks → (j : ℕ) × (j < length js) × Linked ctx ks s ctx js t i j
-linked-left ctx ks js s t (SameAbs.ex f g a) e i lt = let x = root-of e lt in let w = f x.0 (i, lt, x.1) in (w.0, w.1, (x.0, x.1, w.2))
+linked-left ctx ks js s t (EachAbs.ex (f, g) a) e i lt = let x = root-of e lt in let w = f x.0 (i, lt, x.1) in (w.0, w.1, (x.0, x.1, w.2))
 
 bodies : {ctx other ks js : List Kind} {s t : Sig} → SameAbs ctx other (Abs.Ex ks s) (Abs.Ex js t) → SameSig (extend ctx ks) (extend other js) s t
-bodies (SameAbs.ex f g a) = a
+bodies (EachAbs.ex h a) = a
 
 -- what matching both ways says of two lists of binders
 pub data Result (ctx second ks js : List Kind) (s t n m : Sig) (ts us : List Ty) : Type 0 where
@@ -368,7 +368,7 @@ impure-finish ctx second ks js p p' np mp x y z nx nz q r {ts} {o1} {o2} (parts 
         same-fun e a b c i = Sig.Fun e (a i) (b i) (c i)
 
 same-numbers : {ctx ks js : List Kind} {s t : Sig} → SameNumbers ctx ks s ctx js t → SameNumbers ctx js t ctx ks s → SameSig (extend ctx ks) (extend ctx js) s t → SameAbs ctx ctx (Abs.Ex ks s) (Abs.Ex js t)
-same-numbers n m a = SameAbs.ex (λ p x. let w = n x.0 p x.1 x.2 in (x.0, w.0, w.1)) (λ p x. let w = m x.0 p x.1 x.2 in (x.0, w.0, w.1)) a
+same-numbers n m a = EachAbs.ex (λ p x. let w = n x.0 p x.1 x.2 in (x.0, w.0, w.1), λ p x. let w = m x.0 p x.1 x.2 in (x.0, w.0, w.1)) a
 
 pure-finish : (ctx second ks js : List Kind) (p p' np mp b b1 b' nb mb : Sig) (q r : ℕ → ℕ) {ts : List Ty}
     → FunParts second js ks Pure Pure (rename_sig (lifts js q) p') (rename_sig (lifts ks q) p) (Abs.Ex [] (rename_sig (lifts js q) b')) (Abs.Ex [] (rename_sig (lifts ks q) b))
@@ -443,18 +443,18 @@ mutual
   pub sub_same : {ctx : List Kind} {s t n m : Sig} {f : Term} → Sub ctx s t f → Ready ctx s t n m → n ≡ m
   sub_same Sub.val (Ready.ready u d h gs gt NormSig.val NormSig.val) = refl
   sub_same Sub.typ (Ready.ready u d h gs gt NormSig.typ NormSig.typ) = refl
-  sub_same (Sub.meta a b) (Ready.ready u d (SameSig.meta h) gs gt (NormSig.meta x) (NormSig.meta y)) = ap Sig.Meta (abs_same a (ready-meta u (meta-parts d) h (good-meta gs) (good-meta gt) x y))
-  sub_same (Sub.str p) (Ready.ready u d (SameSig.str h) gs gt (NormSig.str a) (NormSig.str b)) = ap Sig.Str (fields_same p (row-ready u d h) (good-fields gs) (good-fields gt) a b)
-  sub_same {ctx} (Sub.fun {ks = ks} {js = js} {s = p} {t = p'} m nf (SubResult.both_pure {s = b1} {t = b'} w)) (Ready.ready {second = second} {q = q} {r = r} u d (SameSig.pure {r = b} k l sa sb) gs gt (NormSig.pure {t = np} {q = nb} a1 a2) (NormSig.pure {t = mp} {q = mb} c1 c2)) =
+  sub_same (Sub.meta a b) (Ready.ready u d (EachSig.meta h) gs gt (NormSig.meta x) (NormSig.meta y)) = ap Sig.Meta (abs_same a (ready-meta u (meta-parts d) h (good-meta gs) (good-meta gt) x y))
+  sub_same (Sub.str p) (Ready.ready u d (EachSig.str h) gs gt (NormSig.str a) (NormSig.str b)) = ap Sig.Str (fields_same p (row-ready u d h) (good-fields gs) (good-fields gt) a b)
+  sub_same {ctx} (Sub.fun {ks = ks} {js = js} {s = p} {t = p'} m nf (SubResult.both_pure {s = b1} {t = b'} w)) (Ready.ready {second = second} {q = q} {r = r} u d (EachSig.pure {r = b} (k, l) sa sb) gs gt (NormSig.pure {t = np} {q = nb} a1 a2) (NormSig.pure {t = mp} {q = mb} c1 c2)) =
       pure-finish ctx second ks js p p' np mp b b1 b' nb mb q r (fun-parts d) (plain-form nf)
       (λ us g e. pair_same m ctx second js ks p mp np q r refl refl u e (same-numbers l k (same-flip sa)) (good-param gt) (good-param gs) c1 a1)
       (λ n m z. sub_same w z) u l sb (good-pure gs) (good-pure gt) a2 c2
-  sub_same (Sub.fun m nf (SubResult.both_pure w)) (Ready.ready u d (SameSig.mixed h) gs gt a b) = absurd (h refl)
-  sub_same {ctx} (Sub.fun {ks = ks} {js = js} {s = p} {t = p'} {x = x} {z = z} m nf (SubResult.to_impure {x = y} w)) (Ready.ready {second = second} {q = q} {r = r} u d (SameSig.impure sa sx) gs gt (NormSig.impure {t = np} {y = nx} a1 o1 x1) (NormSig.impure {t = mp} {y = nz} c1 o2 x2)) =
+  sub_same (Sub.fun m nf (SubResult.both_pure w)) (Ready.ready u d (EachSig.mixed h) gs gt a b) = absurd (h refl)
+  sub_same {ctx} (Sub.fun {ks = ks} {js = js} {s = p} {t = p'} {x = x} {z = z} m nf (SubResult.to_impure {x = y} w)) (Ready.ready {second = second} {q = q} {r = r} u d (EachSig.impure sa sx) gs gt (NormSig.impure {t = np} {y = nx} a1 o1 x1) (NormSig.impure {t = mp} {y = nz} c1 o2 x2)) =
       impure-finish ctx second ks js p p' np mp x y z nx nz q r (fun-parts d) nf
       (λ us g e. pair_same m ctx second js ks p mp np q r refl refl u e (same_abs-flip sa) (good-param gt) (good-param gs) c1 a1)
       (λ n m v. abs_same w v) u sx (good-impure gs) (good-impure gt) o1 o2 x1 x2
-  sub_same (Sub.fun m nf (SubResult.to_impure w)) (Ready.ready u d (SameSig.mixed h) gs gt a b) = absurd (no-mixed h (fun-parts d))
+  sub_same (Sub.fun m nf (SubResult.to_impure w)) (Ready.ready u d (EachSig.mixed h) gs gt a b) = absurd (no-mixed h (fun-parts d))
 
   fields_same : {ctx : List Kind} {whole all fs gs ns ms : SigRow} {parts : TermRow} {second : List Kind} {q r : ℕ → ℕ} → SubFields ctx whole gs parts → RowReady ctx whole all fs gs second q r → GoodRow ctx fs → GoodRow ctx gs → NormRow ctx fs ns → NormRow ctx gs ms → ns ≡ ms
   fields_same SubFields.end o gf gg NormRow.end NormRow.end = refl

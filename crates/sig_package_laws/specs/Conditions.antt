@@ -1,15 +1,23 @@
--- The two conditions on root paths, each for itself: all signatures inside hide types of the same root paths, in whatever
--- order; and the parameters of pure functors hide them in one order.
-use Rattle.std.specs.Prelude.{List, [], ◌≢◌}
+-- The two conditions on root paths: all signatures inside hide types of the same root paths, in whatever order; and the
+-- parameters of pure functors hide them in one order. One relation says either or both.
+use Rattle.std.specs.Prelude.{ℕ, List, [], ◌<◌, ◌≢◌, length}
 use Rattle.omega_kinds.specs.Kind.{Kind}
 use Rattle.omega_kinds.specs.declared.effect.Effect.{Effect}
 use Rattle.omega_kinds.specs.declared.effect.Effect.TheVariants.{Pure, Impure}
 use Rattle.omega_kinds.specs.Name.{Name}
 use Rattle.omega_types.specs.Ty.{Ty}
-use Rattle.omega_types.specs.Binders.{extend}
+use Rattle.omega_types.specs.Binders.{extend, own}
 use Rattle.sig_definitions.specs.Signatures.Sig.{Sig, Abs, SigRow, HasField}
 use Rattle.sig_definitions.specs.Explicit.SigPath.{SigPath}
-use Rattle.sig_package_laws.specs.SamePaths.{RootsIn, SameNumbers}
+use Rattle.sig_definitions.specs.Explicit.RootPath.{Rooted}
+
+-- some variable of the binders is rooted at the path
+abbrev pub RootsIn : List Kind → List Kind → Sig → SigPath → Type 0
+RootsIn ctx ks s p = (i : ℕ) × (i < length ks) × Rooted (extend ctx ks) s (own ks i) p
+
+-- the variable that is rooted at a path has the same number on the other side
+abbrev pub SameNumbers : (ctx ks : List Kind) → Sig → (other js : List Kind) → Sig → Type 0
+SameNumbers ctx ks s other js t = (i : ℕ) (p : SigPath) → i < length ks → Rooted (extend ctx ks) s (own ks i) p → (i < length js) × Rooted (extend other js) t (own js i) p
 
 -- of what two signatures hide, each in its own context
 abbrev pub Condition : Type 1
@@ -25,7 +33,8 @@ abbrev pub Anything : Condition
 Anything ctx ks s other js t = Unit {0}
 
 mutual
-  -- the one condition on the parameters of pure functors, the other one on whatever else hides types
+  -- one signature stands in ctx, the other one in other; the first condition is on the parameters of pure functors, the
+  -- second one on whatever else hides types
   pub data EachAbs (Param Hidden : Condition) : (ctx other : List Kind) → Abs → Abs → Type 0 where
     ex : {ctx other ks js : List Kind} {s t : Sig} → Hidden ctx ks s other js t → EachSig Param Hidden (extend ctx ks) (extend other js) s t → EachAbs Param Hidden ctx other (Abs.Ex ks s) (Abs.Ex js t)
 
@@ -37,3 +46,11 @@ mutual
     pure : {ctx other ks js : List Kind} {s t r q : Sig} → Param ctx ks s other js t → EachSig Param Hidden (extend ctx ks) (extend other js) s t → EachSig Param Hidden (extend ctx ks) (extend other js) r q → EachSig Param Hidden ctx other (Sig.Fun Pure ks s (Abs.Ex [] r)) (Sig.Fun Pure js t (Abs.Ex [] q))
     impure : {ctx other ks js : List Kind} {s t : Sig} {x y : Abs} → EachAbs Param Hidden ctx other (Abs.Ex ks s) (Abs.Ex js t) → EachAbs Param Hidden (extend ctx ks) (extend other js) x y → EachSig Param Hidden ctx other (Sig.Fun Impure ks s x) (Sig.Fun Impure js t y)
     mixed : {ctx other ks js : List Kind} {e d : Effect} {s t : Sig} {x y : Abs} → e ≢ d → EachSig Param Hidden ctx other (Sig.Fun e ks s x) (Sig.Fun d js t y)
+
+-- both conditions: the parameters of pure functors hide types of the same root paths in one order, whatever else hides
+-- types hides those of the same root paths
+abbrev pub SameAbs : (ctx other : List Kind) → Abs → Abs → Type 0
+SameAbs = EachAbs OneOrder SameRoots
+
+abbrev pub SameSig : (ctx other : List Kind) → Sig → Sig → Type 0
+SameSig = EachSig OneOrder SameRoots

@@ -1,5 +1,4 @@
 pub mod Conditions
 pub mod FlipExample
 pub mod OrderExample
-pub mod SamePaths
 pub mod PackageTypes

@@ -1,12 +1,15 @@
 use Rattle.module_judgments.proofs.module_rules.Goals as goal
-use Rattle.module_judgments.proofs.Verdicts.{one_named, one_projected, one_type_path, one_value_path, one_sig_path, one_generative, one_parts, one_apply, one_include, one_seal, one_value_module, one_type_module, one_signature_module}
-use Rattle.module_judgments.proofs.Determined.{collected-one, seq-one}
+use Rattle.module_judgments.proofs.Verdicts.{one_named, one_projected, one_pure_projected, one_type_path, one_value_path, one_sig_path, one_generative, one_parts, one_apply, one_include, one_seal, one_value_module, one_type_module, one_signature_module}
+use Rattle.module_judgments.proofs.Determined.{collected-one, seq-kinded}
 
 pub returns-clause-named : goal.returns-clause-named
 returns-clause-named c = one_named
 
 pub returns-clause-projected : goal.returns-clause-projected
 returns-clause-projected c = one_projected
+
+pub returns-clause-pure_projected : goal.returns-clause-pure_projected
+returns-clause-pure_projected c = one_pure_projected
 
 pub returns-clause-type_path : goal.returns-clause-type_path
 returns-clause-type_path c = one_type_path
@@ -33,7 +36,7 @@ pub returns-clause-end : goal.returns-clause-end
 returns-clause-end c = collected-one
 
 pub returns-clause-sequence : goal.returns-clause-sequence
-returns-clause-sequence c = seq-one
+returns-clause-sequence c = seq-kinded
 
 pub returns-clause-seal : goal.returns-clause-seal
 returns-clause-seal c = one_seal

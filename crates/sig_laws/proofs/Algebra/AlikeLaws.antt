@@ -165,6 +165,9 @@ mutual
 pub same-conv_sig : {ctx : List Kind} {x y : Sig} → ConvSig ctx x x → ConvSig ctx y y → normal_sig ctx x ≡ normal_sig ctx y → ConvSig ctx x y
 same-conv_sig {ctx} {x} {y} c d e = conv_sig-trans (form-conv_sig (conv_sig-gives c)) (subst (λ n. ConvSig ctx n y) (sym e) (conv_sig-sym (form-conv_sig (conv_sig-gives d))))
 
+pub same-conv_abs : {ctx : List Kind} {x y : Abs} → ConvAbs ctx x x → ConvAbs ctx y y → normal_abs ctx x ≡ normal_abs ctx y → ConvAbs ctx x y
+same-conv_abs {ctx} {x} {y} c d e = conv_abs-trans (form-conv_abs (conv_abs-gives c)) (subst (λ n. ConvAbs ctx n y) (sym e) (conv_abs-sym (form-conv_abs (conv_abs-gives d))))
+
 pub normal_sig-self : (ctx : List Kind) (x : Sig) → NormalSig ctx x → normal_sig ctx x ≡ x
 normal_sig-self ctx x n = sym (form_sig-same (normal_sig-form ctx x n))
 

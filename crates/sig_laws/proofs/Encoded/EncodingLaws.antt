@@ -19,12 +19,12 @@ use Rattle.omega_terms.specs.Coercions.{result_label}
 use Rattle.sig_definitions.specs.Signatures.Sig.{Sig, Abs, SigRow}
 use Rattle.sig_definitions.specs.Signatures.SigSubst.{rename_sig, rename_abs, substitute_sig, substitute_abs, substitute_sig_row}
 use Rattle.sig_definitions.specs.Signatures.Encoding.{one_part, shown_type, enc, enc_abs, enc_row}
-use Rattle.sig_laws.specs.NormalSig.{normal_sig}
+use Rattle.sig_laws.specs.NormalSig.{normal_sig, normal_abs}
 use Rattle.sig_definitions.specs.Signatures.Alike.{ConvSig, ConvAbs, NormalSig, NormalAbs}
 use Rattle.sig_definitions.specs.Explicit.WellFormed.{WellFormed, WellFormedAbs, Explicit}
 use Rattle.sig_laws.proofs.Algebra.SigAlgebra.{substitute-vars_sig, substitute-vars_abs}
-use Rattle.sig_laws.proofs.Algebra.AlikeLaws.{form-conv_sig, form_sig-normal, conv_sig-gives, same-conv_sig}
-use Rattle.sig_laws.proofs.Formed.WellFormedLaws.{well_formed-kinds, well_formed-conv}
+use Rattle.sig_laws.proofs.Algebra.AlikeLaws.{form-conv_sig, form-conv_abs, form_sig-normal, form_abs-normal, conv_sig-gives, conv_abs-gives, same-conv_sig, same-conv_abs}
+use Rattle.sig_laws.proofs.Formed.WellFormedLaws.{well_formed-kinds, well_formed_abs-kinds, well_formed-conv, well_formed_abs-conv}
 use Rattle.omega_types.proofs.BinderLaws.{all_over-substitute, ex_over-substitute}
 use Rattle.sig_laws.proofs.Formed.WellFormedShape.{well_formed-shape, well_formed_abs-shape, explicit-shape}
 use Rattle.sig_laws.proofs.Encoded.EncodingTyping.{enc-normal as shape_enc-normal, enc_abs-normal as shape_enc_abs-normal, enc-conv as shape_enc-conv, enc_abs-conv as shape_enc_abs-conv}
@@ -86,6 +86,12 @@ enc-normal_sig {ctx} {s} w =
     let f = conv_sig-gives (well_formed-kinds w) in
     let c = form-conv_sig f in
     same-normal (enc-conv w c) ∙ normal_of_normal ctx (enc (normal_sig ctx s)) Kind.Star (enc-normal (well_formed-conv w c) (form_sig-normal f))
+
+pub enc-normal_abs : {ctx : List Kind} {x : Abs} → WellFormedAbs ctx x → normal ctx (enc_abs x) ≡ enc_abs (normal_abs ctx x)
+enc-normal_abs {ctx} {x} w =
+    let f = conv_abs-gives (well_formed_abs-kinds w) in
+    let c = form-conv_abs f in
+    same-normal (enc_well_formed-conv w c) ∙ normal_of_normal ctx (enc_abs (normal_abs ctx x)) Kind.Star (enc_well_formed-normal (well_formed_abs-conv w c) (form_abs-normal f))
 
 -- the encoding shows the signature
 
@@ -188,3 +194,7 @@ mutual
 pub conv-enc : {ctx : List Kind} {s t : Sig} → WellFormed ctx s → WellFormed ctx t → Conv ctx (enc s) (enc t) Kind.Star → ConvSig ctx s t
 conv-enc {ctx} {s} {t} w v c = same-conv_sig (well_formed-kinds w) (well_formed-kinds v)
     (enc-injective (normal_sig ctx s) (normal_sig ctx t) (sym (enc-normal_sig w) ∙ (same-normal c ∙ enc-normal_sig v)))
+
+pub conv-enc_abs : {ctx : List Kind} {x y : Abs} → WellFormedAbs ctx x → WellFormedAbs ctx y → Conv ctx (enc_abs x) (enc_abs y) Kind.Star → ConvAbs ctx x y
+conv-enc_abs {ctx} {x} {y} w v c = same-conv_abs (well_formed_abs-kinds w) (well_formed_abs-kinds v)
+    (enc_abs-injective (normal_abs ctx x) (normal_abs ctx y) (sym (enc-normal_abs w) ∙ (same-normal c ∙ enc-normal_abs v)))

@@ -1,9 +1,12 @@
 use Rattle.sig_package_laws.proofs.package_types.Goals as goal
 use Rattle.sig_package_laws.proofs.OneCondition.{flip_in_one_order, order_at_same_paths}
-use Rattle.sig_package_laws.proofs.PackageClaims.{one_package_type, two_package_types, order_matters}
+use Rattle.sig_package_laws.proofs.PackageClaims.{one_package_type, one_normal_package_type, two_package_types, order_matters}
 
 pub returns-clause-one : goal.returns-clause-one
 returns-clause-one c = one_package_type
+
+pub returns-clause-normal : goal.returns-clause-normal
+returns-clause-normal c = one_normal_package_type
 
 pub returns-clause-two : goal.returns-clause-two
 returns-clause-two c = two_package_types
