@@ -317,7 +317,7 @@ class Reader:
         return (">", left, right)
 
     def fields(self, label, part):
-        """The fields of a record, of which the opening is read already, in strictly rising order."""
+        """The fields of a record or a sum, or the branches of a case, up to the end of the form, in strictly rising order."""
         found = []
         while not self.has(b")"):
             self.need(b" (")
@@ -408,6 +408,17 @@ class Reader:
             last(same, same, same)
         elif any(self.has(b"(" + op + b" ") for op in OPERATORS):
             last(same, same)
+        elif self.version > 1 and self.has(b"(inj "):
+            last(self.label, same, ty)
+        elif self.version > 1 and self.has(b"(case "):
+            same()
+            self.need(b" ")
+            ty()
+            self.fields(self.label, lambda: self.term(types, terms + 1))
+        elif self.version > 1 and self.has(b"(roll "):
+            last(same, ty)
+        elif self.version > 1 and self.has(b"(unroll "):
+            last(same)
         else:
             self.number("a term")
 
