@@ -35,7 +35,7 @@ pub(crate) enum Ready {
     Test(Term, Term),
     /// an operator's right side, with the left one
     Right(Op, Term),
-    /// what the case is of, with the whole case
+    /// the injected part that a case takes apart, with the whole case
     Cased(Term),
     /// what is unrolled
     Unrolled,

@@ -9,8 +9,11 @@ use Rattle.omega_types.specs.Code.{stored as stored_ty, restored as restored_ty,
 use Rattle.omega_terms.specs.declared.op.Op.{Op}
 use Rattle.omega_terms.specs.Term.{Term, TermRow}
 
--- A number is a variable. Behind a number stand a number or two parts, behind nothing a text, fields or one part,
--- and two more parts behind a number with a part, behind nothing with a label, and behind two of nothing with a part.
+-- A number alone is a variable. Any other term is a pair, and the first half of the pair tells the forms apart.
+-- Where it is a number, a literal's number or two parts stand behind it.
+-- Where it is empty, a text, fields or one part stand behind it.
+-- Where it is a pair, two parts stand behind it. That pair is a number with a part, nothing with a label,
+-- or two of nothing with a part.
 abbrev mutual
   pub stored : Term → Gv
   stored (Term.Var i) = gnum i
