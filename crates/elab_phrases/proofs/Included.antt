@@ -12,13 +12,14 @@ use Rattle.omega_types.specs.Binders.{extend}
 use Rattle.omega_terms.specs.Term.{Term, TermRow}
 use Rattle.sig_definitions.specs.Env.{Env, kinds, with_module, named_fields}
 use Rattle.sig_definitions.specs.Signatures.Sig.{Module, made, Sig, Abs, SigRow}
-use Rattle.sig_definitions.specs.Signatures.FieldOrder.{with_names}
+use Rattle.sig_definitions.specs.Signatures.FieldOrder.{with_names, in_order}
 use Rattle.sig_laws.specs.Good.{OkSig, OkRow, OkEnv, OkModule, KindedModule, Names}
 use Rattle.sig_laws.proofs.Formed.WellFormedShape.{kinded}
 use Rattle.sig_laws.proofs.Formed.Conditions.{abs-body, structure-row}
 use Rattle.sig_laws.proofs.Algebra.FormLaws.{kinds-type_vars, module-under}
 use Rattle.sig_laws.proofs.Encoded.EnvTyping.{kinds-named_fields}
 use Rattle.sig_premise_laws.proofs.Environments.{good-module, good-fields, bound-module, bound-fields}
+use Rattle.sig_premise_laws.proofs.NameOrder.{in_order-same}
 use Rattle.semantic_sigs.specs.Fields.{sig_row}
 use Rattle.semantic_sigs.specs.View.{body_of, kinds_of}
 use Rattle.fing_syntax.specs.Phrase.{Span, SigEx, Mod, Bind, BindAt, BindInclude, Binds, NoBinds, MoreBinds}
@@ -73,9 +74,12 @@ bind-include {g} {at} {e = e} p = record { stands = says-map e (λ r q. here (in
 
 -- the end of a structure
 pub ended : {g : Env} {before : List Name} (list : List Bind) (M : Module) → length list < 1
-    → (fs : SigRow) × (es : TermRow) × Collected g before fs es × (M ≡ made Pure (Abs.Ex [] (Sig.Str fs)) [] (Term.Fields es))
+    → Names g before
+    → (fs : SigRow) × (es : TermRow) × Collected g (in_order before) fs es × (M ≡ made Pure (Abs.Ex [] (Sig.Str fs)) [] (Term.Fields es))
     → BindsMean g before (binds_of list) M
-ended {g} {before} list M h q = subst (λ xs. BindsMean g before (binds_of xs) M) (sym (empty list h)) (subst (BindsMean g before NoBinds) (sym q.3) (BindsMean.no_binds q.2))
+ended {g} {before} list M h n q =
+    let c : Collected g before q.0 q.1 = subst (λ ls. Collected g ls q.0 q.1) (in_order-same before n.1) q.2 in
+    subst (λ xs. BindsMean g before (binds_of xs) M) (sym (empty list h)) (subst (BindsMean g before NoBinds) (sym q.3) (BindsMean.no_binds c))
 
 -- what is included is no structure
 

@@ -7,7 +7,7 @@ ghost use Rattle.omega_types.specs.Binders.{extend};
 ghost use Rattle.omega_terms.specs.Term.{Fields, TermRow};
 ghost use Rattle.sig_definitions.specs.Env.{find, kinds as kinds_in};
 ghost use Rattle.sig_definitions.specs.Matching.Subtyping.{Match};
-ghost use Rattle.sig_definitions.specs.Signatures.RecordOrder.{NamesRise};
+ghost use Rattle.sig_definitions.specs.Signatures.FieldOrder.{in_order};
 ghost use Rattle.sig_definitions.specs.Signatures.Sig.{Abs as AbsTree, Sig as SigTree, SigRow, Str, made};
 ghost use Rattle.sig_laws.specs.Good.{Bound, KindedModule, OkRight, OkSig};
 ghost use Rattle.semantic_sigs.specs.Made.{module_of};
@@ -155,12 +155,11 @@ pub(crate) fn include_rule(alloc: Global, first: Module, rest: Module) -> Result
     }
 }
 
-/// The end of a structure: what the environment has for each of these names, all of which are bound. `Err` is want of
-/// memory.
+/// The end of a structure: what the environment has for each of these names, once each, in their order. All of them are
+/// bound. `Err` is want of memory.
 pub(crate) fn end_rule(alloc: Global, env: &Env, names: &NameSet) -> Result<Module, Mem>
-    requires found { Bound env.now names.now }
-    requires rising { NamesRise names.now }
-    ensures { IfOk result (λ m. (fs : SigRow) × (es : TermRow) × Collected env.now names.now fs es × (module_of m ≡ made Pure (AbsTree.Ex [] (Str fs)) [] (Fields es))) }
+    requires { Bound env.now names.now }
+    ensures { IfOk result (λ m. (fs : SigRow) × (es : TermRow) × Collected env.now (in_order names.now) fs es × (module_of m ≡ made Pure (AbsTree.Ex [] (Str fs)) [] (Fields es))) }
 {
     let list = names.list(alloc)?;
     end_struct(alloc, env, &list)

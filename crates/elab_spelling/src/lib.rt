@@ -1,9 +1,10 @@
 // What elaboration makes has a spelling in the text of System Fω, so that the text that is written of it reads back.
 // Stands on elab_laws (what elaboration derives is well typed and ordered), sig_match_laws (matching as functions) and
 // omega_spelling (what a text is).
-// Proved: a type or a term has a spelling exactly where it is legible, which speaks of labels, numbers, texts and the order of
-// fields alone, and its variables are in scope (`spelled_trees`), as they are in closed ones (`closed_trees`); what a spelled
-// phrase means is legible (`legible_meanings`), so a program's whole term has a text, which reads back (`program_texts`).
+// Proved: a type or a term has a spelling if and only if it is legible and its variables are in scope (`spelled_trees`).
+// Legible speaks of labels, numbers, texts, the order of fields and the forms of the version alone. In closed ones the
+// variables are in scope (`closed_trees`). What a spelled phrase means is legible (`legible_meanings`). So a program's whole
+// term has a text, which reads back (`program_texts`).
 #![tactic(auto)]
 
 ghost use Rattle.elab_spelling.specs.Claims.{TypesAreSpelled, TermsAreSpelled, ClosedTypesInScope, ClosedTermsInScope, EncodingsAreLegible, MatchesAreLegible};

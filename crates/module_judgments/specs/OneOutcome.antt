@@ -10,6 +10,7 @@ use Rattle.omega_types.specs.Binders.{extend, NormalForms}
 use Rattle.omega_terms.specs.Term.{Term, TermRow}
 use Rattle.sig_definitions.specs.Signatures.Sig.{Sig, Abs, SigRow, Module, made}
 use Rattle.sig_definitions.specs.Signatures.Alike.{NormalSig}
+use Rattle.sig_definitions.specs.Signatures.FieldOrder.{in_order}
 use Rattle.sig_definitions.specs.Env.{Env}
 use Rattle.sig_definitions.specs.Verdict.{Verdict, One}
 use Rattle.sig_laws.specs.Good.{KindedModule, Bound}
@@ -50,8 +51,9 @@ OneApply = (ctx : List Kind) (s : Sig) (d : Term) (ts : List Ty) (c e : Term) �
 abbrev pub OneInclude : Type 0
 OneInclude = (ctx ks : List Kind) (f : Effect) (s : Sig) (ts : List Ty) (e : Term) (rest : Module) → KindedModule ctx (made f (Abs.Ex ks s) ts e) → KindedModule (extend ctx ks) rest → Verdict (IncludeGives ctx (made f (Abs.Ex ks s) ts e) rest) (IncludeRefuses (made f (Abs.Ex ks s) ts e))
 
+-- bound names, in any order and with repetitions
 abbrev pub OneEnd : Type 0
-OneEnd = (g : Env) (names : List Name) → Bound g names → One (λ (o : SigRow × TermRow). Collected g names o.0 o.1)
+OneEnd = (g : Env) (names : List Name) → Bound g names → One (λ (o : SigRow × TermRow). Collected g (in_order names) o.0 o.1)
 
 -- a binding and the rest of a structure
 abbrev pub OneSequence : Type 0

@@ -8,10 +8,12 @@
 ghost use Rattle.module_judgments.specs.OneOutcome.{OneNamed, OneProjected, OnePureProjected, OneTypePath, OneValuePath, OneSigPath, OneGenerative, OneParts, OneApply, OneInclude, OneEnd, OneSequence, OneSeal, OneValueModule, OneTypeModule, OneSignatureModule};
 
 /// Names, projections, paths, the parts of a functor's signature, applications and includes have exactly one conclusion or
-/// exactly one refusal; generative functors, sealing, single bindings, finished structures and sequences of bindings have
-/// exactly one conclusion. Each clause asks what the call of its rule asks, and no more: of modules normal types, which
-/// have their kinds, and different names in each structure; of applications normal types alone; of names that they are
-/// bound; of the parts of pure modules and of all others nothing.
+/// exactly one refusal. Generative functors, sealing, single bindings, finished structures and sequences of bindings have
+/// exactly one conclusion. Each clause asks what the call of its rule asks, and no more. Of modules it asks normal types,
+/// which have their kinds, and different names in each structure. Of applications it asks normal types of the functor's
+/// signature, and that the types that are handed in are normal and have the kinds of the parameter's hidden types. Of the
+/// names of a finished structure it asks that they are bound; they stand in any order, and with repetitions. Of the parts
+/// of pure modules, and of all others, nothing is asked.
 pub fn module_rules()
     ensures named { OneNamed }
     ensures projected { OneProjected }

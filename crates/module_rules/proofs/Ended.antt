@@ -6,14 +6,17 @@ use Rattle.std.proofs.lemmas.List.{map-append}
 use Rattle.omega_kinds.specs.LabelOrder.{name_before}
 use Rattle.omega_kinds.specs.Name.{Name}
 use Rattle.omega_kinds.specs.declared.label.Label.{Label}
+use Rattle.omega_kinds.specs.declared.effect.Effect.TheVariants.{Pure}
 use Rattle.omega_types.specs.Fields.{MayFollow as LabelMayFollow}
 use Rattle.omega_terms.specs.Fields.{TermPairs, term_row}
 use Rattle.omega_terms.specs.Term.{Term, TermRow}
 use Rattle.sig_definitions.specs.Env.{Env, find}
 use Rattle.sig_definitions.specs.Signatures.RecordOrder.{BeforeNames, NamesRise}
-use Rattle.sig_definitions.specs.Signatures.Sig.{Sig, SigRow}
+use Rattle.sig_definitions.specs.Signatures.Sig.{Sig, SigRow, Abs, made}
 use Rattle.sig_laws.specs.Good.{Found, Bound}
 use Rattle.semantic_sigs.specs.Fields.{SigPairs, sig_row, MayFollow}
+use Rattle.semantic_sigs.specs.Made.{module_of}
+use Rattle.semantic_sigs.specs.declared.made.Module.{Module}
 use Rattle.module_judgments.specs.Sequence.{Collected}
 
 -- the names or labels of fields
@@ -107,3 +110,7 @@ found-next g names n fs more es terms l m k s e c lt el f em ek ef ee =
 
 pub found-all : (g : Env) (names all : List Name) (n : ℕ) (fs : SigRow) (es : TermRow) → Collected g (take n names) fs es → length names ≤ n → names ≡ all → Collected g all fs es
 found-all g names all n fs es c le e = subst (λ ns. Collected g ns fs es) (take_all n names le ∙ e) c
+
+-- a finished structure of these names
+abbrev pub Ends : Env → List Name → Module → Type 0
+Ends g names m = (fs : SigRow) × (es : TermRow) × Collected g names fs es × (module_of m ≡ made Pure (Abs.Ex [] (Sig.Str fs)) [] (Term.Fields es))

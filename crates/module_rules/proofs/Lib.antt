@@ -8,3 +8,4 @@ pub mod Ended
 pub mod PastOpens
 pub mod Options
 pub mod StandingParts
+pub mod Rising

@@ -1,11 +1,12 @@
 // Bindings of values, types and signatures, and finished structures.
-ghost use Rattle.std.specs.Prelude.{◌≡◌, [], List, IfOk};
+ghost use Rattle.std.specs.Prelude.{◌≡◌, ◌↔◌, [], ◌∷◌, List, IfOk, IsTrue};
 ghost use Rattle.omega_kinds.specs.View.{kind_tree};
 ghost use Rattle.omega_kinds.specs.declared.effect.Effect.TheVariants.{Pure};
 ghost use Rattle.omega_terms.specs.Fields.{term_row};
 ghost use Rattle.omega_terms.specs.PartTerms.{sig_term as sig_term_of};
 ghost use Rattle.omega_terms.specs.Term.{Fields, TermRow};
 ghost use Rattle.sig_definitions.specs.Signatures.Encoding.{enc_abs};
+ghost use Rattle.sig_definitions.specs.Signatures.FieldOrder.{in_order};
 ghost use Rattle.sig_definitions.specs.Signatures.RecordOrder.{NamesRise};
 ghost use Rattle.sig_definitions.specs.Signatures.Sig.{Str, SigRow, Abs as AbsTree, made};
 ghost use Rattle.sig_laws.specs.Good.{Bound};
@@ -15,12 +16,13 @@ ghost use Rattle.module_judgments.specs.ModRules.{ValueGives, TypeGives, Signatu
 ghost use Rattle.module_judgments.specs.Sequence.{Collected};
 
 use crate::naming::open_module;
-use omega_kinds::{Label, Mem, Names};
+use omega_kinds::{Label, Mem, Name, Names};
 use omega_shorthands::{one_field, variable};
 use omega_terms::{Term, TermFields, TermNode};
 use semantic_sigs::{
     Abs, Env, Kinded, Module, Sig, SigFields, SigNode, Typed, encode, type_term, value_term,
 };
+use sig_rules::NameSet;
 use std::alloc::Global;
 use type_normal::plain;
 
@@ -63,16 +65,66 @@ fn sig_term(alloc: Global, sig: &Abs) -> Result<Term, Mem>
     one_field(alloc, Label::Sig, identity)
 }
 
-/// The end of a structure: a structure of what the environment has for each of these names, which are in rising order
-/// and are all bound.
+/// The end of a structure: a structure of what the environment has for each of these names, once each, in their order.
+/// The names are all bound; they stand in any order, and a name may stand more than once.
+///
+/// Rossberg, Russo and Dreyer, "F-ing modules", section 4, Bindings; that labels are kept in an order is this project's own.
 pub fn end_struct(alloc: Global, env: &Env, names: &Names) -> Result<Module, Mem>
+    requires { Bound env.now names.now }
+    ensures { IfOk result (λ m. (fs : SigRow) × (es : TermRow) × Collected env.now (in_order names.now) fs es × (module_of m ≡ made Pure (AbsTree.Ex [] (Str fs)) [] (Fields es))) }
+{
+    if rise(names.items()) {
+        return collected(alloc, env, names.items());
+    }
+    let sorted = sorted(alloc, names.items())?;
+    collected(alloc, env, sorted.items())
+}
+
+// Whether each name is before the next one.
+fn rise(names: &[Name]) -> bool
+    ensures { IsTrue result ↔ NamesRise names.now }
+{
+    match names {
+        [] => true,
+        [first, rest @ ..] => rise_from(first, rest),
+    }
+}
+
+// The same of names that are not empty.
+fn rise_from(first: &Name, rest: &[Name]) -> bool
+    ensures { IsTrue result ↔ NamesRise (first.now ∷ rest.now) }
+{
+    let mut last = first;
+    for name in rest {
+        if !last.cmp(name).is_lt() {
+            return false;
+        }
+        last = name;
+    }
+    true
+}
+
+// The names in their order, once each.
+#[tactic(auto, using(crate::proofs::Rising::put_steps))]
+fn sorted(alloc: Global, names: &[Name]) -> Result<Names, Mem>
+    ensures { IfOk result (λ n. n ≡ in_order names.now) }
+{
+    let mut set = NameSet::new(alloc);
+    for name in names.iter().rev() {
+        set = set.with(name)?;
+    }
+    set.list(alloc)
+}
+
+// A structure of what the environment has for each of these names.
+fn collected(alloc: Global, env: &Env, names: &[Name]) -> Result<Module, Mem>
     requires found { Bound env.now names.now }
     requires rising { NamesRise names.now }
     ensures { IfOk result (λ m. (fs : SigRow) × (es : TermRow) × Collected env.now names.now fs es × (module_of m ≡ made Pure (AbsTree.Ex [] (Str fs)) [] (Fields es))) }
 {
-    let mut parts = SigFields::with_capacity(alloc, names.items().len())?;
-    let mut terms = TermFields::with_capacity(alloc, names.items().len())?;
-    for name in names.items() {
+    let mut parts = SigFields::with_capacity(alloc, names.len())?;
+    let mut terms = TermFields::with_capacity(alloc, names.len())?;
+    for name in names {
         let Some(found) = env.find(alloc, name)? else {
             unreachable!();
         };

@@ -1,5 +1,6 @@
 // The rules of modules in code, one call for each rule, over premises that are elaborated already.
-// Stands on semantic_sigs, omega_shorthands and sig_instances, and on module_judgments, whose definitions its contracts cite.
+// Stands on semantic_sigs, omega_shorthands, sig_instances and sig_rules (sets of names), and on module_judgments, whose
+// definitions its contracts cite.
 // Proved: each call gives the conclusion of its rule, and each refusal exactly where its condition holds, the first one in
 // their order; of modules whose types are normal and have their kinds, and whose structures have different names.
 #![tactic(auto)]

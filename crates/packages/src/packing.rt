@@ -21,9 +21,9 @@ use std::alloc::Global;
 use type_normal::{NormalTy, as_normal, same};
 
 /// `pack S` as a type: the encoding of S with its quantifiers in their order, which has kind `*`. S is ordered explicit.
-/// It is the package type of each signature that matches S and that S matches, if the hidden types of both, and of all
-/// signatures inside, are rooted at the same paths, and the parameters of pure functors hide them in one order. `Err` is out
-/// of memory, also where an index would pass the last number.
+/// It is the package type of each signature that matches S and that S matches, under two conditions. The hidden types of
+/// both, and of all signatures inside, are rooted at the same paths; and the parameters of pure functors hide them in one
+/// order. `Err` is out of memory, also where an index would pass the last number.
 ///
 /// Rossberg, Russo and Dreyer, "F-ing modules", section 6, Modules as first-class values; the order of quantifiers is this
 /// project's own.

@@ -8,7 +8,7 @@
 ghost use Rattle.sig_judgments.specs.OneOutcome.{OneValue, OneType, OneAbstract, OneModule, OneSignature, OneInclude, OneDistinct, OneDeclarations, OneGenerative, OneWhere};
 
 /// Each rule of signatures and declarations gives exactly one signature, or has exactly one refusal, its first condition
-/// that fails; those that are never refused give exactly one. A signature with a hidden type fixed has normal types, and so
+/// that fails. Those that are never refused give exactly one. A signature with a hidden type fixed has normal types, and so
 /// has what it is fixed to; nothing else is asked.
 pub fn signature_rules()
     ensures value { OneValue }

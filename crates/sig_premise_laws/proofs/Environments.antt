@@ -100,7 +100,7 @@ bound-cond : (g : Env) (b : Bool) (xs ys : List Name) → Bound g xs → Bound g
 bound-cond g true xs ys p q = p
 bound-cond g false xs ys p q = q
 
-bound-with : (g : Env) (x : Name) (ls : List Name) → Found g x → Bound g ls → Bound g (with_name x ls)
+pub bound-with : (g : Env) (x : Name) (ls : List Name) → Found g x → Bound g ls → Bound g (with_name x ls)
 bound-with g x [] f b = (f, tt)
 bound-with g x (m ∷ ms) f b = bound-cond g (same_name x m) (m ∷ ms) _ b (bound-cond g (name_before x m) (x ∷ m ∷ ms) _ (f, b) (b.0, bound-with g x ms f b.1))
 

@@ -1,3 +1,4 @@
 pub mod Determined
 pub mod Environments
 pub mod Terms
+pub mod NameOrder

@@ -627,7 +627,7 @@ bindings::bind-returns-in-Include-clause-refused t c = refused-bind c.phrase.vie
 -- bindings in a row
 
 pub bindings::binds-returns-in_ok-end_rule-in-empty-clause-given : goal.bindings::binds-returns-in_ok-end_rule-in-empty-clause-given
-bindings::binds-returns-in_ok-end_rule-in-empty-clause-given t c = ended c.args.list.now (module_of c.in_ok-end_rule-in-empty.field-0) c.in-empty.len_below c.in_ok-end_rule-in-empty.ensures
+bindings::binds-returns-in_ok-end_rule-in-empty-clause-given t c = ended c.args.list.now (module_of c.in_ok-end_rule-in-empty.field-0) c.in-empty.len_below c.requires.names c.in_ok-end_rule-in-empty.ensures
 
 pub bindings::binds_under-returns-clause-same : goal.bindings::binds_under-returns-clause-same
 bindings::binds_under-returns-clause-same t c = mods-left-under c.args.env.now c.items.result.now _ c.args.name.now _ _ _ (c.items.ensures ∙ c.kinds.ensures) (c.in_ok-found.ensures.same ∙ c.in_ok-push_module.ensures) c.leave.ensures

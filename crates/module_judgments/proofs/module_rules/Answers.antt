@@ -1,3 +1,5 @@
+use Rattle.sig_definitions.specs.Signatures.FieldOrder.{in_order}
+use Rattle.sig_premise_laws.proofs.NameOrder.{bound-in_order}
 use Rattle.module_judgments.proofs.module_rules.Goals as goal
 use Rattle.module_judgments.proofs.Verdicts.{one_named, one_projected, one_pure_projected, one_type_path, one_value_path, one_sig_path, one_generative, one_parts, one_apply, one_include, one_seal, one_value_module, one_type_module, one_signature_module}
 use Rattle.module_judgments.proofs.Determined.{collected-one, seq-kinded}
@@ -33,7 +35,7 @@ pub returns-clause-include : goal.returns-clause-include
 returns-clause-include c = one_include
 
 pub returns-clause-end : goal.returns-clause-end
-returns-clause-end c = collected-one
+returns-clause-end c g names b = collected-one g (in_order names) (bound-in_order g names b)
 
 pub returns-clause-sequence : goal.returns-clause-sequence
 returns-clause-sequence c = seq-kinded

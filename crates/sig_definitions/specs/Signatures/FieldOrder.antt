@@ -19,6 +19,11 @@ abbrev pub with_name : Name → List Name → List Name
 with_name l [] = l ∷ []
 with_name l (m ∷ ms) = cond (same_name l m) (m ∷ ms) (cond (name_before l m) (l ∷ m ∷ ms) (m ∷ with_name l ms))
 
+-- these names in their order, once each
+abbrev pub in_order : List Name → List Name
+in_order [] = []
+in_order (l ∷ ls) = with_name l (in_order ls)
+
 abbrev pub with_names : SigRow → List Name → List Name
 with_names SigRow.End names = names
 with_names (SigRow.More l s fs) names = with_names fs (with_name l names)

@@ -4,11 +4,11 @@ use Rattle.omega_terms.specs.Fields.{term_row}
 use Rattle.semantic_sigs.specs.Fields.{sig_row}
 use Rattle.module_judgments.specs.Sequence.{Collected}
 use Rattle.module_rules.proofs.Ended.{firsts}
-use Rattle.module_rules.proofs.bindings.end_struct.Given as goal
+use Rattle.module_rules.proofs.bindings.collected.Given as goal
 
 abbrev pub invariant-loop-name : goal.invariant-loop-name
 invariant-loop-name l = record {
-  names : firsts l.parts ≡ take l.name-index l.name-items;
-  labels : firsts l.terms ≡ map Label.Name (take l.name-index l.name-items);
-  found : Collected l.env (take l.name-index l.name-items) (sig_row l.parts) (term_row l.terms);
+  names : firsts l.parts ≡ take l.name-index l.names;
+  labels : firsts l.terms ≡ map Label.Name (take l.name-index l.names);
+  found : Collected l.env (take l.name-index l.names) (sig_row l.parts) (term_row l.terms);
 }
