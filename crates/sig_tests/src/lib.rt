@@ -1,5 +1,5 @@
 // Tests of signatures in code through public calls, with ample memory: environments, root paths, matching, coercions,
-// scopes and texts. Stands on the crates of signatures in code, and on those of types and terms.
+// package types, scopes and texts. Stands on the crates of signatures in code, and on those of types and terms.
 // Proved: that no test reads out of bounds, overflows or breaks what a call asks for. What they assert is tested alone.
 #![tactic(auto)]
 
@@ -11,6 +11,8 @@ mod instances;
 mod literals;
 #[cfg(test)]
 mod matching;
+#[cfg(test)]
+mod packaged;
 #[cfg(test)]
 mod refusal_texts;
 #[cfg(test)]

@@ -11,11 +11,12 @@ use std::alloc::Global;
 use std::test::Fail;
 use type_normal::{NormalTy, as_normal};
 
-/// A kind: that of types, or `(> * *)`.
+/// A kind: that of types, `(> * *)`, or `(> * (> * *))`.
 #[derive(Clone, Copy)]
 pub enum KindLit {
     Star,
     Op,
+    Two,
 }
 
 /// A type: a variable by its index, an operator at an argument, `(lam * ..)`, or the closed type of an Omega text.
@@ -27,13 +28,14 @@ pub enum TyLit<'a> {
     Closed(&'a str),
 }
 
-/// A signature. The types of type parts are of kind `*`, but for those of `Op`.
+/// A signature. The types of type parts are of kind `*`, but for those of `Op` and `Two`, which are of the kinds so called.
 #[cycle(literal)]
 #[derive(Clone, Copy)]
 pub enum SigLit<'a> {
     Val(TyLit<'a>),
     Typ(TyLit<'a>),
     Op(TyLit<'a>),
+    Two(TyLit<'a>),
     Meta(&'a Ex<'a>),
     Str(&'a [(&'a str, SigLit<'a>)]),
     Fun(Effect, &'a [KindLit], &'a SigLit<'a>, &'a Ex<'a>),
@@ -97,6 +99,7 @@ fn kind(alloc: Global, literal: KindLit) -> Result<Kind, Mem> {
     match literal {
         KindLit::Star => Ok(Kind::Star),
         KindLit::Op => arrow(alloc, Kind::Star, Kind::Star),
+        KindLit::Two => arrow(alloc, Kind::Star, arrow(alloc, Kind::Star, Kind::Star)?),
     }
 }
 
@@ -154,6 +157,10 @@ pub fn sig(alloc: Global, literal: &SigLit<'_>) -> Result<Sig, Fail> {
         SigLit::Op(of) => {
             let of = ty(alloc, of)?;
             Ok(Sig::make(alloc, SigNode::Typ(of, kind(alloc, KindLit::Op)?))?)
+        }
+        SigLit::Two(of) => {
+            let of = ty(alloc, of)?;
+            Ok(Sig::make(alloc, SigNode::Typ(of, kind(alloc, KindLit::Two)?))?)
         }
         SigLit::Meta(of) => Ok(Sig::make(alloc, SigNode::Meta(abs(alloc, of)?))?),
         SigLit::Str(parts) => Ok(Sig::make(alloc, SigNode::Str(fields(alloc, parts)?))?),
