@@ -2,9 +2,9 @@
 // Stands on elab_laws (what elaboration derives is well typed and ordered), sig_match_laws (matching as functions) and
 // omega_spelling (what a text is).
 // Proved: a type or a term has a spelling if and only if it is legible and its variables are in scope (`spelled_trees`).
-// Legible speaks of labels, numbers, texts, the order of fields and the forms of the version alone. In closed ones the
-// variables are in scope (`closed_trees`). What a spelled phrase means is legible (`legible_meanings`). So a program's whole
-// term has a text, which reads back (`program_texts`).
+// Legible speaks of labels, numbers, texts, the order of fields and branches, and the forms of the version alone. The
+// variables of closed types and terms are in scope (`closed_trees`). What a spelled phrase means is legible
+// (`legible_meanings`). So a program's whole term has a text, which reads back (`program_texts`).
 #![tactic(auto)]
 
 ghost use Rattle.elab_spelling.specs.Claims.{TypesAreSpelled, TermsAreSpelled, ClosedTypesInScope, ClosedTermsInScope, EncodingsAreLegible, MatchesAreLegible};
