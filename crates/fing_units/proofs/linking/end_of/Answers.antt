@@ -1,4 +1,4 @@
-use Rattle.std.proofs.Common.{[], sym, ap, map, take_all, ◌∙◌, subst}
+use Rattle.std.proofs.Common.{[], ap, map, take_all, ◌∙◌, subst}
 use Rattle.std.specs.Prelude.{IfOk}
 use Rattle.sig_definitions.specs.Signatures.FieldOrder.{in_order}
 use Rattle.sig_premise_laws.proofs.NameOrder.{in_order-same}
@@ -16,7 +16,7 @@ loop-unit-preserved c =
 pub returns : goal.returns
 returns c =
     let us = c.args.units.now in
-    let all = take_all c.args.units.now c.loop-unit.unit-index c.loop-unit-test.false in
+    let all = take_all c.loop-unit.unit-index us c.loop-unit-test.false in
     let env = c.loop-unit.invariant.0 ∙ ap (λ xs. env_of (map interface_of (units_of xs))) all in
     let names = c.in_ok-list.ensures ∙ (c.loop-unit.invariant.1 ∙ ap (λ xs. names_after [] (units_of xs)) all) in
     subst (λ g. IfOk c.end_struct.result (Ends g (names_after [] (units_of us)))) env
