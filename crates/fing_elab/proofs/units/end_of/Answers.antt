@@ -1,4 +1,4 @@
-use Rattle.std.proofs.Common.{sym, ap, ◌∙◌, subst}
+use Rattle.std.proofs.Common.{ap, ◌∙◌, subst}
 use Rattle.std.specs.Prelude.{IfOk, [], ◌∷◌, ◌++◌}
 use Rattle.sig_definitions.specs.Signatures.FieldOrder.{in_order}
 use Rattle.sig_premise_laws.proofs.NameOrder.{in_order-same}
