@@ -620,10 +620,10 @@ class Reply(Reader):
             self.need(b" ")
             if self.name() != source[start:stop]:
                 raise Malformed("the name is not what stands at the place")
-        elif word == b"Duplicate":
+        elif word in (b"Duplicate", b"NoBranch"):
             self.need(b" ")
             self.name()
-        elif word in (b"NotArrow", b"NotAll", b"NotRecord"):
+        elif word in (b"NotArrow", b"NotAll", b"NotRecord", b"NotSum", b"NotData"):
             self.need(b" ")
             self.normal(None)
         elif word == b"Differ":

@@ -1,3 +1,5 @@
+pub mod DataVerdicts
 pub mod Equal
 pub mod ExpVerdicts
+pub mod SumVerdicts
 pub mod TypeVerdicts

@@ -1,4 +1,5 @@
 pub mod CoreWhy
+pub mod DataRules
 pub mod ExpRules
 pub mod OneOutcome
 pub mod TypeRules

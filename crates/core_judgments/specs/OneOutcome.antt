@@ -9,7 +9,8 @@ use Rattle.omega_terms.specs.Term.{Term, TermRow}
 use Rattle.sig_definitions.specs.Verdict.{Verdict}
 use Rattle.core_judgments.specs.CoreWhy.{CoreWhy}
 use Rattle.core_judgments.specs.TypeRules.{Base, BaseGives, ArrowGives, ArrowRefuses, AllGives, AllRefuses, OperatorGives, AppliedGives, AppliedRefuses, FieldTy, RecordTypeGives, RecordTypeRefuses}
-use Rattle.core_judgments.specs.ExpRules.{Literal, LiteralGives, FunctionGives, FunctionRefuses, TypeFunctionGives, CallGives, CallRefuses, InstanceGives, InstanceRefuses, GetGives, GetRefuses, IfGives, IfRefuses, OperationGives, OperationRefuses, FixGives, FixRefuses, FieldExp, RecordGives, RecordRefuses}
+use Rattle.core_judgments.specs.ExpRules.{Literal, LiteralGives, FunctionGives, FunctionRefuses, TypeFunctionGives, CallGives, CallRefuses, InstanceGives, InstanceRefuses, GetGives, GetRefuses, IfGives, IfRefuses, OperationGives, OperationRefuses, FixGives, FixRefuses, FieldExp, RecordGives, RecordRefuses, SumGives, SumRefuses, LabelGives, LabelRefuses, InjectionGives, InjectionRefuses, CaseGives, CaseRefuses}
+use Rattle.core_judgments.specs.DataRules.{DataWhy, MuGives, MuRefuses, RollGives, RollRefuses, UnrollGives, UnrollRefuses}
 
 -- a rule without a refusal
 abbrev pub Never : CoreWhy → Type 0
@@ -62,3 +63,24 @@ OneFix = (t : Ty) (k : Kind) (u : Ty) (j : Kind) (v : Ty) (e : Term) → Verdict
 
 abbrev pub OneRecord : Type 0
 OneRecord = (before : List Name) (fields : List FieldExp) → Verdict (λ (o : Row × TermRow). RecordGives before fields o.0 o.1) (RecordRefuses before fields)
+
+abbrev pub OneSum : Type 0
+OneSum = (t : Ty) → Verdict (SumGives t) (SumRefuses t)
+
+abbrev pub OneLabel : Type 0
+OneLabel = (t : Ty) (l : Name) → Verdict (LabelGives t l) (LabelRefuses t l)
+
+abbrev pub OneInjection : Type 0
+OneInjection = (l : Name) (v : Ty) (e : Term) (t : Ty) (k : Kind) → Verdict (λ (o : Ty × Term). InjectionGives l v e t k o.0 o.1) (InjectionRefuses l v t k)
+
+abbrev pub OneCase : Type 0
+OneCase = (w : Ty) (e : Term) (t : Ty) (k : Kind) (branches : List FieldExp) → Verdict (λ (o : Ty × Term). CaseGives w e t k branches o.0 o.1) (CaseRefuses w t k branches)
+
+abbrev pub OneMu : Type 0
+OneMu = (t : Ty) (k : Kind) → Verdict {R = DataWhy} (λ (o : Ty × Kind). MuGives t k o.0 o.1) (MuRefuses t k)
+
+abbrev pub OneRoll : Type 0
+OneRoll = (ctx : List Kind) (v : Ty) (e : Term) (t : Ty) (k : Kind) → HasKind ctx t k → Verdict {R = DataWhy} (λ (o : Ty × Term). RollGives ctx v e t k o.0 o.1) (RollRefuses ctx v t k)
+
+abbrev pub OneUnroll : Type 0
+OneUnroll = (ctx : List Kind) (t : Ty) (e : Term) → HasKind ctx t Kind.Star → Verdict {R = DataWhy} (λ (o : Ty × Term). UnrollGives ctx t e o.0 o.1) (UnrollRefuses t)

@@ -56,12 +56,12 @@ pub data AppliedRefuses : (operator : Ty) (kind : Kind) (arg : Ty) (arg_kind : K
       → l ≢ k
       → AppliedRefuses t (Kind.Arrow k j) u l (KindDiffer l k)
 
--- a field of a record type
+-- a field of a record type, or a label of a sum type with its type
 pub data FieldTy : Type 0 where
   field : (name : Name) (ty : Ty) (kind : Kind) → FieldTy
 
--- {X : T, ..}: fields of different names, each of a type of values, after fields of the names before; the record type has
--- them in the order of their labels
+-- {X : T, ..} and case {X : T, ..}: fields of different names, each of a type of values, after fields of the names before;
+-- the record type, or the sum type, has them in the order of their labels
 pub data RecordTypeGives : (before : List Name) → List FieldTy → Row → Type 0 where
   no_fields : {before : List Name} → RecordTypeGives before [] Row.End
   next_field : {before : List Name} {l : Name} {t : Ty} {rest : List FieldTy} {row : Row}

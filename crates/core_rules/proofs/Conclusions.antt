@@ -37,6 +37,22 @@ exit {T} F w Q f r e out h =
     let P : Result T CoreRefusal → Type 0 = λ s. IfErr s (λ y. IfSome (plain_why y) Q) in
     subst P (sym p.1) (subst (λ y. IfSome (plain_why y) Q) (sym p.2) (some-weaker (plain_why e) (λ why. F × (why ≡ w)) Q (λ why g. subst Q (sym g.1) (f g.0)) h))
 
+-- the exit at a call that is refused by this rule, or by a part of it
+pub passed : {T : Type 0} (P Q : CoreWhy → Type 0) → ((w : CoreWhy) → P w → Q w) → (r : Result T CoreRefusal) (e : CoreRefusal) → IsErrAnd r (λ y. y ≡ e) → IfSome (plain_why e) P → IfErr r (λ y. IfSome (plain_why y) Q)
+passed {T} P Q f r e out h =
+    let p = err_from_is_err_and r out in
+    let R : Result T CoreRefusal → Type 0 = λ s. IfErr s (λ y. IfSome (plain_why y) Q) in
+    subst R (sym p.1) (subst (λ y. IfSome (plain_why y) Q) (sym p.2) (some-weaker (plain_why e) P Q f h))
+
+-- a last call's answer
+pub given-more : {T E : Type 0} (P Q : T → Type 0) → ((x : T) → P x → Q x) → (r : Result T E) → IfOk r P → IfOk r Q
+given-more P Q f (Ok x) h = f x h
+given-more P Q f (Err e) h = tt
+
+pub refused-more : {T : Type 0} (P Q : CoreWhy → Type 0) → ((w : CoreWhy) → P w → Q w) → (r : Result T CoreRefusal) → IfErr r (λ e. IfSome (plain_why e) P) → IfErr r (λ e. IfSome (plain_why e) Q)
+refused-more P Q f (Ok x) h = tt
+refused-more P Q f (Err e) h = some-weaker (plain_why e) P Q f h
+
 -- what holds of both parts that a last call gives
 pub both-given : {T E A B : Type 0} (f : T → A) (g : T → B) (Q : A → B → Type 0) (r : Result T E) (a : A) (b : B) → IfOk r (λ x. f x ≡ a) → IfOk r (λ x. g x ≡ b) → Q a b → IfOk r (λ x. Q (f x) (g x))
 both-given f g Q (Ok x) a b e h q = subst₂ Q (sym e) (sym h) q

@@ -27,7 +27,7 @@ cond-none false x o e = (refl, e)
 none-cond : {A : Type 0} (b : Bool) (x : A) (o : Option A) → b ≡ false → o ≡ None → cond b (Some x) o ≡ None
 none-cond b x o e f = ap (λ c. cond c (Some x) o) e ∙ f
 
-not-equal : (l m : Name) → l ≢ m → is_eq (name_cmp l m) ≡ false
+pub not-equal : (l m : Name) → l ≢ m → is_eq (name_cmp l m) ≡ false
 not-equal l m n = go (name_cmp l m) refl
   where
     go : (o : Ordering) → name_cmp l m ≡ o → is_eq (name_cmp l m) ≡ false
@@ -42,17 +42,17 @@ named : (l m : Name) → l ≢ m → Label.Name l ≢ Label.Name m
 named l m n e = n (ap spelling e)
 
 module _ {A : Type 0} where
-  entry-less : (l : Name) (a : A) (e : Name × A) (es : List (Name × A)) → name_cmp l e.0 ≡ Less → insert_entry name_cmp (e ∷ es) l a ≡ (l, a) ∷ e ∷ es
+  pub entry-less : (l : Name) (a : A) (e : Name × A) (es : List (Name × A)) → name_cmp l e.0 ≡ Less → insert_entry name_cmp (e ∷ es) l a ≡ (l, a) ∷ e ∷ es
   entry-less l a e es p = ap (λ o. match_ordering o ((l, a) ∷ e ∷ es) ((e.0, a) ∷ es) (e ∷ insert_entry name_cmp es l a)) p
 
-  entry-equal : (l : Name) (a : A) (e : Name × A) (es : List (Name × A)) → name_cmp l e.0 ≡ Equal → insert_entry name_cmp (e ∷ es) l a ≡ (e.0, a) ∷ es
+  pub entry-equal : (l : Name) (a : A) (e : Name × A) (es : List (Name × A)) → name_cmp l e.0 ≡ Equal → insert_entry name_cmp (e ∷ es) l a ≡ (e.0, a) ∷ es
   entry-equal l a e es p = ap (λ o. match_ordering o ((l, a) ∷ e ∷ es) ((e.0, a) ∷ es) (e ∷ insert_entry name_cmp es l a)) p
 
-  entry-greater : (l : Name) (a : A) (e : Name × A) (es : List (Name × A)) → name_cmp l e.0 ≡ Greater → insert_entry name_cmp (e ∷ es) l a ≡ e ∷ insert_entry name_cmp es l a
+  pub entry-greater : (l : Name) (a : A) (e : Name × A) (es : List (Name × A)) → name_cmp l e.0 ≡ Greater → insert_entry name_cmp (e ∷ es) l a ≡ e ∷ insert_entry name_cmp es l a
   entry-greater l a e es p = ap (λ o. match_ordering o ((l, a) ∷ e ∷ es) ((e.0, a) ∷ es) (e ∷ insert_entry name_cmp es l a)) p
 
   -- an entry of this name would be found
-  no-equal : (l : Name) (e : Name × A) (es : List (Name × A)) → at_name l (e ∷ es) ≡ None → name_cmp l e.0 ≡ Equal → ⊥
+  pub no-equal : (l : Name) (e : Name × A) (es : List (Name × A)) → at_name l (e ∷ es) ≡ None → name_cmp l e.0 ≡ Equal → ⊥
   no-equal l e es h p = false≢true (sym (cond-none (is_eq (name_cmp l e.0)) e.1 (at_name l es) h).0 ∙ ap is_eq p)
 
   none-other : (l m : Name) (a : A) (es : List (Name × A)) → l ≢ m → at_name m es ≡ None → at_name l es ≡ None → at_name l (insert_entry name_cmp es m a) ≡ None

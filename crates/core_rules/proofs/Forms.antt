@@ -7,7 +7,7 @@ use Rattle.omega_types.specs.declared.tree.Ty.{Ty as TyHandle}
 use Rattle.omega_types.specs.declared.tree.TyFields.{TyFields}
 use Rattle.omega_types.specs.declared.tree.TyNode.{TyNode}
 use Rattle.omega_types.specs.declared.tree.TyNode.TheVariants as node
-use Rattle.core_judgments.specs.CoreWhy.{NotArrow, NotAll, NotRecord, IsNoArrow, IsNoAll, IsNoRecord}
+use Rattle.core_judgments.specs.CoreWhy.{NotArrow, NotAll, NotRecord, IsNoArrow, IsNoAll, IsNoRecord, IsNoSum}
 use Rattle.core_judgments.specs.ExpRules.{CallRefuses, InstanceRefuses, GetRefuses}
 use Rattle.omega_kinds.specs.Kind.{Kind}
 use Rattle.omega_kinds.specs.Name.{Name}
@@ -62,6 +62,23 @@ record-node (node.Apply a b) h = tt
 
 no-record : (n : TyNode) (s t : Ty) → ty_of n ≡ s → s ≡ t → ((f : TyFields) → n ≡ node.Fields f → ⊥) → IsNoRecord t
 no-record n s t p q h = subst IsNoRecord (p ∙ q) (record-node n h)
+
+sum-node : (n : TyNode) → ((f : TyFields) → n ≡ node.Sum f → ⊥) → IsNoSum (ty_of n)
+sum-node (node.Var i) h = tt
+sum-node node.Int h = tt
+sum-node node.Bool h = tt
+sum-node node.Text h = tt
+sum-node (node.Arrow a b) h = tt
+sum-node (node.Fields f) h = tt
+sum-node (node.Sum f) h = absurd (h f refl)
+sum-node (node.All k b) h = tt
+sum-node (node.Ex k b) h = tt
+sum-node (node.Mu b) h = tt
+sum-node (node.Lam k b) h = tt
+sum-node (node.Apply a b) h = tt
+
+pub no-sum : (n : TyNode) (s t : Ty) → ty_of n ≡ s → s ≡ t → ((f : TyFields) → n ≡ node.Sum f → ⊥) → IsNoSum t
+no-sum n s t p q h = subst IsNoSum (p ∙ q) (sum-node n h)
 
 -- the type is kept
 

@@ -1,5 +1,7 @@
+mod Cases
 mod Conclusions
 mod Entries
 mod Forms
 mod Inserting
 mod RecordSteps
+mod SumRules

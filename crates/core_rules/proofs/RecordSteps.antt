@@ -28,11 +28,11 @@ use Rattle.core_rules.proofs.Entries.{at_name, Seen, none, more, none-new, new-n
 
 -- the map's answer
 
-none-is : {A : Type 0} (o : Option A) → is_some o ≡ false → o ≡ None
+pub none-is : {A : Type 0} (o : Option A) → is_some o ≡ false → o ≡ None
 none-is None e = refl
 none-is (Some x) e = absurd (false≢true (sym e))
 
-some-is : {A : Type 0} (o : Option A) → is_some o ≡ true → o ≡ None → ⊥
+pub some-is : {A : Type 0} (o : Option A) → is_some o ≡ true → o ≡ None → ⊥
 some-is None e f = false≢true e
 some-is (Some x) e f = absurd (let g : Some x ≡ None → ⊥ = λ p. cc in g f)
 
@@ -92,7 +92,7 @@ types-end whole es (xs, before, s, e) =
 
 -- records
 
-exps-push : (xs : List (Name × Typed)) (x : Name × Typed) (rest : List FieldExp) → exp_fields (xs ++ x ∷ []) ++ rest ≡ exp_fields xs ++ (field_exp x.0 x.1.ty x.1.term ∷ rest)
+pub exps-push : (xs : List (Name × Typed)) (x : Name × Typed) (rest : List FieldExp) → exp_fields (xs ++ x ∷ []) ++ rest ≡ exp_fields xs ++ (field_exp x.0 x.1.ty x.1.term ∷ rest)
 exps-push [] x rest = refl
 exps-push (y ∷ xs) x rest = ap (λ ys. field_exp y.0 y.1.ty y.1.term ∷ ys) (exps-push xs x rest)
 
@@ -147,7 +147,7 @@ labels-rise f [] h = tt
 labels-rise f (x ∷ []) h = tt
 labels-rise f (x ∷ y ∷ es) h = (ap is_lt h.0.0, labels-rise f (y ∷ es) h.1)
 
-follows-first : {T : Type 0} (done : List (Label × T)) (x : Label × T) (rest : List (Label × T)) → Rises (done ++ x ∷ rest) → MayFollow done x.0
+pub follows-first : {T : Type 0} (done : List (Label × T)) (x : Label × T) (rest : List (Label × T)) → Rises (done ++ x ∷ rest) → MayFollow done x.0
 follows-first [] x rest r = tt
 follows-first (y ∷ []) x rest r = r.0
 follows-first (y ∷ z ∷ done) x rest r = follows-first (z ∷ done) x rest r.1

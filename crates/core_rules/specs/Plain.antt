@@ -15,7 +15,9 @@ abbrev pub plain_why : CoreRefusal → Option CoreWhy
 plain_why (refusal.NotArrow t) = Some (CoreWhy.NotArrow t)
 plain_why (refusal.NotAll t) = Some (CoreWhy.NotAll t)
 plain_why (refusal.NotRecord t) = Some (CoreWhy.NotRecord t)
+plain_why (refusal.NotSum t) = Some (CoreWhy.NotSum t)
 plain_why (refusal.NoField name) = Some (CoreWhy.NoField name)
+plain_why (refusal.NoBranch name) = Some (CoreWhy.NoBranch name)
 plain_why (refusal.Differ t u) = Some (CoreWhy.Differ t u)
 plain_why (refusal.KindDiffer k j) = Some (CoreWhy.KindDiffer (kind_tree k) (kind_tree j))
 plain_why refusal.NotOperator = Some CoreWhy.NotOperator

@@ -111,8 +111,8 @@ pub fn inst_exp(alloc: Global, function: Typed, arg: &Kinded) -> Result<Typed, C
     Ok(Typed { ty, term })
 }
 
-// The type of a field of a record; `None` exactly where it has no such field.
-fn field_type(fields: &TyFields, label: &Label) -> Result<Option<NormalTy>, Mem>
+// The type of a field of a record or of a label of a sum; `None` exactly where it has none such.
+pub(crate) fn field_type(fields: &TyFields, label: &Label) -> Result<Option<NormalTy>, Mem>
     ensures { IfOk result (λ o. MatchOption o ((t : TyTree) → HasPart (row fields.now) label.now t → ⊥) (λ t. HasPart (row fields.now) label.now t)) }
 {
     match fields.find(label) {

@@ -1,10 +1,11 @@
-// The rules of record types and of records.
+// The rules of record types and of records. A sum type has its parts as a record type has them.
 ghost use Rattle.std.specs.Prelude.{◌≡◌, [], true, false, IfErr, IfOk, IfSome, OnOk};
 ghost use Rattle.std.specs.BTreeMap.{insert_entry};
 ghost use Rattle.omega_kinds.specs.LabelOrder.{name_cmp};
 ghost use Rattle.omega_kinds.specs.View.{kind_tree};
+ghost use Rattle.omega_types.specs.Fields.{row};
 ghost use Rattle.core_judgments.specs.CoreWhy.{CoreWhy as Why};
-ghost use Rattle.core_judgments.specs.TypeRules.{RecordTypeRefuses};
+ghost use Rattle.core_judgments.specs.TypeRules.{RecordTypeGives, RecordTypeRefuses};
 ghost use Rattle.core_judgments.specs.ExpRules.{RecordRefuses};
 ghost use Rattle.core_rules.specs.Plain.{plain_why};
 ghost use Rattle.core_rules.specs.Records.{RecordIs, RecordTypeIs, exp_fields, labelled, type_fields};
@@ -29,18 +30,29 @@ pub fn fields_ty(alloc: Global, fields: Vec<(Name, Kinded)>) -> Result<Kinded, C
     ensures given { IfOk result (λ o. RecordTypeIs (type_fields fields.items) o.ty (kind_tree o.kind)) }
     ensures refused { IfErr result (λ e. IfSome (plain_why e) (λ why. RecordTypeRefuses [] (type_fields fields.items) why)) }
 {
+    let node = TyNode::Fields(type_parts(alloc, fields)?);
+    Ok(of_values(alloc, node)?)
+}
+
+// The parts of a record type or of a sum type, in the order of labels.
+pub(crate) fn type_parts(
+    alloc: Global,
+    fields: Vec<(Name, Kinded)>,
+) -> Result<TyFields, CoreRefusal>
+    ensures given { IfOk result (λ parts. RecordTypeGives [] (type_fields fields.items) (row parts)) }
+    ensures refused { IfErr result (λ e. IfSome (plain_why e) (λ why. RecordTypeRefuses [] (type_fields fields.items) why)) }
+{
     let mut parts = BTreeMap::new(alloc);
     for field in &fields {
         expect_new(parts.contains_key(&field.0), &field.0)?;
         expect_star(&field.1.kind)?;
         add_type(&mut parts, &field.0, &field.1.ty)?;
     }
-    let node = TyNode::Fields(type_row(alloc, &parts)?);
-    Ok(of_values(alloc, node)?)
+    Ok(type_row(alloc, &parts)?)
 }
 
 // The name is none of those before.
-fn expect_new(known: bool, name: &Name) -> Result<(), CoreRefusal>
+pub(crate) fn expect_new(known: bool, name: &Name) -> Result<(), CoreRefusal>
     ensures ok { OnOk result (known ≡ false) }
     ensures refused { IfErr result (λ e. IfSome (plain_why e) (λ why. (known ≡ true) × (why ≡ Why.DuplicateField name.now))) }
 {
@@ -88,8 +100,12 @@ pub fn fields_exp(alloc: Global, fields: Vec<(Name, Typed)>) -> Result<Typed, Co
     Ok(Typed { ty, term })
 }
 
-// One more part of a record.
-fn add_exp(parts: &mut BTreeMap<Name, Typed>, name: &Name, exp: &Typed) -> Result<(), Mem>
+// One more part of a record, or one more branch of a case.
+pub(crate) fn add_exp(
+    parts: &mut BTreeMap<Name, Typed>,
+    name: &Name,
+    exp: &Typed,
+) -> Result<(), Mem>
     ensures { OnOk result (parts.new.entries ≡ insert_entry name_cmp parts.old.entries name.now exp.now) }
 {
     let copy = Typed {

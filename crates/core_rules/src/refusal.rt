@@ -11,15 +11,19 @@ pub enum CoreRefusal {
     NotAll(NormalTy),
     /// What a field is taken of has this type, which is no record.
     NotRecord(NormalTy),
-    /// The record has no field of this name.
+    /// What is injected into, or taken apart by cases, has this type, which is no sum.
+    NotSum(NormalTy),
+    /// The record has no field, or the sum no label, of this name.
     NoField(Name),
+    /// This is the least label of the sum without a branch.
+    NoBranch(Name),
     /// The first type was found, the second was needed.
     Differ(NormalTy, NormalTy),
     /// The first kind was found, the second was needed.
     KindDiffer(Kind, Kind),
     /// What is applied to a type has kind `*`.
     NotOperator,
-    /// A record has this name twice.
+    /// A record, a sum or a case has this name twice.
     DuplicateField(Name),
     /// Want of memory.
     Mem,

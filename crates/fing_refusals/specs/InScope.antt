@@ -14,6 +14,8 @@ ReasonInScope n (ElabWhy.Clash p why) = ClashInScope n why
 ReasonInScope n (ElabWhy.NotArrow t) = TyInScope n t
 ReasonInScope n (ElabWhy.NotAll t) = TyInScope n t
 ReasonInScope n (ElabWhy.NotRecord t) = TyInScope n t
+ReasonInScope n (ElabWhy.NotSum t) = TyInScope n t
+ReasonInScope n (ElabWhy.NotData t) = TyInScope n t
 ReasonInScope n (ElabWhy.Differ t u) = TyInScope n t × TyInScope n u
 ReasonInScope n _ = Unit {0}
 

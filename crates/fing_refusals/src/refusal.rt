@@ -33,8 +33,14 @@ pub enum ElabWhy {
     NotAll(NormalTy),
     /// What a field is taken of has this type, which is no record.
     NotRecord(NormalTy),
-    /// The record has no field of this name.
+    /// What is injected into, or taken apart by cases, has this type, which is no sum.
+    NotSum(NormalTy),
+    /// What is rolled to, or unrolled, is this type, which is no recursive one.
+    NotData(NormalTy),
+    /// The record has no field, or the sum no label, of this name.
     NoField(Name),
+    /// This is the least label of the sum without a branch.
+    NoBranch(Name),
     /// The first type was found, the second was needed.
     Differ(NormalTy, NormalTy),
     /// The first kind was found, the second was needed.

@@ -73,7 +73,10 @@ fn write_reason<K: Sink>(sink: &mut K, types: u64, why: &ElabWhy) -> Result<(), 
         ElabWhy::NotArrow(ty) => write_one(sink, b"NotArrow ", Piece::Ty(types, ty)),
         ElabWhy::NotAll(ty) => write_one(sink, b"NotAll ", Piece::Ty(types, ty)),
         ElabWhy::NotRecord(ty) => write_one(sink, b"NotRecord ", Piece::Ty(types, ty)),
+        ElabWhy::NotSum(ty) => write_one(sink, b"NotSum ", Piece::Ty(types, ty)),
+        ElabWhy::NotData(ty) => write_one(sink, b"NotData ", Piece::Ty(types, ty)),
         ElabWhy::NoField(name) => write_one(sink, b"NoField ", Piece::Bytes(name.bytes())),
+        ElabWhy::NoBranch(name) => write_one(sink, b"NoBranch ", Piece::Bytes(name.bytes())),
         ElabWhy::Differ(found, needed) => {
             write_two_types(sink, b"Differ ", types, found, needed)
         }

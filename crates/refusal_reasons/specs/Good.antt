@@ -16,6 +16,8 @@ GoodWhy ctx (ElabWhy.Clash path why) = GoodClash ctx why
 GoodWhy ctx (ElabWhy.NotArrow t) = Normal ctx t Kind.Star
 GoodWhy ctx (ElabWhy.NotAll t) = Normal ctx t Kind.Star
 GoodWhy ctx (ElabWhy.NotRecord t) = Normal ctx t Kind.Star
+GoodWhy ctx (ElabWhy.NotSum t) = Normal ctx t Kind.Star
+GoodWhy ctx (ElabWhy.NotData t) = Normal ctx t Kind.Star
 GoodWhy ctx (ElabWhy.Differ t u) = Normal ctx t Kind.Star × Normal ctx u Kind.Star
 GoodWhy ctx _ = Unit {0}
 

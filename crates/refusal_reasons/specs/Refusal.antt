@@ -13,8 +13,8 @@ pub data ElabWhy : Type 0 where
   NoPart : (name : Name) → ElabWhy
   NoRoot : (number : ℕ) (path : SigPath) → ElabWhy
   Clash : (path : SigPath) (why : Why) → ElabWhy
-  NotArrow NotAll NotRecord : (found : Ty) → ElabWhy
-  NoField : (name : Name) → ElabWhy
+  NotArrow NotAll NotRecord NotSum NotData : (found : Ty) → ElabWhy
+  NoField NoBranch : (name : Name) → ElabWhy
   Differ : (found needed : Ty) → ElabWhy
   KindDiffer : (found needed : Kind) → ElabWhy
   DuplicateField Duplicate : (name : Name) → ElabWhy

@@ -14,6 +14,8 @@ reason_scoped n (ElabWhy.Clash p why) = clash_scoped n why
 reason_scoped n (ElabWhy.NotArrow t) = ty_scoped n t
 reason_scoped n (ElabWhy.NotAll t) = ty_scoped n t
 reason_scoped n (ElabWhy.NotRecord t) = ty_scoped n t
+reason_scoped n (ElabWhy.NotSum t) = ty_scoped n t
+reason_scoped n (ElabWhy.NotData t) = ty_scoped n t
 reason_scoped n (ElabWhy.Differ t u) = ty_scoped n t && ty_scoped n u
 reason_scoped n _ = true
 
@@ -31,6 +33,8 @@ reason_depth (ElabWhy.Clash p why) = clash_depth why
 reason_depth (ElabWhy.NotArrow t) = ty_depth t
 reason_depth (ElabWhy.NotAll t) = ty_depth t
 reason_depth (ElabWhy.NotRecord t) = ty_depth t
+reason_depth (ElabWhy.NotSum t) = ty_depth t
+reason_depth (ElabWhy.NotData t) = ty_depth t
 reason_depth (ElabWhy.Differ t u) = max (ty_depth t) (ty_depth u)
 reason_depth _ = 0
 

@@ -29,6 +29,8 @@ fn fits_reason(types: u64, why: &ElabWhy) -> bool
         ElabWhy::NotArrow(ty) => ty_in_scope(types, plain(ty)),
         ElabWhy::NotAll(ty) => ty_in_scope(types, plain(ty)),
         ElabWhy::NotRecord(ty) => ty_in_scope(types, plain(ty)),
+        ElabWhy::NotSum(ty) => ty_in_scope(types, plain(ty)),
+        ElabWhy::NotData(ty) => ty_in_scope(types, plain(ty)),
         ElabWhy::Differ(found, needed) => fits_two(types, found, needed),
         ElabWhy::Unbound(_)
         | ElabWhy::NotStructure
@@ -38,6 +40,7 @@ fn fits_reason(types: u64, why: &ElabWhy) -> bool
         | ElabWhy::Escapes
         | ElabWhy::NoRoot { .. }
         | ElabWhy::NoField(_)
+        | ElabWhy::NoBranch(_)
         | ElabWhy::KindDiffer(_, _)
         | ElabWhy::NotOperator
         | ElabWhy::DuplicateField(_)

@@ -1,5 +1,6 @@
 // Tests of signatures in code through public calls, with ample memory: environments, root paths, matching, coercions,
-// package types, scopes and texts. Stands on the crates of signatures in code, and on those of types and terms.
+// package types, sums and recursive types, scopes and texts. Stands on the crates of signatures in code, and on those of
+// types and terms.
 // Proved: that no test reads out of bounds, overflows or breaks what a call asks for. What they assert is tested alone.
 #![tactic(auto)]
 
@@ -14,6 +15,8 @@ mod matching;
 #[cfg(test)]
 mod packaged;
 #[cfg(test)]
+mod recursive_types;
+#[cfg(test)]
 mod refusal_texts;
 #[cfg(test)]
 mod roots;
@@ -23,5 +26,7 @@ mod scopes;
 mod sig_texts;
 #[cfg(test)]
 mod signatures_made;
+#[cfg(test)]
+mod sums;
 #[cfg(test)]
 mod term_texts;

@@ -78,7 +78,10 @@ pub enum WhyLit<'a> {
     NotArrow(TyLit<'a>),
     NotAll(TyLit<'a>),
     NotRecord(TyLit<'a>),
+    NotSum(TyLit<'a>),
+    NotData(TyLit<'a>),
     NoField(&'a str),
+    NoBranch(&'a str),
     Differ(TyLit<'a>, TyLit<'a>),
     KindDiffer(KindLit, KindLit),
     NotOperator,
@@ -257,7 +260,10 @@ pub fn why(alloc: Global, literal: &WhyLit<'_>) -> Result<ElabWhy, Fail> {
         WhyLit::NotArrow(of) => Ok(ElabWhy::NotArrow(ty(alloc, of)?)),
         WhyLit::NotAll(of) => Ok(ElabWhy::NotAll(ty(alloc, of)?)),
         WhyLit::NotRecord(of) => Ok(ElabWhy::NotRecord(ty(alloc, of)?)),
+        WhyLit::NotSum(of) => Ok(ElabWhy::NotSum(ty(alloc, of)?)),
+        WhyLit::NotData(of) => Ok(ElabWhy::NotData(ty(alloc, of)?)),
         WhyLit::NoField(text) => Ok(ElabWhy::NoField(name(alloc, text)?)),
+        WhyLit::NoBranch(text) => Ok(ElabWhy::NoBranch(name(alloc, text)?)),
         WhyLit::Differ(found, needed) => {
             let found = ty(alloc, found)?;
             Ok(ElabWhy::Differ(found, ty(alloc, needed)?))

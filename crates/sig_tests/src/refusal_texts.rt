@@ -11,7 +11,7 @@ use std::process::Abort;
 use std::test::Fail;
 
 // Reasons, each with so many type variables in scope, and the line of its refusal of the bytes from 8 to 57.
-const LINES: [(u64, WhyLit<'static>, &str); 21] = [
+const LINES: [(u64, WhyLit<'static>, &str); 24] = [
     (0, WhyLit::NotStructure, "refused 8-57 NotStructure\n"),
     (0, WhyLit::NotFunctor, "refused 8-57 NotFunctor\n"),
     (0, WhyLit::WrongPath, "refused 8-57 WrongPath\n"),
@@ -21,6 +21,7 @@ const LINES: [(u64, WhyLit<'static>, &str); 21] = [
     (0, WhyLit::Unbound("x"), "refused 8-57 Unbound x\n"),
     (0, WhyLit::NoPart("x"), "refused 8-57 NoPart x\n"),
     (0, WhyLit::NoField("x"), "refused 8-57 NoField x\n"),
+    (0, WhyLit::NoBranch("x"), "refused 8-57 NoBranch x\n"),
     (
         0,
         WhyLit::DuplicateField("x"),
@@ -35,6 +36,12 @@ const LINES: [(u64, WhyLit<'static>, &str); 21] = [
         "refused 8-57 NotAll int\n",
     ),
     (5, WhyLit::NotRecord(Var(2)), "refused 8-57 NotRecord a2\n"),
+    (3, WhyLit::NotSum(Var(2)), "refused 8-57 NotSum a0\n"),
+    (
+        0,
+        WhyLit::NotData(Closed("int")),
+        "refused 8-57 NotData int\n",
+    ),
     (
         2,
         WhyLit::Differ(Var(0), Var(1)),

@@ -1,5 +1,6 @@
 use Rattle.core_judgments.proofs.expression_rules.Goals as goal
 use Rattle.core_judgments.proofs.ExpVerdicts.{one_literal, one_function, one_type_function, one_call, one_instance, one_get, one_if, one_operation, one_fix, one_record}
+use Rattle.core_judgments.proofs.SumVerdicts.{one_sum, one_label, one_injection, one_case}
 
 pub returns-clause-literal : goal.returns-clause-literal
 returns-clause-literal c = one_literal
@@ -30,3 +31,15 @@ returns-clause-fixpoint c = one_fix
 
 pub returns-clause-record : goal.returns-clause-record
 returns-clause-record c = one_record
+
+pub returns-clause-sum : goal.returns-clause-sum
+returns-clause-sum c = one_sum
+
+pub returns-clause-label : goal.returns-clause-label
+returns-clause-label c = one_label
+
+pub returns-clause-injection : goal.returns-clause-injection
+returns-clause-injection c = one_injection
+
+pub returns-clause-case_of : goal.returns-clause-case_of
+returns-clause-case_of c = one_case

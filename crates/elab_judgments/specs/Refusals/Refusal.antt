@@ -23,7 +23,9 @@ abbrev pub of_core : CoreWhy → ElabWhy
 of_core (CoreWhy.NotArrow t) = ElabWhy.NotArrow t
 of_core (CoreWhy.NotAll t) = ElabWhy.NotAll t
 of_core (CoreWhy.NotRecord t) = ElabWhy.NotRecord t
+of_core (CoreWhy.NotSum t) = ElabWhy.NotSum t
 of_core (CoreWhy.NoField l) = ElabWhy.NoField l
+of_core (CoreWhy.NoBranch l) = ElabWhy.NoBranch l
 of_core (CoreWhy.Differ t u) = ElabWhy.Differ t u
 of_core (CoreWhy.KindDiffer k j) = ElabWhy.KindDiffer k j
 of_core CoreWhy.NotOperator = ElabWhy.NotOperator

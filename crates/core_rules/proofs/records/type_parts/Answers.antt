@@ -11,7 +11,7 @@ use Rattle.core_judgments.specs.TypeRules.{RecordTypeGives, RecordTypeRefuses}
 use Rattle.core_rules.specs.Records.{labelled, type_fields}
 use Rattle.core_rules.proofs.Conclusions.{exit}
 use Rattle.core_rules.proofs.RecordSteps.{TypesLeft, left-none, types-begin, types-next, types-again, types-kind, types-end}
-use Rattle.core_rules.proofs.records.fields_ty.Goals as goal
+use Rattle.core_rules.proofs.records.type_parts.Goals as goal
 
 pub loop-field-init : goal.loop-field-init
 loop-field-init c =
@@ -51,4 +51,4 @@ returns-clause-given c =
     let items = c.deref-field-items.result.now in
     let es = c.loop-field.parts.entries in
     let last = subst (λ (r : List (Name × Kinded)). TypesLeft items r es) (left-none items c.loop-field.field-index c.loop-field-test.false) c.loop-field.invariant in
-    (row (labelled (λ t. t) es), c.in_ok-of_values.ensures.ty ∙ ap (λ fs. Ty.Fields (row fs)) c.in_ok-type_row.ensures, c.in_ok-of_values.ensures.kind, subst (λ (xs : List (Name × Kinded)). RecordTypeGives [] (type_fields xs) (row (labelled (λ t. t) es))) c.deref-field-items.ensures.value (types-end items es last))
+    subst (λ fs. RecordTypeGives [] (type_fields c.args.fields.items) (row fs)) (sym c.in_ok-type_row.ensures) (subst (λ (xs : List (Name × Kinded)). RecordTypeGives [] (type_fields xs) (row (labelled (λ t. t) es))) c.deref-field-items.ensures.value (types-end items es last))
