@@ -1,0 +1,5 @@
+use Rattle.fing_show.proofs.Verdicts.{reported}
+use Rattle.fing_show.proofs.showing.show_refusal.Goals as goal
+
+pub returns : goal.returns
+returns c = reported c.args.refusal.now c.in_default.not-Mem

@@ -1,0 +1,13 @@
+use Rattle.std.proofs.Common.{subst}
+use Rattle.elab_phrases.proofs.Given.{ok-map}
+use Rattle.parse_grammar.specs.Grammar as the
+use Rattle.parse_grammar.specs.Refusal.{Refuses}
+use Rattle.fing_show.specs.Judged.{JudgesTokens}
+use Rattle.fing_show.proofs.Verdicts.{no-program}
+use Rattle.fing_show.proofs.showing.show_tokens.Goals as goal
+
+pub returns-in-Ok : goal.returns-in-Ok
+returns-in-Ok c = ok-map c.show_program.result c.show_program.ensures (λ s p. JudgesTokens.parsed c.in-Ok.ensures.program p)
+
+pub returns-in_ok-syntax_page-in-Err-Syntax : goal.returns-in_ok-syntax_page-in-Err-Syntax
+returns-in_ok-syntax_page-in-Err-Syntax c = no-program c.args.tokens.now c.in-Err-Syntax.at (subst (λ r. Refuses the.Binds c.args.tokens.now r) c.in-Err-Syntax.field-0-is c.in-Err-Syntax.ensures.refused)

@@ -1,0 +1,113 @@
+// The pages of refusals and of programs.
+use fing_lexer::{LexRefusal, Token};
+use fing_refusals::Refusal;
+use fing_text::Span;
+use omega_kinds::{Effect, Mem};
+use semantic_sigs::Abs;
+use show_reasons::{
+    Explanation, explanation_of, lexical_explanation, lexical_place, put_end, put_sentence,
+    syntax_explanation,
+};
+use show_sigs::put_program;
+use show_text::{Page, put_excerpt, put_shown};
+use std::alloc::Global;
+
+// A source with the name by which a page calls it.
+#[derive(Clone, Copy)]
+struct Named<'a> {
+    name: &'a [u8],
+    source: &'a [u8],
+}
+
+// Begins the page of a refusal: its title, and an excerpt of its place.
+fn begin_page(alloc: Global, named: Named<'_>, title: &str, at: Span) -> Result<Page, Mem> {
+    let mut page = Page::new(alloc);
+    page.put_all(&[b"error: ", title.as_bytes(), b"\n"])?;
+    put_excerpt(&mut page, named.name, named.source, at)?;
+    Ok(page)
+}
+
+// Ends the page of a refusal.
+fn end_page(page: Page, explanation: Explanation) -> Result<Vec<u8>, Mem> {
+    let mut page = page;
+    put_end(&mut page, explanation)?;
+    Ok(page.into_bytes())
+}
+
+/// The page of a place that has no token.
+pub(crate) fn lexical_page(
+    alloc: Global,
+    name: &[u8],
+    source: &[u8],
+    why: LexRefusal,
+) -> Result<Vec<u8>, Mem> {
+    let explanation = lexical_explanation(why);
+    let from = lexical_place(why);
+    let at = Span {
+        from,
+        to: from.saturating_add(1),
+    };
+    let mut page = begin_page(alloc, Named { name, source }, explanation.title, at)?;
+    page.put_all(&[explanation.sentence.as_bytes(), b"\n"])?;
+    end_page(page, explanation)
+}
+
+/// The page of tokens that form no program, of which the longest prefix that begins some program has `at` tokens.
+pub(crate) fn syntax_page(
+    alloc: Global,
+    name: &[u8],
+    source: &[u8],
+    tokens: &[Token],
+    at: u32,
+) -> Result<Vec<u8>, Mem> {
+    let explanation = syntax_explanation();
+    let named = Named { name, source };
+    let place = syntax_place(tokens, at as usize);
+    let mut page = begin_page(alloc, named, explanation.title, place)?;
+    if place.from < place.to {
+        put_token(&mut page, source, place)?;
+    } else {
+        page.put_all(&[explanation.sentence.as_bytes(), b"\n"])?;
+    }
+    end_page(page, explanation)
+}
+
+// The place of a token, or the end of the last one where there is none.
+fn syntax_place(tokens: &[Token], at: usize) -> Span {
+    if let Some(token) = tokens.get(at) {
+        return token.span;
+    }
+    let end = tokens.last().map_or(0, |token| token.span.to);
+    Span { from: end, to: end }
+}
+
+// Writes which token no program can have at its place.
+fn put_token(page: &mut Page, source: &[u8], at: Span) -> Result<(), Mem> {
+    page.put(b"No program can go on with `")?;
+    let text = source.get(at.from as usize..at.to as usize);
+    put_shown(page, text.unwrap_or(b""), 0)?;
+    page.put(b"` here.\n")
+}
+
+/// The page of a program that means nothing.
+pub(crate) fn refused_page(
+    alloc: Global,
+    name: &[u8],
+    source: &[u8],
+    refusal: &Refusal,
+) -> Result<Vec<u8>, Mem> {
+    let explanation = explanation_of(&refusal.why);
+    let mut page = begin_page(alloc, Named { name, source }, explanation.title, refusal.at)?;
+    put_sentence(&mut page, refusal, explanation)?;
+    end_page(page, explanation)
+}
+
+/// The page of a program that means something: its effect and its signature.
+pub(crate) fn accepted_page(alloc: Global, effect: Effect, sig: &Abs) -> Result<Vec<u8>, Mem> {
+    let mut page = Page::new(alloc);
+    page.put(match effect {
+        Effect::Pure => b"pure\n".as_slice(),
+        Effect::Impure => b"impure\n",
+    })?;
+    Ok(put_program(page, sig)?.into_bytes())
+}

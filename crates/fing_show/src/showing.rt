@@ -1,0 +1,105 @@
+// From a source's bytes to its verdict and its page.
+ghost use Rattle.std.specs.Prelude.{◌≡◌, ◌⊎◌, ◌≤◌, IfOk, length};
+ghost use Rattle.fing_lexer.specs.declared.lexer.LexRefusal.TheVariants.{Mem as WantOfMemory};
+ghost use Rattle.fing_lexer.specs.Tokens.{RefusalOf};
+ghost use Rattle.fing_show.specs.Judged.{IsReported, Judges, JudgesProgram, JudgesTokens};
+
+use crate::pages::{accepted_page, lexical_page, refused_page, syntax_page};
+use fing_elab::elab;
+use fing_lexer::{LexRefusal, Token, tokens};
+use fing_parser::{ParseRefusal, program};
+use fing_refusals::{ElabWhy, Refusal};
+use fing_syntax::Program;
+use fing_text::{SOURCE_LIMIT, Span};
+use omega_kinds::Mem;
+use std::alloc::Global;
+
+/// What the rules say of a source.
+#[derive(Clone, Copy, Debug, PartialEq, Eq)]
+pub enum Verdict {
+    /// It is a program that means something.
+    Accepted,
+    /// It has no tokens, for this reason.
+    NoTokens(LexRefusal),
+    /// Its tokens are no program: the longest prefix of them that begins some program has `at` tokens.
+    NoProgram { at: u32 },
+    /// It is a program that means nothing, because of the phrase at this place.
+    NoMeaning { at: Span },
+}
+
+/// A verdict and the page that shows it.
+#[derive(Drop)]
+pub struct Shown {
+    pub verdict: Verdict,
+    pub text: Vec<u8>,
+}
+
+/// What is shown of a source of at most 1,048,576 bytes, which a page calls by the name. The verdict is the one that
+/// the rules give. For a refusal the page has the place, an excerpt, a sentence, a hint and where docs/errors.md
+/// explains it, and for a program its effect and its signature. `Err` is out of memory.
+///
+/// Rossberg, Russo and Dreyer, "F-ing modules", sections 4 to 7, Elaboration.
+pub fn show(alloc: Global, name: &[u8], source: &[u8]) -> Result<Shown, Mem>
+    requires { length source.now ≤ SOURCE_LIMIT }
+    ensures { IfOk result (λ s. Judges source.now s.verdict) }
+{
+    match tokens(alloc, source) {
+        Ok(tokens) => show_tokens(alloc, name, source, &tokens),
+        Err(why) => show_lexical(alloc, name, source, why),
+    }
+}
+
+// What is shown of bytes that have no tokens for this reason, which may be out of memory.
+fn show_lexical(alloc: Global, name: &[u8], source: &[u8], why: LexRefusal) -> Result<Shown, Mem>
+    requires { (why ≡ WantOfMemory) ⊎ RefusalOf source.now why }
+    ensures { IfOk result (λ s. Judges source.now s.verdict) }
+{
+    if let LexRefusal::Mem = why {
+        return Err(Mem);
+    }
+    Ok(Shown {
+        verdict: Verdict::NoTokens(why),
+        text: lexical_page(alloc, name, source, why)?,
+    })
+}
+
+// What is shown of the tokens of a source.
+fn show_tokens(alloc: Global, name: &[u8], source: &[u8], tokens: &[Token]) -> Result<Shown, Mem>
+    requires { length tokens.now ≤ SOURCE_LIMIT }
+    ensures { IfOk result (λ s. JudgesTokens tokens.now s.verdict) }
+{
+    match program(alloc, tokens) {
+        Ok(program) => show_program(alloc, name, source, &program),
+        Err(ParseRefusal::Mem) => Err(Mem),
+        Err(ParseRefusal::Syntax { at }) => Ok(Shown {
+            verdict: Verdict::NoProgram { at },
+            text: syntax_page(alloc, name, source, tokens, at)?,
+        }),
+    }
+}
+
+// What is shown of the program that a source is.
+fn show_program(alloc: Global, name: &[u8], source: &[u8], program: &Program) -> Result<Shown, Mem>
+    ensures { IfOk result (λ s. JudgesProgram program.now s.verdict) }
+{
+    match elab(alloc, program) {
+        Ok(found) => Ok(Shown {
+            verdict: Verdict::Accepted,
+            text: accepted_page(alloc, found.effect, &found.sig)?,
+        }),
+        Err(refusal) => show_refusal(alloc, name, source, &refusal),
+    }
+}
+
+// What is shown of a refusal, which may be out of memory.
+fn show_refusal(alloc: Global, name: &[u8], source: &[u8], refusal: &Refusal) -> Result<Shown, Mem>
+    ensures { IfOk result (λ s. IsReported refusal.now s.verdict) }
+{
+    if let ElabWhy::Mem = refusal.why {
+        return Err(Mem);
+    }
+    Ok(Shown {
+        verdict: Verdict::NoMeaning { at: refusal.at },
+        text: refused_page(alloc, name, source, refusal)?,
+    })
+}

@@ -1,0 +1,285 @@
+// Pages of sources, written by hand from the rules and from docs/errors.md.
+use crate::{Shown, Verdict, show};
+use fing_text::SOURCE_LIMIT;
+use std::alloc::Global;
+use std::process::Abort;
+use std::test::Fail;
+
+// What is shown of a source with a name.
+fn shown(rt: &impl Abort, alloc: Global, source: &str) -> Result<Shown, Fail> {
+    let bytes = source.as_bytes();
+    assert!(rt; bytes.len() <= SOURCE_LIMIT);
+    Ok(show(alloc, b"a.fing", bytes)?)
+}
+
+// Asserts that each source has its page, and that they are all accepted, or all refused.
+fn all_show(
+    rt: &impl Abort,
+    alloc: Global,
+    accepted: bool,
+    rows: &[(&str, &str)],
+) -> Result<(), Fail> {
+    for (source, page) in rows {
+        let found = shown(rt, alloc, source)?;
+        let text = String::from_utf8_lossy(alloc, &found.text)?;
+        assert_eq!(rt; text.as_str(), *page);
+        assert_eq!(rt; found.verdict == Verdict::Accepted, accepted);
+    }
+    Ok(())
+}
+
+const WITHOUT_PROGRAM: [(&str, &str); 5] = [
+    (
+        "val x = 1; val y = 2",
+        "error: no token
+ --> a.fing:1:10
+  |
+1 | val x = 1; val y = 2
+  |          ^
+No token begins here.
+hint: There are no semicolons, no `>`, `&`, `|` and `!`, and only comments hold bytes outside ASCII.
+see docs/errors.md#badbyte-n
+",
+    ),
+    (
+        "-- one\nval s = \"ab\n",
+        "error: no string
+ --> a.fing:2:9
+  |
+2 | val s = \"ab
+  |         ^
+This quote begins no string.
+hint: Close the string on its line. A backslash is followed by `\"`, `\\` or `n`.
+see docs/errors.md#badtext-n
+",
+    ),
+    (
+        "val x = 9223372036854775808",
+        "error: a number too large
+ --> a.fing:1:9
+  |
+1 | val x = 9223372036854775808
+  |         ^
+This number is greater than 9223372036854775807.
+hint: The least number is written `~9223372036854775807 - 1`.
+see docs/errors.md#wide-n
+",
+    ),
+    (
+        "val f = fun x => x",
+        "error: syntax
+ --> a.fing:1:13
+  |
+1 | val f = fun x => x
+  |             ^
+No program can go on with `x` here.
+hint: The mistake is often earlier: look for a missing `end`, `in` or bracket, or a keyword used as a name.
+see docs/errors.md#syntax-n
+",
+    ),
+    (
+        "val x = (1\n",
+        "error: syntax
+ --> a.fing:1:11
+  |
+1 | val x = (1
+  |           ^
+The source ends too soon.
+hint: The mistake is often earlier: look for a missing `end`, `in` or bracket, or a keyword used as a name.
+see docs/errors.md#syntax-n
+",
+    ),
+];
+
+#[test]
+fn sources_without_program(rt: HostRuntime) -> Result<(), Fail> {
+    all_show(&rt, rt.alloc(), false, &WITHOUT_PROGRAM)
+}
+
+const WITHOUT_MEANING: [(&str, &str); 6] = [
+    (
+        "val x = y",
+        "error: unbound name
+ --> a.fing:1:9
+  |
+1 | val x = y
+  |         ^
+No earlier binding has the name `y`.
+hint: Bind the name earlier, or name a component with its path, as `M.x`.
+see docs/errors.md#unbound-x
+",
+    ),
+    (
+        "module Money = struct
+  type t = Int
+  val make = fun (cents : Int) => cents
+end :> sig type t val make : Int -> t end
+val a = Money.make 150 + 50
+",
+        "error: types differ
+ --> a.fing:5:9
+  |
+5 | val a = Money.make 150 + 50
+  |         ^^^^^^^^^^^^^^
+This has the type `?0`, and the type `Int` is needed.
+note: `?0` is a hidden type or a type parameter, `a0` in the reply of `check`; likewise `?1` and so on
+hint: Nothing is converted. A hidden type is equal only to itself: say what it is with `where type`.
+see docs/errors.md#differ-t-t
+",
+    ),
+    (
+        "val id = fun [a : Type] => fun (x : a) => x val y = id 1",
+        "error: not a function
+ --> a.fing:1:53
+  |
+1 | val id = fun [a : Type] => fun (x : a) => x val y = id 1
+  |                                                     ^^
+This is applied to an argument, and its type `[a : Type] -> a -> a` is not a function type.
+hint: The end of a line ends nothing. Is `val`, `type` or `module` missing after this phrase?
+see docs/errors.md#notarrow-t
+",
+    ),
+    (
+        "module M = struct val x = true end :> sig val x : Int end",
+        "error: the types of a component differ
+ --> a.fing:1:39
+  |
+1 | module M = struct val x = true end :> sig val x : Int end
+  |                                       ^^^^^^^^^^^^^^^^^^^
+What the module has at `x` has the type `Bool`, and the signature asks for `Int`.
+hint: A value must match its declaration exactly: there is no instantiation, and no subtyping of records.
+see docs/errors.md#clash-p-why
+",
+    ),
+    (
+        "module M = struct end :> sig type t end",
+        "error: a type is missing
+ --> a.fing:1:26
+  |
+1 | module M = struct end :> sig type t end
+  |                          ^^^^^^^^^^^^^^
+The signature hides a type at `t`, and the module has no type of this kind there.
+hint: Bind a type of this name and kind. If the path has `(res)`, the functor must be applicative.
+see docs/errors.md#noroot-i-p
+",
+    ),
+    (
+        "type t = fun (a : Type) => a val f = fun (x : t) => x",
+        "error: kinds differ
+ --> a.fing:1:47
+  |
+1 | type t = fun (a : Type) => a val f = fun (x : t) => x
+  |                                               ^
+This type has the kind `Type -> Type`, and the kind `Type` is needed.
+hint: Apply a type constructor where a type is needed; where a constructor is needed, give it no arguments.
+see docs/errors.md#kinddiffer-k-k-notoperator
+",
+    ),
+];
+
+#[test]
+fn programs_without_meaning(rt: HostRuntime) -> Result<(), Fail> {
+    all_show(&rt, rt.alloc(), false, &WITHOUT_MEANING)
+}
+
+const SIGNATURES: [(&str, &str); 8] = [
+    ("", "pure\n"),
+    (
+        "module C = struct type c = Int val start = 0 val next = fun (x : Int) => x + 1 end
+:> sig type c val start : c val next : c -> c end
+val n = C.next C.start",
+        "pure
+module C : sig
+  type c
+  val next : C.c -> C.c
+  val start : C.c
+end
+val n : C.c
+hidden: C.c
+",
+    ),
+    (
+        "type k = fun (f : Type -> Type) => f (f Int)
+type p = fun (t : Type) => {x : t, y : Int} -> Bool
+val id = fun [b : Type] => fun (x : b) => x
+val twice = fun (f : Int -> Int) => fun (x : Int) => f (f x)",
+        "pure
+val id : [a : Type] -> a -> a
+type k = fun (a : Type -> Type) => a (a Int)
+type p = fun (a : Type) => {x : a, y : Int} -> Bool
+val twice : (Int -> Int) -> Int -> Int
+",
+    ),
+    (
+        "module F = fun (X : sig type t val x : t end) => struct type u = X.t val y = X.x end :> sig type u val y : u end
+module M = F (struct type t = Bool val x = true end)",
+        "pure
+module F : fun (X : sig
+  type t
+  val x : X.t
+end) => sig
+  type u
+  val y : F.u X.t
+end
+module M : sig
+  type u = F.u Bool
+  val y : F.u Bool
+end
+hidden: F.u : Type -> Type
+",
+    ),
+    (
+        "module M = struct type t = Int end :> sig type t end
+signature S = sig module M : sig type t = M.t end end",
+        "pure
+module M : sig
+  type t
+end
+signature S = sig
+  module M : sig
+    type t = M.t
+  end
+end
+hidden: M.t
+",
+    ),
+    (
+        "module G = gen (X : sig end) => struct type t = Int end :> sig type t end",
+        "pure
+module G : fun (X : sig end) -> sig
+  type t
+end
+",
+    ),
+    (
+        "signature S = sig type t val x : t end
+val p = pack struct type t = Int val x = 1 end : S
+module M = unpack p : S",
+        "impure
+module M : sig
+  type t
+  val x : M.t
+end
+signature S = sig
+  type t
+  val x : t
+end
+val p : pack sig .. end
+hidden: M.t
+",
+    ),
+    (
+        "module M = let module H = struct type t = Int val x = 3 end :> sig type t val x : t end in struct val y = H.x end end",
+        "pure
+module M : sig
+  val y : ?0
+end
+hidden: ?0, to which no path leads
+",
+    ),
+];
+
+#[test]
+fn signatures(rt: HostRuntime) -> Result<(), Fail> {
+    all_show(&rt, rt.alloc(), true, &SIGNATURES)
+}

@@ -1,0 +1,15 @@
+// What is said to people of a refusal: a title, a sentence, a hint, and the section of docs/errors.md.
+// Stands on show_text and show_types (pages and types), fing_lexer (places without tokens) and fing_refusals
+// (reasons).
+// Proved: each refusal has its text, and the writing ends.
+#![tactic(auto)]
+
+mod explanation;
+mod reasons;
+mod sentences;
+mod sources;
+
+pub use explanation::{Explanation, put_end};
+pub use reasons::explanation_of;
+pub use sentences::put_sentence;
+pub use sources::{lexical_explanation, lexical_place, syntax_explanation};
