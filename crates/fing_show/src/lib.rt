@@ -1,12 +1,14 @@
 // What is shown to people of a source: the page of its refusal, or the page of its signature, and the verdict.
-// Stands on fing_lexer, fing_parser and fing_elab (from bytes to a meaning or a refusal), and on show_text,
-// show_types, show_sigs and show_reasons (pages).
-// Proved: the verdict is the one of the rules, with the place of a refusal; the page is made for that same verdict,
-// and its making ends. What the page says in words is only tested.
+// Stands on fing_lexer, fing_parser and fing_elab (from bytes to a meaning or a refusal), and on the crates show_text
+// to show_syntax (pages).
+// Proved: the verdict is the one of the rules, with the place of a refusal; making the page ends. No clause speaks of
+// the page: that it belongs to the verdict, and all that it says, is only tested.
 #![tactic(auto)]
 
 mod pages;
 mod showing;
+#[cfg(test)]
+mod syntax_tests;
 #[cfg(test)]
 mod tests;
 

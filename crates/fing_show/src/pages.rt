@@ -9,6 +9,7 @@ use show_reasons::{
     syntax_explanation,
 };
 use show_sigs::put_program;
+use show_syntax::{followers, put_expected, slip};
 use show_text::{Page, put_excerpt, put_shown};
 use std::alloc::Global;
 
@@ -60,15 +61,17 @@ pub(crate) fn syntax_page(
     tokens: &[Token],
     at: u32,
 ) -> Result<Vec<u8>, Mem> {
-    let explanation = syntax_explanation();
-    let named = Named { name, source };
-    let place = syntax_place(tokens, at as usize);
-    let mut page = begin_page(alloc, named, explanation.title, place)?;
+    let at = at as usize;
+    let expected = followers(alloc, tokens, at)?;
+    let explanation = syntax_explanation(slip(tokens, at, &expected));
+    let place = syntax_place(tokens, at);
+    let mut page = begin_page(alloc, Named { name, source }, explanation.title, place)?;
     if place.from < place.to {
         put_token(&mut page, source, place)?;
     } else {
         page.put_all(&[explanation.sentence.as_bytes(), b"\n"])?;
     }
+    put_expected(&mut page, &expected)?;
     end_page(page, explanation)
 }
 
@@ -89,7 +92,7 @@ fn put_token(page: &mut Page, source: &[u8], at: Span) -> Result<(), Mem> {
     page.put(b"` here.\n")
 }
 
-/// The page of a program that means nothing.
+/// The page of a program that means nothing for this reason.
 pub(crate) fn refused_page(
     alloc: Global,
     name: &[u8],
@@ -98,7 +101,7 @@ pub(crate) fn refused_page(
 ) -> Result<Vec<u8>, Mem> {
     let explanation = explanation_of(&refusal.why);
     let mut page = begin_page(alloc, Named { name, source }, explanation.title, refusal.at)?;
-    put_sentence(&mut page, refusal, explanation)?;
+    put_sentence(&mut page, Vec::new(alloc), refusal, explanation)?;
     end_page(page, explanation)
 }
 

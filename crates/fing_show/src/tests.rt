@@ -12,8 +12,8 @@ fn shown(rt: &impl Abort, alloc: Global, source: &str) -> Result<Shown, Fail> {
     Ok(show(alloc, b"a.fing", bytes)?)
 }
 
-// Asserts that each source has its page, and that they are all accepted, or all refused.
-fn all_show(
+/// Asserts that each source has its page, and that they are all accepted, or all refused.
+pub(crate) fn all_show(
     rt: &impl Abort,
     alloc: Global,
     accepted: bool,
@@ -73,7 +73,8 @@ see docs/errors.md#wide-n
 1 | val f = fun x => x
   |             ^
 No program can go on with `x` here.
-hint: The mistake is often earlier: look for a missing `end`, `in` or bracket, or a keyword used as a name.
+expected: `(` or `[`
+hint: A parameter has its type, as in `fun (x : Int) => x`, or `fun [a : Type] => ..`.
 see docs/errors.md#syntax-n
 ",
     ),
@@ -85,6 +86,7 @@ see docs/errors.md#syntax-n
 1 | val x = (1
   |           ^
 The source ends too soon.
+expected: an expression, an operator, `)`, `[` or `#`
 hint: The mistake is often earlier: look for a missing `end`, `in` or bracket, or a keyword used as a name.
 see docs/errors.md#syntax-n
 ",
@@ -122,7 +124,7 @@ val a = Money.make 150 + 50
 5 | val a = Money.make 150 + 50
   |         ^^^^^^^^^^^^^^
 This has the type `?0`, and the type `Int` is needed.
-note: `?0` is a hidden type or a type parameter, `a0` in the reply of `check`; likewise `?1` and so on
+note: `?N` is the hidden type or type parameter that `check` calls `aN`, and no path names it here
 hint: Nothing is converted. A hidden type is equal only to itself: say what it is with `where type`.
 see docs/errors.md#differ-t-t
 ",

@@ -1,6 +1,7 @@
 // The program `fing-show [FILE]`: reads a source, writes its page to standard output, and ends with the status of the
 // verdict. Stands on clap (words), fing_text (bytes in and out) and fing_show (pages).
-// Proved: it is safe and ends. What it shows is in the contract of `show` of fing_show.
+// Proved: it is safe and ends. The verdict is in the contract of `show` of fing_show; no clause speaks of the page or
+// of the exit status.
 #![tactic(auto)]
 
 use clap::error::Error;

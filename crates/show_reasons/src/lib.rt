@@ -1,7 +1,7 @@
 // What is said to people of a refusal: a title, a sentence, a hint, and the section of docs/errors.md.
 // Stands on show_text and show_types (pages and types), fing_lexer (places without tokens) and fing_refusals
 // (reasons).
-// Proved: each refusal has its text, and the writing ends.
+// Proved: the writing ends. What is written is only tested.
 #![tactic(auto)]
 
 mod explanation;

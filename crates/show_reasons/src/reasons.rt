@@ -2,6 +2,7 @@
 use crate::explanation::{Explanation, NEXT_LINE, NO_MEMORY, explained};
 use fing_refusals::ElabWhy;
 use semantic_sigs::Why;
+use type_normal::{NormalTy, plain};
 
 /// What is said of a reason.
 pub fn explanation_of(why: &ElabWhy) -> Explanation {
@@ -168,10 +169,10 @@ fn of_sum(why: &ElabWhy) -> Explanation {
 // What is said of types, kinds and names that do not fit.
 fn of_type(why: &ElabWhy) -> Explanation {
     match why {
-        ElabWhy::Differ(_, _) => explained(
+        ElabWhy::Differ(found, needed) => explained(
             "types differ",
             "This has the type #, and the type # is needed.",
-            "Nothing is converted. A hidden type is equal only to itself: say what it is with `where type`.",
+            differ_hint(found, needed),
             "differ-t-t",
         ),
         ElabWhy::KindDiffer(_, _) => explained(
@@ -200,4 +201,12 @@ fn of_type(why: &ElabWhy) -> Explanation {
         ),
         _ => NO_MEMORY,
     }
+}
+
+// A hint for two types that differ: about hidden types, where one of the two mentions a type variable in scope.
+fn differ_hint(found: &NormalTy, needed: &NormalTy) -> &'static str {
+    if plain(found).bound() == 0 && plain(needed).bound() == 0 {
+        return "Nothing is converted: the two types must be the same, record types with the same fields.";
+    }
+    "Nothing is converted. A hidden type is equal only to itself: say what it is with `where type`."
 }

@@ -16,27 +16,30 @@ enum Part<'a> {
     Ty(&'a NormalTy),
 }
 
-/// Writes the sentence of a refusal, with what the refusal tells in quotes. The type variables in scope have no
-/// names: the one that the reply of `check` calls `aN` is `?N`, and a note says so where there is one. `Err` is out
-/// of memory.
+/// Writes the sentence of a refusal, with what the refusal tells in quotes. The outermost type variables in scope have
+/// the names that are handed in. One without a name, which the reply of `check` calls `aN`, is `?N`, and a note says
+/// so where there is one. `Err` is out of memory.
 pub fn put_sentence(
     page: &mut Page,
+    names: Vec<Option<Name>>,
     refusal: &Refusal,
     explanation: Explanation,
 ) -> Result<(), Mem> {
-    let mut naming = Naming::unnamed(page.alloc(), refusal.types)?;
+    let mut naming = Naming::named(page.alloc(), names, refusal.types)?;
     let parts = parts_of(&refusal.why);
+    let from = page.bytes().len();
     put_filled(page, &mut naming, explanation.sentence, &parts)?;
     page.put(b"\n")?;
-    if parts.iter().any(is_open) {
+    let written = page.bytes().get(from..).unwrap_or(b"");
+    if written.contains(&b'?') {
         page.put(NOTE)?;
     }
     Ok(())
 }
 
-// What is said where a type variable is shown.
+// What is said where a type variable without a name is shown.
 const NOTE: &[u8] =
-    b"note: `?0` is a hidden type or a type parameter, `a0` in the reply of `check`; likewise `?1` and so on\n";
+    b"note: `?N` is the hidden type or type parameter that `check` calls `aN`, and no path names it here\n";
 
 // What a reason tells, in the order of its sentence.
 fn parts_of(why: &ElabWhy) -> [Option<Part<'_>>; 3] {
@@ -70,14 +73,6 @@ fn clash_parts<'a>(path: &'a Path, why: &'a Why) -> [Option<Part<'a>>; 3] {
     match why {
         Why::Types(left, right) => [at, Some(Part::Ty(left)), Some(Part::Ty(right))],
         _ => [at, None, None],
-    }
-}
-
-// Whether a part is a type that mentions a type variable in scope.
-fn is_open(part: &Option<Part<'_>>) -> bool {
-    match part {
-        Some(Part::Ty(ty)) => plain(ty).bound() > 0,
-        _ => false,
     }
 }
 

@@ -44,12 +44,15 @@ pub fn lexical_explanation(why: LexRefusal) -> Explanation {
     }
 }
 
-/// What is said of tokens that form no program; the sentence is that for a source which ends too soon.
-pub fn syntax_explanation() -> Explanation {
+/// What is said of tokens that form no program; the sentence is that for a source which ends too soon. A hint for a slip
+/// that is known stands in place of the general one.
+pub fn syntax_explanation(slip: Option<&'static str>) -> Explanation {
+    let general =
+        "The mistake is often earlier: look for a missing `end`, `in` or bracket, or a keyword used as a name.";
     explained(
         "syntax",
         "The source ends too soon.",
-        "The mistake is often earlier: look for a missing `end`, `in` or bracket, or a keyword used as a name.",
+        slip.unwrap_or(general),
         "syntax-n",
     )
 }

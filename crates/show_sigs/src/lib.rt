@@ -1,12 +1,12 @@
 // Signatures for people: one declaration a line, and hidden types by the paths that lead to them.
 // Stands on show_text and show_types (pages and types), semantic_sigs (signatures) and sig_roots (paths of hidden
 // types).
-// Proved: each signature is written, and the writing ends; no two hidden types that are in scope together have one
-// name.
+// Proved: the writing ends, and a naming never holds one name twice. How a signature is written is only tested.
 #![tactic(auto)]
 
 mod names;
 mod program;
 mod writer;
 
+pub use names::type_names;
 pub use program::put_program;

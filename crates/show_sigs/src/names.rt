@@ -4,9 +4,11 @@ use semantic_sigs::{Abs, Item, Path, Sig};
 use sig_roots::roots;
 use std::alloc::Global;
 
-// The names of the types of these kinds that a signature hides, each after a prefix; none for one without a root
-// path.
-pub(crate) fn names_of(
+/// The names of the types of these kinds that a signature hides, the outermost first: the prefix and the names on their
+/// least root paths, with dots between them; `None` for one without a root path. `Err` is out of memory.
+///
+/// Rossberg, Russo and Dreyer, "F-ing modules", section 5, root paths.
+pub fn type_names(
     alloc: Global,
     kinds: &Kinds,
     body: &Sig,

@@ -1,5 +1,5 @@
 // Signatures, written with the names of their hidden types.
-use crate::names::{add_step, names_of};
+use crate::names::{add_step, type_names};
 use omega_kinds::{Effect, Kind, Kinds, Mem, Name};
 use semantic_sigs::{Abs, Sig, SigFields, SigNode};
 use show_text::Page;
@@ -64,7 +64,7 @@ impl Writer {
 
     // The types of these kinds, which a signature hides, come into scope, with their paths as names.
     pub(crate) fn bind(&mut self, kinds: &Kinds, body: &Sig) -> Result<(), Mem> {
-        let names = names_of(self.page.alloc(), kinds, body, self.frame.path.as_slice())?;
+        let names = type_names(self.page.alloc(), kinds, body, self.frame.path.as_slice())?;
         for name in names {
             self.naming.add(name)?;
         }

@@ -1,4 +1,6 @@
 // The lines of a source, and excerpts of it.
+ghost use Rattle.std.specs.Prelude.{◌≡◌, ◌+◌, ◌==◌, count_by, take};
+
 use crate::columns::{column_behind, put_shown};
 use crate::page::Page;
 use fing_text::Span;
@@ -22,7 +24,9 @@ pub struct Line<'a> {
 }
 
 /// The line in which an offset stands. An offset past the end of the source counts as the end.
-pub fn line_at(source: &[u8], at: usize) -> Line<'_> {
+pub fn line_at(source: &[u8], at: usize) -> Line<'_>
+    ensures number { result.number ≡ count_by (λ b. b == 10) (take at source.now) + 1 }
+{
     let (front, rest) = source.split_at(at.min(source.len()));
     let ends = front.iter().filter(|byte| **byte == b'\n').count() as u64;
     let length = rest.iter().position(|byte| *byte == b'\n');

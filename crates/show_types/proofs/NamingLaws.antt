@@ -1,8 +1,8 @@
 -- Namings with one variable more or less, and that what is written for two variables differs.
-use Rattle.std.proofs.Common.{◌≡◌, ◌⊎◌, inl, inr, ℕ, zero, suc, ◌<◌, ◌^◌, List, [], ◌∷◌, ◌++◌, Option, Some, None, length, arith, refl, sym, ap, ◌∙◌}
+use Rattle.std.proofs.Common.{◌≡◌, ◌⊎◌, inl, inr, ℕ, zero, suc, ◌+◌, ◌<◌, ◌^◌, List, [], ◌∷◌, ◌++◌, Option, Some, None, length, arith, refl, sym, ap, subst, ◌∙◌}
 use Rattle.std.specs.Prelude.{decimal, get_or}
 use Rattle.std.proofs.lemmas.Fmt.{decimal_injective}
-use Rattle.show_types.specs.Namings.{mark, written_as, Free, IsNaming, NamesDiffer}
+use Rattle.show_types.specs.Namings.{mark, written_as, Adds, Free, IsNaming, NamesDiffer}
 
 pub none_naming : IsNaming []
 none_naming = record { distinct = λ i j x p q. absurd (cc); plain = λ i x p m. absurd (cc) }
@@ -40,6 +40,25 @@ push_naming names o n free = record {
   distinct = λ i j x p q. push-distinct names o n free i j x (push-cases names o i x p) (push-cases names o j x q);
   plain = λ i x p m. push-plain names o n free i x (push-cases names o i x p) m;
 }
+
+-- one more variable gets no name where the one that is given is taken, or none is given
+pub adds_none : (names new : List (Option (List ℕ))) (o : Option (List ℕ)) → ((x : List ℕ) → o ≡ Some x → Free names x → ⊥) → new ≡ names ++ None ∷ [] → Adds names o new
+adds_none names new (Some x) taken p = subst (λ n. Adds names (Some x) n) (sym p) (Adds.taken (taken x refl))
+adds_none names new None taken p = subst (λ n. Adds names None n) (sym p) Adds.unnamed
+
+-- one more variable gets what is given where it may
+pub adds_given : (names new : List (Option (List ℕ))) (o : Option (List ℕ)) → ((x : List ℕ) → o ≡ Some x → Free names x) → new ≡ names ++ o ∷ [] → Adds names o new
+adds_given names new (Some x) free p = subst (λ n. Adds names (Some x) n) (sym p) (Adds.named (free x refl))
+adds_given names new None free p = subst (λ n. Adds names None n) (sym p) Adds.unnamed
+
+pub one-more : {A : Type 0} (xs : List A) (x : A) → length (xs ++ x ∷ []) ≡ length xs + 1
+one-more [] x = refl
+one-more (y ∷ xs) x = omega (arith, one-more xs x)
+
+pub added-length : {names new : List (Option (List ℕ))} {o : Option (List ℕ)} → Adds names o new → length new ≡ length names + 1
+added-length {names = names} (Adds.named {x = x} f) = one-more names (Some x)
+added-length {names = names} (Adds.taken f) = one-more names None
+added-length {names = names} Adds.unnamed = one-more names None
 
 -- one variable less
 pub pop_naming : (names : List (Option (List ℕ))) (o : Option (List ℕ)) → IsNaming (names ++ o ∷ []) → IsNaming names

@@ -1,7 +1,8 @@
 // Types and kinds for people: in the syntax of a source, with the least parentheses and with names for type
 // variables.
 // Stands on show_text (pages), omega_types (types) and itoa (numbers in decimal).
-// Proved: each type is written, and the writing ends; the names that a naming writes for two variables differ.
+// Proved: the writing ends; a naming holds just the names that it was given and may hold, and what it writes for two
+// variables differs. How a type is written is only tested.
 #![tactic(auto)]
 
 mod kinds;

@@ -1,6 +1,6 @@
 // Names for type variables.
-ghost use Rattle.std.specs.Prelude.{◌≡◌, ◌↔◌, ◌<◌, ◌++◌, [], ◌∷◌, IfOk, OnOk, OnErr, IsTrue, Some, None, length};
-ghost use Rattle.show_types.specs.Namings.{Free, NamesDiffer, level_of, unnamed as unnamed_text, written_at};
+ghost use Rattle.std.specs.Prelude.{◌≡◌, ◌↔◌, ◌-◌, ℕ, List, [], IfOk, OnOk, OnErr, IsTrue, Option, None, length, replicate, take};
+ghost use Rattle.show_types.specs.Namings.{Adds, Free, NamesDiffer, level_of, marked as marked_text, named_at, written_at};
 
 use itoa::Buffer;
 use omega_kinds::{Mem, Name, name_of};
@@ -36,9 +36,30 @@ impl Naming {
     }
 
     /// So many variables, none of which has a name. `Err` is out of memory.
-    pub fn unnamed(alloc: Global, count: u64) -> Result<Naming, Mem> {
+    pub fn unnamed(alloc: Global, count: u64) -> Result<Naming, Mem>
+        ensures { IfOk result (λ n. n ≡ replicate count None) }
+    {
         let mut naming = Naming::new(alloc);
         for _ in 0..count {
+            naming.add(None)?;
+        }
+        Ok(naming)
+    }
+
+    /// So many variables, of which the outermost ones get these names as far as they may have them. Where there are more
+    /// names than variables, no variable gets one. `Err` is out of memory.
+    pub fn named(alloc: Global, names: Vec<Option<Name>>, count: u64) -> Result<Naming, Mem>
+        ensures { IfOk result (λ n. length n ≡ count) }
+    {
+        if names.len() as u64 > count {
+            return Naming::unnamed(alloc, count);
+        }
+        let mut naming = Naming::new(alloc);
+        let more = count - names.len() as u64;
+        for name in names {
+            naming.add(name)?;
+        }
+        for _ in 0..more {
             naming.add(None)?;
         }
         Ok(naming)
@@ -53,7 +74,7 @@ impl Naming {
 
     // Whether a variable may get the name.
     fn is_free(&self, name: &[u8]) -> bool
-        ensures { IsTrue result → Free self.now name.now }
+        ensures { IsTrue result ↔ Free self.now name.now }
     {
         if name.first() == Some(&b'?') {
             return false;
@@ -70,8 +91,9 @@ impl Naming {
 
     /// One more variable, the innermost. It gets the name if no other variable has it and it does not begin with `?`,
     /// and else none. `Err` is out of memory, and the naming stays as it was.
-    #[tactic(auto, using(crate::proofs::NamingLaws::push_naming))]
+    #[tactic(auto, using(crate::proofs::NamingLaws::push_naming, crate::proofs::NamingLaws::adds_none, crate::proofs::NamingLaws::adds_given))]
     pub fn add(&mut self, name: Option<Name>) -> Result<(), Mem>
+        ensures ok { OnOk result (Adds self.old name self.new) }
         ensures err { OnErr result (self.new ≡ self.old) }
     {
         if let Some(given) = &name
@@ -99,7 +121,9 @@ impl Naming {
 
     /// One more variable, the innermost, with the first small letter that is no other's name, if there is one. `Err`
     /// is out of memory.
-    pub fn add_letter(&mut self, alloc: Global) -> Result<(), Mem> {
+    pub fn add_letter(&mut self, alloc: Global) -> Result<(), Mem>
+        ensures { OnOk result ((o : Option (List ℕ)) × Adds self.old o self.new) }
+    {
         for letter in b'a'..=b'z' {
             if self.is_free(&[letter]) {
                 return self.add(Some(name_of(alloc, &[letter])?));
@@ -110,12 +134,16 @@ impl Naming {
 
     /// Takes the innermost variable away, if there is one.
     #[tactic(auto, using(crate::proofs::NamingLaws::pop_naming))]
-    pub fn pop(&mut self) {
+    pub fn pop(&mut self)
+        ensures { self.new ≡ take (length self.old - 1) self.old }
+    {
         let _name = self.names.pop();
     }
 
     /// Whether the variable of an index, 0 being the innermost, has a name.
-    pub fn has_name(&self, index: u64) -> bool {
+    pub fn has_name(&self, index: u64) -> bool
+        ensures { result ≡ named_at self.now index }
+    {
         let level = self.level(index);
         level.is_some_and(|level| matches!(self.names.get(level), Some(Some(_))))
     }
@@ -142,14 +170,14 @@ impl Naming {
         };
         match self.names.get(level) {
             Some(Some(name)) => Ok(Some(name.share()?)),
-            _ => Ok(Some(unnamed(alloc, level as u64)?)),
+            _ => Ok(Some(marked(alloc, level as u64)?)),
         }
     }
 }
 
 // What is written for a variable without a name: `?` and its level.
-fn unnamed(alloc: Global, level: u64) -> Result<Name, Mem>
-    ensures { IfOk result (λ n. n ≡ unnamed_text level) }
+fn marked(alloc: Global, level: u64) -> Result<Name, Mem>
+    ensures { IfOk result (λ n. n ≡ marked_text level) }
 {
     let mut buffer = Buffer::new();
     let mut text = Vec::new(alloc);
