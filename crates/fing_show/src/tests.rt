@@ -124,7 +124,7 @@ val a = Money.make 150 + 50
 5 | val a = Money.make 150 + 50
   |         ^^^^^^^^^^^^^^
 This has the type `?0`, and the type `Int` is needed.
-note: `?N` is the hidden type or type parameter that `check` calls `aN`, and no path names it here
+note: `?N` is a hidden type or a type parameter: the one that `check` calls `aN`
 hint: Nothing is converted. A hidden type is equal only to itself: say what it is with `where type`.
 see docs/errors.md#differ-t-t
 ",

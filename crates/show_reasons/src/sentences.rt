@@ -39,7 +39,7 @@ pub fn put_sentence(
 
 // What is said where a type variable without a name is shown.
 const NOTE: &[u8] =
-    b"note: `?N` is the hidden type or type parameter that `check` calls `aN`, and no path names it here\n";
+    b"note: `?N` is a hidden type or a type parameter: the one that `check` calls `aN`\n";
 
 // What a reason tells, in the order of its sentence.
 fn parts_of(why: &ElabWhy) -> [Option<Part<'_>>; 3] {
