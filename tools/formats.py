@@ -62,7 +62,7 @@ def pieces(source):
     return found, None
 
 
-COUNTED = frozenset([b"val", b"type", b"module", b"signature", b"include", b"in"])
+COUNTED = frozenset([b"val", b"type", b"data", b"module", b"signature", b"include", b"in"])
 CLOSERS = frozenset([b")", b"}", b"]", b"end"])
 OPENERS = frozenset([b"(", b"{", b"[", b"struct", b"sig", b"let"])
 
@@ -549,15 +549,15 @@ class Reply(Reader):
         return ("fun",)
 
     def checked(self):
-        """The reply of `check` to a program that means something."""
+        """The reply of `check` to a program that means something: how many types it hides, and its signature."""
         if not self.has(b"pure "):
             self.need(b"impure ")
-        _, body = self.abstract(0)
+        hidden, body = self.abstract(0)
         if body[0] != "str":
             raise Malformed("a program has the signature of a structure")
         self.need(b"\n")
         self.done()
-        return body
+        return len(hidden), body
 
     def shown(self):
         for plain in (b"true", b"false", b"fun", b"pack", b"type", b"sig"):
@@ -573,8 +573,20 @@ class Reply(Reader):
                     self.need(b", ")
                 found.append(self.shown_field(found))
             return ("rec", found)
+        if self.has(b"(roll "):
+            return ("roll", self.shown_last())
+        if self.has(b"("):
+            label = self.name()
+            self.need(b" ")
+            return ("inj", label, self.shown_last())
         self.number("a value")
         return ("int",)
+
+    def shown_last(self):
+        """What is in an injection or a rolled value, and the parenthesis behind it."""
+        found = self.shown()
+        self.need(b")")
+        return found
 
     def shown_field(self, before):
         name = self.name()
@@ -658,18 +670,31 @@ ALWAYS = {"int": {"int"}, "bool": {"true", "false"}, "text": {"text"}, "->": {"f
           "type": {"type"}, "sig": {"sig"}, "fun": {"fun"}}
 
 
-def fits(shown, part):
-    """Whether a shown value may be one of a part of a signature."""
-    rest = [(shown, part)]
+def fits(shown, hidden, signature):
+    """Whether a shown value may be one of a signature below so many hidden types. A part of it is told with the number of type
+    variables in scope, and with the recursive types that variables stand for, each told likewise, by their levels."""
+    rest = [(shown, (signature, hidden, {}))]
     while rest:
-        shown, part = rest.pop()
+        shown, (part, bound, known) = rest.pop()
+        if part[0] == "rec" and [label for label, _ in part[1]] in ([b".val"], [b".typ"], [b".sig"]):
+            label, inner = part[1][0]
+            part = ("val", inner) if label == b".val" else ({b".typ": "type", b".sig": "sig"}[label],)
         if part[0] == "val":
-            rest.append((shown, part[1]))
+            rest.append((shown, (part[1], bound, known)))
         elif part[0] in ("str", "rec"):
             if shown[0] != "rec" or [n for n, _ in shown[1]] != [n for n, _ in part[1]]:
                 return False
-            rest.extend((s, p) for (_, s), (_, p) in zip(shown[1], part[1]))
+            rest.extend((s, (p, bound, known)) for (_, s), (_, p) in zip(shown[1], part[1]))
+        elif part[0] == "sum":
+            if shown[0] != "inj" or shown[1] not in dict(part[1]):
+                return False
+            rest.append((shown[2], (dict(part[1])[shown[1]], bound, known)))
+        elif part[0] == "mu":
+            if shown[0] != "roll":
+                return False
+            rest.append((shown[1], (part[1], bound + 1, {**known, bound: (part, bound, known)})))
+        elif part[0] == "var" and part[1] in known:
+            rest.append((shown, known[part[1]]))
         elif part[0] not in ("var", "@") and shown[0] not in ALWAYS[part[0]]:
             return False
     return True
-

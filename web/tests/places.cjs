@@ -4,22 +4,25 @@ const {piecesOf, styleOf, tokenPlace} = require("../page/tokens.js");
 const {refusalOf, placeOf, lineAndColumn, noteOf, verdictOf, topicOf, sectionOf} = require("../page/replies.js");
 const {fragmentOf, fieldsOf} = require("../page/link.js");
 
-const EXAMPLES = ["sets", "core", "packages", "higher-order", "operators"];
+const EXAMPLES = ["sets", "core", "packages", "higher-order", "operators", "balanced", "evaluator"];
 const pieceAt = piecesOf(JSON.parse(read("editors/textmate/fing.tmLanguage.json")));
 
-// No program has the token `of`. So the first n tokens of a program, and then `of`, are refused with `Syntax n`, and
-// the page must mark that `of`.
+// No program has the tokens `of of`, and only where `of` may stand could a program go on with the first. There `data` is
+// in its place. So the first n tokens of a program, and then one of the two words, are refused with `Syntax n`, and the
+// page must mark that word.
 async function tryTokens(fing) {
   for (const name of EXAMPLES) {
     const source = read(`examples/${name}.fing`);
     for (let number = 0; ; number += 5) {
       const {from, to} = tokenPlace(pieceAt, source, number);
       if (from === to) break;
-      const broken = source.slice(0, from) + "\n--\u2028é\nof " + source.slice(from);
+      const brokenBy = word => source.slice(0, from) + `\n--\u2028é\n${word} ` + source.slice(from);
+      const afterOf = (await fing(["check"], brokenBy("of of"))).reply === `refused Syntax ${number + 1}\n`;
+      const word = afterOf ? "data" : "of", broken = brokenBy(word);
       const {reply} = await fing(["check"], broken);
       expect(`${name}: token ${number}`, reply, `refused Syntax ${number}\n`);
       const place = placeOf(refusalOf(reply), broken, pieceAt, tokenPlace);
-      expect(`${name}: place of token ${number}`, broken.slice(place.from, place.to), "of");
+      expect(`${name}: place of token ${number}`, broken.slice(place.from, place.to), word);
     }
   }
 }

@@ -18,7 +18,7 @@ use Rattle.sig_definitions.specs.Env.{Env, Value, kinds, find, type_vars, with_m
 use Rattle.sig_definitions.specs.Signatures.FieldOrder.{with_name, with_names}
 use Rattle.sig_definitions.specs.Matching.MatchRefusal.{MatchRefusal, RefusesMatch}
 use Rattle.sig_laws.proofs.Formed.Conditions.{abs-body, structure-row}
-use Rattle.fing_syntax.specs.Phrase.{Span, SpanName, Mod, ModAt, ModName, ModStruct, ModProject, ModFunctor, ModApply, ModSeal, ModUnpack, Bind, BindAt, BindVal, BindTy, BindModule, BindSignature, BindInclude, Binds, NoBinds, MoreBinds, SigEx, SigAt, PathSig, SigDecls, SigFun, SigRefine, Decl, DeclAt, DeclVal, DeclTyIs, DeclTyOf, DeclModule, DeclSignature, DeclInclude, Decls, NoDecls, MoreDecls, TyEx, TyAt, PathTy, TyInt, TyBool, TyText, TyArrow, TyApply, TyFields, TyAll, TyLam, TyPack, TyExs, NoTys, MoreTys, FieldTyExs, NoFieldTys, MoreFieldTys, Exp, ExpAt, PathExp, ExpInt, ExpBool, ExpText, ExpLam, ExpTyLam, ExpFix, ExpIf, ExpOps, ExpApply, ExpFields, ExpGet, ExpPack, OpExps, NoOps, MoreOps, ArgExp, ArgTy, Args, NoArgs, MoreArgs, FieldExps, NoFieldExps, MoreFieldExps}
+use Rattle.fing_syntax.specs.Phrase.{Span, SpanName, Mod, ModAt, ModName, ModStruct, ModProject, ModFunctor, ModApply, ModSeal, ModUnpack, Bind, BindAt, BindVal, BindTy, BindModule, BindSignature, BindInclude, Binds, NoBinds, MoreBinds, SigEx, SigAt, PathSig, SigDecls, SigFun, SigRefine, Decl, DeclAt, DeclVal, DeclTyIs, DeclTyOf, DeclModule, DeclSignature, DeclInclude, Decls, NoDecls, MoreDecls, TyEx, TyAt, PathTy, TyInt, TyBool, TyText, TyArrow, TyApply, TyFields, TyAll, TyLam, TyPack, TySum, TyMu, TyExs, NoTys, MoreTys, FieldTyExs, NoFieldTys, MoreFieldTys, Exp, ExpAt, PathExp, ExpInt, ExpBool, ExpText, ExpLam, ExpTyLam, ExpFix, ExpIf, ExpOps, ExpApply, ExpFields, ExpGet, ExpPack, ExpInj, ExpCase, ExpRoll, ExpUnroll, OpExps, NoOps, MoreOps, ArgExp, ArgTy, Args, NoArgs, MoreArgs, FieldExps, NoFieldExps, MoreFieldExps, Branches, NoBranches, MoreBranches}
 use Rattle.fing_syntax.specs.Place.{name_of, name_span, ty_span, exp_span, sig_span, up_to}
 use Rattle.core_judgments.specs.CoreWhy.{CoreWhy}
 use Rattle.core_judgments.specs.OneOutcome.{Never}
@@ -26,6 +26,8 @@ use Rattle.core_judgments.specs.TypeRules.{Base, AppliedGives}
 use Rattle.core_judgments.specs.ExpRules.{Literal, CallGives, InstanceGives}
 use Rattle.core_judgments.proofs.TypeVerdicts.{one_base, one_record_type, one_arrow, one_all, one_operator, one_applied}
 use Rattle.core_judgments.proofs.ExpVerdicts.{one_literal, one_record, one_function, one_type_function, one_call, one_instance, one_get, one_if, one_operation, one_fix}
+use Rattle.core_judgments.proofs.SumVerdicts.{one_sum, one_label, one_injection, one_case}
+use Rattle.core_judgments.proofs.DataVerdicts.{one_mu, one_roll, one_unroll}
 use Rattle.sig_judgments.specs.SigRules.{ValueGives, TypeGives, AbstractGives, ModuleGives, SignatureGives, IncludeGives, DeclarationsGive}
 use Rattle.sig_judgments.proofs.Verdicts.{one_value, one_type, one_abstract, one_module, one_signature, one_include, one_generative, one_distinct, one_declarations}
 use Rattle.module_judgments.proofs.Verdicts.{str-same, one_named, one_projected, one_type_path, one_value_path, one_sig_path, one_parts, one_generative as one_generative_module, found-one as bound-one, applies-one, include-one, included-structure, one_seal, one_value_module, one_type_module, one_signature_module, param-ok}
@@ -37,12 +39,13 @@ use Rattle.elab_judgments.specs.Operators.{names_of, with_type, include_name, om
 use Rattle.refusal_reasons.specs.Refusal.{Refusal}
 use Rattle.elab_judgments.specs.Refusals.Refusal.{refuse, refuse_match, of_mod}
 use Rattle.elab_judgments.specs.Judgments.Meaning.{DeclMeans, DeclsMean}
-use Rattle.sig_definitions.specs.Verdict.{Verdict, holds, refuses, One}
-use Rattle.elab_judgments.specs.Refusals.Task.{Task, a_type, type_args, type_fields, an_exp, operands, args, fields, a_sig, a_decl, decls, a_mod, a_bind, binds}
+use Rattle.sig_definitions.specs.Verdict.{Verdict, holds, refuses, One, Perhaps, one, none}
+use Rattle.elab_judgments.specs.Refusals.Task.{Task, a_type, type_args, type_fields, an_exp, operands, args, fields, branches, a_sig, a_decl, decls, a_mod, a_bind, binds}
 use Rattle.elab_judgments.specs.Refusals.Steps.{steps, functor_sig, refined, decls_from, generative, functor_of, functor_body, after_bind, after_include}
 use Rattle.elab_exact.specs.Claims.{Exactly}
 use Rattle.sig_laws.specs.Good.{OkSig, OkRow, OkRight, OkEnv, OkModule, Names}
 use Rattle.elab_laws.proofs.FieldLaws.{rise-with_name, rise-with_names}
+use Rattle.elab_laws.proofs.SumTyping.{label-normal}
 use Rattle.elab_laws.proofs.Kept.{type_ok, exp_ok, sig_ok, decl_ok, mod_ok, bind_ok, binds_ok, norm_ok}
 use Rattle.sig_judgments.proofs.WhereVerdict.{one_where}
 use Rattle.elab_exact.proofs.Places.{placed}
@@ -52,7 +55,9 @@ use Rattle.elab_exact.proofs.Rules.Correct.{steps-sound}
 use Rattle.sig_laws.specs.Decide.{dec_ty}
 use Rattle.sig_laws.proofs.Formed.Forms.{kind-arrow, type-arrow, type-all, type-record, new_dec}
 use Rattle.sig_premise_laws.proofs.Environments.{body-ok, good-module, good-fields, good-type_fields, find-good, bound-module, bound-bind, bound-fields}
-use Rattle.sig_premise_laws.proofs.Determined.{lift-one, match-verdict, norm-one}
+use Rattle.sig_match_laws.proofs.Theorems.{match-verdict}
+use Rattle.sig_norm_laws.proofs.NormClaims.{norm-one}
+use Rattle.sig_premise_laws.proofs.Determined.{lift-one}
 use Rattle.module_judgments.proofs.Determined.{collected-one, seq-one}
 use Rattle.sig_laws.proofs.Encoded.EnvTyping.{kinds-named_fields}
 use Rattle.sig_laws.proofs.Formed.WellFormedShape.{kinded}
@@ -68,6 +73,21 @@ mapped f (refuses r q only never) = refuses (f r) (r, q, refl) (λ s u. u.2 ∙ 
 
 star-one : {r : Refusal} (k : Kind) → Verdict {A = Unit {0}} (λ u. k ≡ Kind.Star) (λ q. (k ≡ Kind.Star → ⊥) × (q ≡ r))
 star-one {r} k = dec-test r (Kind-discrete k Kind.Star)
+
+-- a recursive type
+type-mu : (t : Ty) → Perhaps (λ body. t ≡ Ty.Mu body)
+type-mu (Ty.Mu b) = one b refl (λ p e. cc)
+type-mu (Ty.Var n) = none (λ p e. cc)
+type-mu Ty.Int = none (λ p e. cc)
+type-mu Ty.Bool = none (λ p e. cc)
+type-mu Ty.Text = none (λ p e. cc)
+type-mu (Ty.Arrow a b) = none (λ p e. cc)
+type-mu (Ty.Fields row) = none (λ p e. cc)
+type-mu (Ty.Sum row) = none (λ p e. cc)
+type-mu (Ty.All k b) = none (λ p e. cc)
+type-mu (Ty.Ex k b) = none (λ p e. cc)
+type-mu (Ty.Lam k b) = none (λ p e. cc)
+type-mu (Ty.Apply a b) = none (λ p e. cc)
 
 -- the kinds of what rules give
 applied-kind : {ctx : List Kind} {t u v : Ty} {k j l : Kind} → AppliedGives ctx t k u j v l → HasKind ctx v l
@@ -185,6 +205,11 @@ mutual
   type-one g h (TyAt at (TyAll x k b)) = done g (a_type (TyAt at (TyAll x k b))) (type-one (with_type g k (name_of x)) (tt, (tt, h)) b, λ t p. (mapped _ (one_all k t.0 t.1), λ o r. tt))
   type-one g h (TyAt at (TyLam x k b)) = done g (a_type (TyAt at (TyLam x k b))) (type-one (with_type g k (name_of x)) (tt, (tt, h)) b, λ t p. (never-refused (one_operator k t.0 t.1), λ o r. tt))
   type-one g h (TyAt at (TyPack a)) = done g (a_type (TyAt at (TyPack a))) (sig-one g h a, λ x p. (one-the (one_pack_type (kinds g) x (sig_ok g a x h p)), λ y n. tt))
+  type-one g h (TyAt at (TySum rest)) =
+      done g (a_type (TyAt at (TySum rest))) (type_fields-one g h [] rest, λ parts p. (mapped _ (one_record_type [] parts), λ row r. tt))
+  type-one g h (TyAt at (TyMu x b)) =
+      done g (a_type (TyAt at (TyMu x b)))
+      (type-one (with_type g Kind.Star (name_of x)) (tt, (tt, h)) b, λ t p. (mapped _ (one_mu t.0 t.1), λ o r. tt))
 
   pub type_args-one : (g : Env) → OkEnv g → (at : Span) (t : Ty) (k : Kind) (rest : TyExs) → HasKind (kinds g) t k → Exactly g (type_args at t k rest)
   type_args-one g h at t k NoTys w = done g (type_args at t k NoTys) tt
@@ -248,6 +273,48 @@ mutual
           ),
         ),
       )
+  exp-one g h (ExpAt at (ExpInj x a b)) =
+      done g (an_exp (ExpAt at (ExpInj x a b))) (
+        exp-one g h a,
+        λ t p. (
+          type-one g h b,
+          λ u q. (
+            star-one u.1,
+            λ i e. (
+              mapped _ (one_sum u.0),
+              λ row s. (mapped _ (one_label u.0 (name_of x)), λ v l. (mapped _ (one_injection (name_of x) t.0 t.1 u.0 u.1), λ o r. tt)),
+            ),
+          ),
+        ),
+      )
+  exp-one g h (ExpAt at (ExpCase a b rest)) =
+      done g (an_exp (ExpAt at (ExpCase a b rest))) (
+        exp-one g h a,
+        λ t p. (
+          mapped _ (one_sum t.0),
+          λ row s. (
+            type-one g h b,
+            λ u q. (
+              star-one u.1,
+              λ i e. (branches-one g h t.0 u.0 [] rest (exp_ok g a t.0 t.1 h p), λ parts r. (mapped _ (one_case t.0 t.1 u.0 u.1 parts), λ o k. tt)),
+            ),
+          ),
+        ),
+      )
+  exp-one g h (ExpAt at (ExpRoll a b)) =
+      done g (an_exp (ExpAt at (ExpRoll a b))) (
+        exp-one g h a,
+        λ t p. (
+          type-one g h b,
+          λ u q. (
+            star-one u.1,
+            λ i e. (perhaps-some _ (type-mu u.0), λ body s. (mapped _ (one_roll (kinds g) t.0 t.1 u.0 u.1 (normal-kind (type_ok g b u.0 u.1 h q))), λ o r. tt)),
+          ),
+        ),
+      )
+  exp-one g h (ExpAt at (ExpUnroll a)) =
+      done g (an_exp (ExpAt at (ExpUnroll a)))
+      (exp-one g h a, λ t p. (mapped _ (one_unroll (kinds g) t.0 t.1 (normal-kind (exp_ok g a t.0 t.1 h p))), λ o r. tt))
 
   pub operands-one : (g : Env) → OkEnv g → (at : Span) (t : Ty) (e : Term) (rest : OpExps) → Exactly g (operands at t e rest)
   operands-one g h at t e NoOps = done g (operands at t e NoOps) tt
@@ -277,6 +344,23 @@ mutual
   pub fields-one : (g : Env) → OkEnv g → (before : List Name) (rest : FieldExps) → Exactly g (fields before rest)
   fields-one g h before NoFieldExps = done g (fields before NoFieldExps) tt
   fields-one g h before (MoreFieldExps x a rest) = done g (fields before (MoreFieldExps x a rest)) (dec-test _ (new_dec (name_of x) before), λ u n. (exp-one g h a, λ t p. (fields-one g h (name_of x ∷ before) rest, λ o q. tt)))
+
+  pub branches-one : (g : Env) → OkEnv g
+      → (w t : Ty) (before : List Name) (rest : Branches)
+      → Normal (kinds g) w Kind.Star
+      → Exactly g (branches w t before rest)
+  branches-one g h w t before NoBranches n = done g (branches w t before NoBranches) tt
+  branches-one g h w t before (MoreBranches x y a rest) n =
+      done g (branches w t before (MoreBranches x y a rest)) (
+        dec-test _ (new_dec (name_of x) before),
+        λ i m. (
+          mapped _ (one_label w (name_of x)),
+          λ u l. (
+            exp-one (Value (name_of y) u ∷ g) (label-normal l n, h) a,
+            λ v p. (dec-test _ (dec_ty v.0 t), λ j e. (branches-one g h w t (name_of x ∷ before) rest n, λ parts q. tt)),
+          ),
+        ),
+      )
 
   pub sig-one : (g : Env) → OkEnv g → (a : SigEx) → Exactly g (a_sig a)
   sig-one g h (SigAt at (PathSig m)) = done g (a_sig (SigAt at (PathSig m))) (mod-one g h m, λ M p. (mapped _ (one_sig_path (kinds g) M (kinded (kinds g) M (mod_ok g m M h p))), λ x r. tt))

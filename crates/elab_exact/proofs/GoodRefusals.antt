@@ -1,16 +1,17 @@
 -- The types that a refusal tells are normal in a context of as many type variables as it tells.
-use Rattle.std.specs.Prelude.{List, ◌∷◌, ◌≡◌, Bool, true, false}
+use Rattle.std.specs.Prelude.{List, [], ◌∷◌, ◌≡◌, Bool, true, false}
 use Rattle.std.proofs.Common.{inl, inr}
 use Rattle.std.proofs.Math.Path.{refl, sym, subst}
 use Rattle.omega_kinds.specs.Kind.{Kind}
 use Rattle.omega_kinds.specs.declared.effect.Effect.TheVariants.{Pure}
 use Rattle.omega_kinds.specs.Name.{Name}
-use Rattle.omega_types.specs.Ty.{Ty}
+use Rattle.omega_types.specs.Ty.{Ty, Row}
 use Rattle.omega_types.specs.Normality.{Normal}
 use Rattle.omega_types.specs.Normality.Normal.{n_arrow, n_neutral, n_int, n_bool}
 use Rattle.omega_types.specs.Binders.{extend}
 use Rattle.omega_terms.specs.declared.op.Op.{Op}
 use Rattle.omega_terms.specs.Term.{Term}
+use Rattle.omega_terms.proofs.NormalTyping.{normal-sum}
 use Rattle.sig_definitions.specs.Signatures.Sig.{Sig, Abs, Module, made}
 use Rattle.sig_definitions.specs.Env.{Env, Value, kinds, with_module}
 use Rattle.sig_definitions.specs.Matching.MatchRefusal.{MatchRefusal, RefusesMatch}
@@ -18,24 +19,27 @@ use Rattle.sig_laws.specs.Good.{OkSig, OkRow, OkRight, OkEnv, OkModule}
 use Rattle.sig_laws.proofs.Algebra.FormLaws.{kinds-type_vars}
 use Rattle.sig_laws.proofs.Encoded.EncodingLaws.{enc_well_formed-normal}
 use Rattle.sig_laws.proofs.Formed.Conditions.{explicit-abs, abs-body, structure-row}
-use Rattle.fing_syntax.specs.Phrase.{Span, SpanName, Mod, ModAt, ModName, ModStruct, ModProject, ModFunctor, ModApply, ModSeal, ModUnpack, Bind, BindAt, BindVal, BindTy, BindModule, BindSignature, BindInclude, Binds, NoBinds, MoreBinds, SigEx, SigAt, PathSig, SigDecls, SigFun, SigRefine, Decl, DeclAt, DeclVal, DeclTyIs, DeclTyOf, DeclModule, DeclSignature, DeclInclude, Decls, NoDecls, MoreDecls, TyEx, TyAt, PathTy, TyInt, TyBool, TyText, TyArrow, TyApply, TyFields, TyAll, TyLam, TyPack, TyExs, NoTys, MoreTys, FieldTyExs, NoFieldTys, MoreFieldTys, Exp, ExpAt, PathExp, ExpInt, ExpBool, ExpText, ExpLam, ExpTyLam, ExpFix, ExpIf, ExpOps, ExpApply, ExpFields, ExpGet, ExpPack, OpExps, NoOps, MoreOps, ArgExp, ArgTy, Args, NoArgs, MoreArgs, FieldExps, NoFieldExps, MoreFieldExps}
+use Rattle.fing_syntax.specs.Phrase.{Span, SpanName, Mod, ModAt, ModName, ModStruct, ModProject, ModFunctor, ModApply, ModSeal, ModUnpack, Bind, BindAt, BindVal, BindTy, BindModule, BindSignature, BindInclude, Binds, NoBinds, MoreBinds, SigEx, SigAt, PathSig, SigDecls, SigFun, SigRefine, Decl, DeclAt, DeclVal, DeclTyIs, DeclTyOf, DeclModule, DeclSignature, DeclInclude, Decls, NoDecls, MoreDecls, TyEx, TyAt, PathTy, TyInt, TyBool, TyText, TyArrow, TyApply, TyFields, TyAll, TyLam, TyPack, TySum, TyMu, TyExs, NoTys, MoreTys, FieldTyExs, NoFieldTys, MoreFieldTys, Exp, ExpAt, PathExp, ExpInt, ExpBool, ExpText, ExpLam, ExpTyLam, ExpFix, ExpIf, ExpOps, ExpApply, ExpFields, ExpGet, ExpPack, ExpInj, ExpCase, ExpRoll, ExpUnroll, OpExps, NoOps, MoreOps, ArgExp, ArgTy, Args, NoArgs, MoreArgs, FieldExps, NoFieldExps, MoreFieldExps, Branches, NoBranches, MoreBranches}
 use Rattle.fing_syntax.specs.Place.{name_of}
-use Rattle.refusal_reasons.specs.Refusal.{Refusal, ElabWhy, NotArrow, NotAll, NotRecord, Differ, KindDiffer, DuplicateField, NotOperator, NotStructure}
+use Rattle.refusal_reasons.specs.Refusal.{Refusal, ElabWhy, NotArrow, NotAll, NotRecord, NotData, Differ, KindDiffer, DuplicateField, NotOperator, NotStructure}
 use Rattle.refusal_reasons.specs.Good.{GoodWhy, GoodRefusal}
 use Rattle.core_judgments.specs.CoreWhy.{CoreWhy}
 use Rattle.core_judgments.specs.TypeRules.{FieldTy, RecordTypeRefuses, ArrowRefuses, AllRefuses, AppliedGives, AppliedRefuses}
-use Rattle.core_judgments.specs.ExpRules.{FieldExp, RecordRefuses, FunctionRefuses, CallGives, CallRefuses, InstanceGives, InstanceRefuses, GetRefuses, IfRefuses, OperationGives, OperationRefuses, FixRefuses}
+use Rattle.core_judgments.specs.ExpRules.{FieldExp, RecordRefuses, FunctionRefuses, CallGives, CallRefuses, InstanceGives, InstanceRefuses, GetRefuses, IfRefuses, OperationGives, OperationRefuses, FixRefuses, SumRefuses, LabelRefuses, InjectionRefuses, BranchesRefuse, CaseRefuses}
+use Rattle.core_judgments.specs.DataRules.{DataWhy, MuRefuses, RollRefuses, UnrollRefuses}
 use Rattle.sig_judgments.specs.SigWhy.{SigWhy}
 use Rattle.module_judgments.specs.ModWhy.{ModWhy}
 use Rattle.module_judgments.proofs.Verdicts.{param-ok}
 use Rattle.package_judgments.specs.Package.{UnpackWhy, UnpackRefuses}
 use Rattle.sig_premise_laws.proofs.Environments.{body-ok, good-module, good-fields, good-type_fields, find-good}
 use Rattle.elab_judgments.specs.Operators.{include_name}
-use Rattle.elab_judgments.specs.Refusals.Refusal.{refuse, refuse_match, of_core, of_sig, of_mod, of_unpack}
-use Rattle.elab_judgments.specs.Refusals.Task.{Task, Result, Means, a_type, type_args, type_fields, an_exp, operands, args, fields, a_sig, a_decl, decls, a_mod, a_bind, binds}
+use Rattle.elab_judgments.specs.Judgments.Meaning.{BranchesMean}
+use Rattle.elab_judgments.specs.Refusals.Refusal.{refuse, refuse_match, of_core, of_data, of_sig, of_mod, of_unpack}
+use Rattle.elab_judgments.specs.Refusals.Task.{Task, Result, Means, a_type, type_args, type_fields, an_exp, operands, args, fields, branches, a_sig, a_decl, decls, a_mod, a_bind, binds}
 use Rattle.elab_judgments.specs.Refusals.Rule.{Rule, Fails, Enters}
-use Rattle.elab_judgments.specs.Refusals.Steps.{steps, type_steps, type_args_steps, type_fields_steps, exp_steps, operands_steps, args_steps, fields_steps, functor_sig, refined, sig_steps, decl_steps, decls_from, decls_steps, functor_of, functor_body, mod_steps, bind_steps, after_bind, after_include, binds_steps}
+use Rattle.elab_judgments.specs.Refusals.Steps.{steps, type_steps, type_args_steps, type_fields_steps, exp_steps, operands_steps, args_steps, fields_steps, branches_steps, functor_sig, refined, sig_steps, decl_steps, decls_from, decls_steps, functor_of, functor_body, mod_steps, bind_steps, after_bind, after_include, binds_steps}
 use Rattle.elab_judgments.specs.Refusals.Refused.{Refused}
+use Rattle.elab_laws.proofs.SumTyping.{part-normal, label-normal}
 use Rattle.elab_laws.proofs.Kept.{type_ok, exp_ok, sig_ok, decl_ok, mod_ok, bind_ok, norm_ok}
 use Rattle.elab_exact.specs.Claims.{RefusalsAreGood}
 use Rattle.elab_exact.proofs.GoodMatches.{refused-match}
@@ -45,6 +49,7 @@ abbrev Holds : Env → Task → Type 0
 Holds g (type_args at t k rest) = Normal (kinds g) t k
 Holds g (operands at t e rest) = Normal (kinds g) t Kind.Star
 Holds g (args at t e rest) = Normal (kinds g) t Kind.Star
+Holds g (branches w t before rest) = Normal (kinds g) w Kind.Star × Normal (kinds g) t Kind.Star
 Holds g _ = Unit {0}
 
 -- the refusals of each condition are good, and each premise stands in a good environment
@@ -81,6 +86,13 @@ plain g at why k r q = told g at why k r q.1
 
 by_core : {T : CoreWhy → Type 0} (g : Env) (at : Span) → ((why : CoreWhy) → T why → GoodWhy (kinds g) (of_core why)) → (r : Refusal) → (why : CoreWhy) × T why × (r ≡ refuse g at (of_core why)) → GoodRefusal r
 by_core g at f r q = told g at (of_core q.0) (f q.0 q.1) r q.2
+
+by_data : {T : DataWhy → Type 0} (g : Env) (at : Span)
+    → ((why : DataWhy) → T why → GoodWhy (kinds g) (of_data why))
+    → (r : Refusal)
+    → (why : DataWhy) × T why × (r ≡ refuse g at (of_data why))
+    → GoodRefusal r
+by_data g at f r q = told g at (of_data q.0) (f q.0 q.1) r q.2
 
 of_mod-good : (ctx : List Kind) (why : ModWhy) → GoodWhy ctx (of_mod why)
 of_mod-good ctx (ModWhy.Unbound l) = tt
@@ -153,6 +165,70 @@ fix-good m n _ (FixRefuses.param_kind e) = tt
 fix-good m n _ (FixRefuses.result_kind e) = tt
 fix-good m n _ (FixRefuses.body_type e) = (n, m)
 
+sum-good : {ctx : List Kind} {t : Ty} → Normal ctx t Kind.Star → (why : CoreWhy) → SumRefuses t why → GoodWhy ctx (of_core why)
+sum-good n _ (SumRefuses.no_sum m) = n
+
+label-good : {ctx : List Kind} {t : Ty} {l : Name} → Normal ctx t Kind.Star → (why : CoreWhy) → LabelRefuses t l why → GoodWhy ctx (of_core why)
+label-good n _ (LabelRefuses.no_sum m) = n
+label-good n _ (LabelRefuses.no_label m) = tt
+
+injection-good : {ctx : List Kind} {l : Name} {v t : Ty} {k : Kind}
+    → Normal ctx v Kind.Star
+    → Normal ctx t Kind.Star
+    → (why : CoreWhy)
+    → InjectionRefuses l v t k why
+    → GoodWhy ctx (of_core why)
+injection-good m n _ (InjectionRefuses.target_kind e) = tt
+injection-good m n _ (InjectionRefuses.no_sum e) = n
+injection-good m n _ (InjectionRefuses.no_label e) = tt
+injection-good m n _ (InjectionRefuses.value_type p e) = (m, part-normal (normal-sum n) p)
+
+-- branches that are elaborated already have the type of their case
+abbrev AllOf : Ty → List FieldExp → Type 0
+AllOf t [] = Unit {0}
+AllOf t (FieldExp.field l u e ∷ rest) = (u ≡ t) × AllOf t rest
+
+all-of : {g : Env} {w t : Ty} {before : List Name} {rest : Branches} {parts : List FieldExp} → BranchesMean g w t before rest parts → AllOf t parts
+all-of BranchesMean.no_branches = tt
+all-of (BranchesMean.next_branch n l p q) = (refl, all-of q)
+
+branches-good : (ctx : List Kind) {row : Row} {t : Ty} {before : List Name} {parts : List FieldExp}
+    → AllOf t parts
+    → (why : CoreWhy)
+    → BranchesRefuse row t before parts why
+    → GoodWhy ctx (of_core why)
+branches-good ctx a _ (BranchesRefuse.name_again m) = tt
+branches-good ctx a _ (BranchesRefuse.no_label m h) = tt
+branches-good ctx a _ (BranchesRefuse.branch_type m h d) = absurd (d a.0)
+branches-good ctx a why (BranchesRefuse.later_branch m h r) = branches-good ctx a.1 why r
+
+case-good : {ctx : List Kind} {w t : Ty} {k : Kind} {parts : List FieldExp}
+    → Normal ctx w Kind.Star
+    → AllOf t parts
+    → (why : CoreWhy)
+    → CaseRefuses w t k parts why
+    → GoodWhy ctx (of_core why)
+case-good n a _ (CaseRefuses.no_sum e) = n
+case-good n a _ (CaseRefuses.result_kind e) = tt
+case-good {ctx} n a why (CaseRefuses.branch r) = branches-good ctx a why r
+case-good n a _ (CaseRefuses.no_branch b w) = tt
+
+mu-good : (ctx : List Kind) {t : Ty} {k : Kind} (why : DataWhy) → MuRefuses t k why → GoodWhy ctx (of_data why)
+mu-good ctx _ (MuRefuses.body_kind e) = tt
+
+roll-good : {ctx : List Kind} {v t : Ty} {k : Kind}
+    → Normal ctx v Kind.Star
+    → Normal ctx t k
+    → (why : DataWhy)
+    → RollRefuses ctx v t k why
+    → GoodWhy ctx (of_data why)
+roll-good m n _ (RollRefuses.target_kind e) = tt
+roll-good m n _ (RollRefuses.no_data e) = n
+roll-good m n _ (RollRefuses.value_type f e) = (m, f.0)
+
+unroll-good : {ctx : List Kind} {t : Ty} → Normal ctx t Kind.Star → (why : DataWhy) → UnrollRefuses t why → GoodWhy ctx (of_data why)
+unroll-good n _ (UnrollRefuses.no_data m) = n
+
 -- the types that the rules give
 
 call-normal : {ctx : List Kind} {t u v : Ty} {d e c : Term} → CallGives t d u e v c → Normal ctx t Kind.Star → Normal ctx v Kind.Star
@@ -182,6 +258,8 @@ type-safe g h (TyAt at (TyFields rest)) = ((h, tt), λ parts p. (by_core g _ (re
 type-safe g h (TyAt at (TyAll x k b)) = (((tt, (tt, h)), tt), λ t p. (by_core g _ (all-good (kinds g)), λ o r. tt))
 type-safe g h (TyAt at (TyLam x k b)) = (((tt, (tt, h)), tt), λ t p. (none, λ o r. tt))
 type-safe g h (TyAt at (TyPack a)) = ((h, tt), λ x p. (none, λ t r. tt))
+type-safe g h (TyAt at (TySum rest)) = ((h, tt), λ parts p. (by_core g _ (record_type-good (kinds g)), λ row r. tt))
+type-safe g h (TyAt at (TyMu x b)) = (((tt, (tt, h)), tt), λ t p. (by_data g _ (mu-good (kinds g)), λ o r. tt))
 
 type_args-safe : (g : Env) → OkEnv g → (at : Span) (t : Ty) (k : Kind) (rest : TyExs) → Safe (type_args_steps g at t k rest)
 type_args-safe g h at t k NoTys = tt
@@ -229,6 +307,47 @@ exp-safe g h (ExpAt at (ExpFields rest)) = ((h, tt), λ parts p. (by_core g _ (r
 exp-safe g h (ExpAt at (ExpGet a x)) = ((h, tt), λ t p. (plain g _ (NotRecord t.0) (exp_ok g a t.0 t.1 h p), λ row e. (by_core g _ (get-good (exp_ok g a t.0 t.1 h p)), λ o q. tt)))
 exp-safe g h (ExpAt at (ExpPack x a)) =
     (by_mod g _, λ o f. ((h, tt), λ y p. (none, λ z n. (by_match g _ o.0 z (find-good g (name_of x) h o f) (norm_ok (kinds g) y z (sig_ok g a y h p) n), λ m k. (none, λ d j. tt)))))
+exp-safe g h (ExpAt at (ExpInj x a b)) = (
+  (h, tt),
+  λ t p. (
+    (h, tt),
+    λ u q. (
+      plain g _ (KindDiffer u.1 Kind.Star) tt,
+      λ i e.
+          let n = subst (λ k. Normal (kinds g) u.0 k) e (type_ok g b u.0 u.1 h q) in
+          (by_core g _ (sum-good n), λ row s. (by_core g _ (label-good n), λ v l. (by_core g _ (injection-good (exp_ok g a t.0 t.1 h p) n), λ o r. tt))),
+    ),
+  ),
+)
+exp-safe g h (ExpAt at (ExpCase a b rest)) = (
+  (h, tt),
+  λ t p. (
+    by_core g _ (sum-good (exp_ok g a t.0 t.1 h p)),
+    λ row s. (
+      (h, tt),
+      λ u q. (
+        plain g _ (KindDiffer u.1 Kind.Star) tt,
+        λ i e.
+            let m = exp_ok g a t.0 t.1 h p in
+            let n = subst (λ k. Normal (kinds g) u.0 k) e (type_ok g b u.0 u.1 h q) in
+            ((h, (m, n)), λ parts r. (by_core g _ (case-good m (all-of r)), λ o k. tt)),
+      ),
+    ),
+  ),
+)
+exp-safe g h (ExpAt at (ExpRoll a b)) = (
+  (h, tt),
+  λ t p. (
+    (h, tt),
+    λ u q. (
+      plain g _ (KindDiffer u.1 Kind.Star) tt,
+      λ i e.
+          let n = subst (λ k. Normal (kinds g) u.0 k) e (type_ok g b u.0 u.1 h q) in
+          (plain g _ (NotData u.0) n, λ body s. (by_data g _ (roll-good (exp_ok g a t.0 t.1 h p) (type_ok g b u.0 u.1 h q)), λ o r. tt)),
+    ),
+  ),
+)
+exp-safe g h (ExpAt at (ExpUnroll a)) = ((h, tt), λ t p. (by_data g _ (unroll-good (exp_ok g a t.0 t.1 h p)), λ o r. tt))
 
 operands-safe : (g : Env) → OkEnv g → (at : Span) (t : Ty) (e : Term) (rest : OpExps) → Normal (kinds g) t Kind.Star → Safe (operands_steps g at t e rest)
 operands-safe g h at t e NoOps n = tt
@@ -242,6 +361,22 @@ args-safe g h at t e (MoreArgs (ArgTy a place) rest) n = (plain g _ (NotAll t) n
 fields-safe : (g : Env) → OkEnv g → (before : List Name) (rest : FieldExps) → Safe (fields_steps g before rest)
 fields-safe g h before NoFieldExps = tt
 fields-safe g h before (MoreFieldExps x a rest) = (plain g _ (DuplicateField (name_of x)) tt, λ u n. ((h, tt), λ t p. ((h, tt), λ o q. tt)))
+
+branches-safe : (g : Env)
+    → OkEnv g
+    → (w t : Ty) (before : List Name) (rest : Branches)
+    → Normal (kinds g) w Kind.Star × Normal (kinds g) t Kind.Star
+    → Safe (branches_steps g w t before rest)
+branches-safe g h w t before NoBranches n = tt
+branches-safe g h w t before (MoreBranches x y a rest) n = (
+  plain g _ (DuplicateField (name_of x)) tt,
+  λ i m. (
+    by_core g _ (label-good n.0),
+    λ u l.
+        let inner : OkEnv (Value (name_of y) u ∷ g) = (label-normal l n.0, h) in
+        ((inner, tt), λ v p. (plain g _ (Differ v.0 t) (exp_ok (Value (name_of y) u ∷ g) a v.0 v.1 inner p, n.1), λ j e. ((h, n), λ parts q. tt))),
+  ),
+)
 
 functor_sig-safe : (g : Env) → OkEnv g → (pure : Bool) (x : SpanName) (b : SigEx) (y : Abs) → OkRight (kinds g) y → Safe (functor_sig g pure x b y)
 functor_sig-safe g h false x b (Abs.Ex ks s) w = ((good-module g ks (name_of x) s h (body-ok w), tt), λ y p. (none, λ z r. tt))
@@ -334,6 +469,7 @@ steps-safe g (an_exp a) h k = exp-safe g h a
 steps-safe g (operands at t e rest) h k = operands-safe g h at t e rest k
 steps-safe g (args at t e rest) h k = args-safe g h at t e rest k
 steps-safe g (fields before rest) h k = fields-safe g h before rest
+steps-safe g (branches w t before rest) h k = branches-safe g h w t before rest k
 steps-safe g (a_sig a) h k = sig-safe g h a
 steps-safe g (a_decl d) h k = decl-safe g h d
 steps-safe g (decls before ds) h k = decls-safe g h before ds

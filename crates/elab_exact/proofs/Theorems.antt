@@ -9,7 +9,7 @@ use Rattle.fing_syntax.specs.Phrase.{Binds}
 use Rattle.elab_judgments.specs.Judgments.Program.{ProgramMeans}
 use Rattle.elab_judgments.specs.Judgments.Meaning.{BindsMean}
 use Rattle.sig_definitions.specs.Verdict.{Verdict, holds, refuses, One}
-use Rattle.elab_judgments.specs.Refusals.Task.{Means, a_type, type_args, type_fields, an_exp, operands, args, fields, a_sig, a_decl, decls, a_mod, a_bind, binds}
+use Rattle.elab_judgments.specs.Refusals.Task.{Means, a_type, type_args, type_fields, an_exp, operands, args, fields, branches, a_sig, a_decl, decls, a_mod, a_bind, binds}
 use Rattle.elab_exact.specs.Claims.{Exactly, EachAnswered, OutcomesEqual, Exclusive, RefusalsEqual, Total, Ok, Err, Mem, AnswersExact, StepsSayTheRules, ProgramExactly, EachProgram}
 use Rattle.elab_laws.proofs.Kept.{binds_ok}
 use Rattle.elab_exact.proofs.Rules.Generic.{runs-sound}
@@ -17,7 +17,7 @@ use Rattle.elab_exact.proofs.Rules.Complete.{means-runs}
 use Rattle.elab_exact.proofs.Rules.Correct.{steps-sound}
 use Rattle.elab_judgments.specs.Refusals.Steps.{steps}
 use Rattle.sig_premise_laws.proofs.Determined.{packed-one}
-use Rattle.elab_exact.proofs.Answered.{type-one, type_args-one, type_fields-one, exp-one, operands-one, args-one, fields-one, sig-one, decl-one, decls-one, mod-one, bind-one, binds-one}
+use Rattle.elab_exact.proofs.Answered.{type-one, type_args-one, type_fields-one, exp-one, operands-one, args-one, fields-one, branches-one, sig-one, decl-one, decls-one, mod-one, bind-one, binds-one}
 
 pub each-answered : EachAnswered
 each-answered g (a_type a) h f = type-one g h a
@@ -27,6 +27,7 @@ each-answered g (an_exp a) h f = exp-one g h a
 each-answered g (operands at t e rest) h f = operands-one g h at t e rest
 each-answered g (args at t e rest) h f = args-one g h at t e rest f
 each-answered g (fields before rest) h f = fields-one g h before rest
+each-answered g (branches w t before rest) h f = branches-one g h w t before rest f
 each-answered g (a_sig a) h f = sig-one g h a
 each-answered g (a_decl d) h f = decl-one g h d
 each-answered g (decls before ds) h f = decls-one g h before ds

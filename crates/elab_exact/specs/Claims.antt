@@ -2,6 +2,7 @@
 use Rattle.std.specs.Prelude.{◌≡◌, ◌⊎◌}
 use Rattle.omega_kinds.specs.Kind.{Kind}
 use Rattle.omega_types.specs.Kinding.{HasKind}
+use Rattle.omega_types.specs.Normality.{Normal}
 use Rattle.omega_terms.specs.Term.{Term}
 use Rattle.sig_definitions.specs.Signatures.Sig.{Module}
 use Rattle.sig_definitions.specs.Env.{Env, kinds}
@@ -10,7 +11,7 @@ use Rattle.refusal_reasons.specs.Refusal.{Refusal}
 use Rattle.refusal_reasons.specs.Good.{GoodRefusal}
 use Rattle.elab_judgments.specs.Judgments.Program.{ProgramMeans, ProgramRefused}
 use Rattle.sig_definitions.specs.Verdict.{Verdict}
-use Rattle.elab_judgments.specs.Refusals.Task.{Task, Result, Means, type_args, args, binds}
+use Rattle.elab_judgments.specs.Refusals.Task.{Task, Result, Means, type_args, args, branches, binds}
 use Rattle.elab_judgments.specs.Refusals.Rule.{Runs}
 use Rattle.elab_judgments.specs.Refusals.Steps.{steps}
 use Rattle.elab_judgments.specs.Refusals.Refused.{Refused}
@@ -20,6 +21,7 @@ use Rattle.sig_laws.specs.Good.{OkEnv, Names}
 abbrev pub Fit : Env → Task → Type 0
 Fit g (type_args at t k rest) = HasKind (kinds g) t k
 Fit g (args at t e rest) = HasKind (kinds g) t Kind.Star
+Fit g (branches w t before rest) = Normal (kinds g) w Kind.Star
 Fit g (binds before bs) = Names g before
 Fit g a = Unit {0}
 

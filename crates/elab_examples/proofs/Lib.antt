@@ -11,3 +11,4 @@ pub mod Refusals
 pub mod Sealing
 pub mod Sharing
 pub mod SmallRows
+pub mod Sums

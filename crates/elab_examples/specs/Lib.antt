@@ -5,3 +5,4 @@ pub mod OutsideRow
 pub mod PackageRow
 pub mod Rows
 pub mod SharingRow
+pub mod SumRow

@@ -10,6 +10,7 @@ ghost use Rattle.elab_examples.specs.CoercionRow.{FunctorCoercion};
 ghost use Rattle.elab_examples.specs.IncludeRow.{IncludeMeans, FixingT, FixingU, ProjectMeans};
 ghost use Rattle.elab_examples.specs.OutsideRow.{OutsideProject, OutsideSeq};
 ghost use Rattle.elab_examples.specs.SharingRow.{GenerativeRefused, ApplicativeShares};
+ghost use Rattle.elab_examples.specs.SumRow.{CaseProgram, DataProgram};
 ghost use Rattle.elab_examples.specs.Rows.{EmptyProgram, SumProgram, SealingProgram, HiddenSumRefused, UnmatchedRefused, MissingRefused, OtherTypeRefused};
 
 /// What small programs mean, and how some of them are refused.
@@ -33,4 +34,6 @@ pub fn rows()
     ensures other_type { OtherTypeRefused }
     ensures twice_generative { GenerativeRefused }
     ensures twice_applicative { ApplicativeShares }
+    ensures case_of { CaseProgram }
+    ensures data { DataProgram }
 {}

@@ -9,7 +9,7 @@ use Rattle.omega_kinds.specs.Name.{Name}
 use Rattle.omega_kinds.specs.LabelOrder.{label_before}
 use Rattle.omega_types.specs.Ty.{Ty, Row}
 use Rattle.omega_types.specs.Kinding.{HasKind, HasKinds, Fresh}
-use Rattle.omega_types.specs.Kinding.HasKind.{k_int, k_bool, k_text, k_arrow, k_fields, k_all, k_lam}
+use Rattle.omega_types.specs.Kinding.HasKind.{k_int, k_bool, k_text, k_arrow, k_fields, k_sum, k_all, k_mu, k_lam}
 use Rattle.omega_types.specs.Kinding.HasKinds.{k_end, k_more}
 use Rattle.omega_types.specs.Binders.{extend, past, OfKinds}
 use Rattle.omega_types.proofs.Preservation.{normal-kind}
@@ -29,7 +29,8 @@ use Rattle.sig_laws.proofs.Formed.WellFormedLaws.{explicit-conv}
 use Rattle.fing_syntax.specs.Phrase.{TyEx, TyExs, FieldTyExs, Exp, OpExps, Args, FieldExps, SigEx, Decl, Decls, Mod, Bind, Binds}
 use Rattle.fing_syntax.specs.Place.{name_of}
 use Rattle.core_judgments.specs.TypeRules.{BaseGives, FieldTy, RecordTypeGives, ArrowGives, AllGives, OperatorGives, AppliedGives}
-use Rattle.core_judgments.specs.ExpRules.{LiteralGives, FieldExp, RecordGives, FunctionGives, TypeFunctionGives, CallGives, InstanceGives, GetGives, IfGives, OperationGives, FixGives}
+use Rattle.core_judgments.specs.ExpRules.{LiteralGives, FieldExp, RecordGives, FunctionGives, TypeFunctionGives, CallGives, InstanceGives, GetGives, IfGives, OperationGives, FixGives, InjectionGives, CaseGives}
+use Rattle.core_judgments.specs.DataRules.{MuGives, RollGives, UnrollGives}
 use Rattle.sig_judgments.specs.SigRules.{ValueGives, TypeGives, AbstractGives, ModuleGives, SignatureGives, IncludeGives, DeclarationsGive, GenerativeGives as GenerativeSigGives}
 use Rattle.module_judgments.specs.ModRules.{NamedGives, GenerativeGives, PartsGive, ApplyGives, IncludeGives as IncludeModule, SealGives, ValueGives as ValueModule, TypeGives as TypeModule, SignatureGives as SignatureModule}
 use Rattle.functor_judgments.specs.PureFunctor.{PureFunctorGives}
@@ -195,6 +196,8 @@ mutual
   type_kind g h (TyMeans.ty_all {a = a} {k = k} b AllGives.all) = k_all (type_kind (with_type g k (name_of a)) (tt, (tt, h)) b)
   type_kind g h (TyMeans.ty_lam {a = a} {k = k} b OperatorGives.operator) = k_lam (type_kind (with_type g k (name_of a)) (tt, (tt, h)) b)
   type_kind g h (TyMeans.ty_pack s (PackTypeGives.pack_type n)) = enc_explicit-kind (norm_abs-explicit n (sig_explicit g h s))
+  type_kind g h (TyMeans.ty_sum f r) = k_sum (field_kinds g h f r).0
+  type_kind g h (TyMeans.ty_mu {x = x} b MuGives.mu) = k_mu (type_kind (with_type g Kind.Star (name_of x)) (tt, (tt, h)) b)
 
   pub args_kind : (g : Env) {a : TyExs} {t u : Ty} {k j : Kind} → IsGoodEnv g → ArgTysMean g t k a u j → HasKind (kinds g) t k → HasKind (kinds g) u j
   args_kind g h ArgTysMean.no_args f = f
@@ -218,6 +221,10 @@ mutual
   exp_kind g h (ExpMeans.exp_fields f r) = k_fields (field_exp_kinds g h f r).0
   exp_kind g h (ExpMeans.exp_get a (GetGives.get p)) = part-kind (fields-kinds (exp_kind g h a)) p
   exp_kind g h (ExpMeans.exp_pack f s n m (PackGives.pack p)) = enc_explicit-kind (norm_abs-explicit n (sig_explicit g h s))
+  exp_kind g h (ExpMeans.exp_inj a b (InjectionGives.injection p)) = type_kind g h b
+  exp_kind g h (ExpMeans.exp_case a b f (CaseGives.case_ c o)) = type_kind g h b
+  exp_kind g h (ExpMeans.exp_roll a b (RollGives.roll n)) = type_kind g h b
+  exp_kind g h (ExpMeans.exp_unroll a (UnrollGives.unroll n)) = normal-kind n.0
 
   pub ops_kind : (g : Env) {a : OpExps} {t u : Ty} {d e : Term} → IsGoodEnv g → OpsMean g t d a u e → HasKind (kinds g) t Kind.Star → HasKind (kinds g) u Kind.Star
   ops_kind g h OpsMean.no_ops f = f

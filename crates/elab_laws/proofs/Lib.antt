@@ -6,4 +6,5 @@ pub mod Kept
 pub mod ModuleTyping
 pub mod PhraseRules
 pub mod Soundness
+pub mod SumTyping
 pub mod TypedClaims

@@ -9,14 +9,14 @@ use Rattle.omega_kinds.specs.Name.{Name}
 use Rattle.omega_types.specs.Ty.{Ty, Row}
 use Rattle.omega_types.specs.Kinding.{here}
 use Rattle.omega_types.specs.Normality.{Normal, Normals}
-use Rattle.omega_types.specs.Normality.Normal.{n_lam, n_int, n_bool, n_text, n_arrow, n_fields, n_all}
+use Rattle.omega_types.specs.Normality.Normal.{n_lam, n_int, n_bool, n_text, n_arrow, n_fields, n_sum, n_all, n_mu}
 use Rattle.omega_types.specs.Normality.Normals.{n_end}
 use Rattle.omega_types.specs.Normality.Neutral.{n_var}
 use Rattle.omega_types.specs.Binders.{extend}
 use Rattle.omega_types.proofs.Hereditary.{eta-normal}
 use Rattle.omega_terms.specs.Term.{Term, TermRow}
 use Rattle.omega_terms.specs.Typing.{At, HasType}
-use Rattle.omega_terms.proofs.NormalTyping.{Typed, TypedFields, typed-more, typed-normal, typed-sound}
+use Rattle.omega_terms.proofs.NormalTyping.{Typed, TypedFields, typed-more, typed-normal, typed-sound, normal-sum}
 use Rattle.omega_terms.proofs.TypedShorthands.{typed-packs}
 use Rattle.sig_definitions.specs.Signatures.Sig.{Sig, Abs, Module, made}
 use Rattle.sig_definitions.specs.Signatures.Alike.{NormalSigRow, NormalAbs}
@@ -26,21 +26,23 @@ use Rattle.sig_laws.proofs.Encoded.EncodingTyping.{Good, GoodAbs, good_abs-norma
 use Rattle.sig_laws.proofs.Encoded.EnvTyping.{GoodEnv, env-normal, find-good, type_term-typed, kinds-named_fields, good-type_vars, good-with_module, good-named_fields}
 use Rattle.sig_laws.proofs.Encoded.CoercionTyping.{match-typed}
 use Rattle.sig_laws.proofs.Encoded.LiftTyping.{lift-good}
-use Rattle.fing_syntax.specs.Phrase.{Mod, Bind, Binds, SigEx, Decl, Decls, TyEx, TyExs, FieldTyExs, Exp, OpExps, Args, FieldExps}
+use Rattle.fing_syntax.specs.Phrase.{Mod, Bind, Binds, SigEx, Decl, Decls, TyEx, TyExs, FieldTyExs, Exp, OpExps, Args, FieldExps, Branches}
 use Rattle.fing_syntax.specs.Place.{name_of}
 use Rattle.sig_definitions.specs.Signatures.FieldOrder.{with_names}
 use Rattle.core_judgments.specs.TypeRules.{BaseGives, FieldTy, RecordTypeGives, ArrowGives, AllGives, OperatorGives, AppliedGives}
-use Rattle.core_judgments.specs.ExpRules.{LiteralGives, FieldExp, RecordGives, FunctionGives, TypeFunctionGives, CallGives, InstanceGives, GetGives, IfGives, OperationGives, FixGives}
+use Rattle.core_judgments.specs.ExpRules.{LiteralGives, FieldExp, RecordGives, FunctionGives, TypeFunctionGives, CallGives, InstanceGives, GetGives, IfGives, OperationGives, FixGives, LabelGives, InjectionGives, CaseGives}
+use Rattle.core_judgments.specs.DataRules.{MuGives, RollGives, UnrollGives}
 use Rattle.sig_judgments.specs.SigRules.{ValueGives, TypeGives, AbstractGives, ModuleGives, SignatureGives, IncludeGives, DeclarationsGive, GenerativeGives as GenerativeSigGives}
 use Rattle.module_judgments.specs.ModRules.{NamedGives, GenerativeGives, PartsGive, ApplyGives, IncludeGives as IncludeModule, SealGives, ValueGives as ValueModule, TypeGives as TypeModule, SignatureGives as SignatureModule}
 use Rattle.functor_judgments.specs.PureFunctor.{PureFunctorGives}
 use Rattle.package_judgments.specs.Package.{PackTypeGives, PackGives, UnpackGives}
 use Rattle.elab_judgments.specs.Operators.{include_name}
 use Rattle.sig_definitions.specs.Signatures.RecordOrder.{NamesRise}
-use Rattle.elab_judgments.specs.Judgments.Meaning.{TyMeans, ArgTysMean, FieldTysMean, ExpMeans, OpsMean, ArgsMean, FieldExpsMean, SigMeans, DeclMeans, DeclsMean, ModMeans, BindMeans, BindsMean}
+use Rattle.elab_judgments.specs.Judgments.Meaning.{TyMeans, ArgTysMean, FieldTysMean, ExpMeans, OpsMean, ArgsMean, FieldExpsMean, BranchesMean, SigMeans, DeclMeans, DeclsMean, ModMeans, BindMeans, BindsMean}
 use Rattle.elab_judgments.specs.Judgments.Program.{ProgramMeans}
 use Rattle.sig_laws.proofs.Formed.NormGood.{norm-good}
 use Rattle.elab_laws.proofs.FieldLaws.{FreshAll, fresh_all-end, fresh_all-insert, normals-insert, typed-insert, no_fields-end, rise-with_name, rise-with_names, collected-typed}
+use Rattle.elab_laws.proofs.SumTyping.{BranchesTyped, part-normal, case-typed}
 use Rattle.elab_laws.proofs.ModuleTyping.{GoodModule, plain-module, packed-typed, module-good, path-type, path-value, project-typed, seq-typed}
 use Rattle.elab_laws.proofs.PhraseRules.{good-body, in-module, in-include, path-sig, refined-good, GoodDecls, decls-sig, join-decls, applicative-good, generative-good, apply-good, lets-good}
 use Rattle.sig_laws.proofs.Algebra.FormLaws.{kinds-type_vars}
@@ -57,6 +59,8 @@ mutual
   ty-good h (TyMeans.ty_all b AllGives.all) = n_all (ty-good (tt, (tt, h)) b)
   ty-good h (TyMeans.ty_lam b OperatorGives.operator) = n_lam (ty-good (tt, (tt, h)) b)
   ty-good h (TyMeans.ty_pack s (PackTypeGives.pack_type n)) = good_abs-normal (norm-good n (sig-good h s))
+  ty-good h (TyMeans.ty_sum f r) = n_sum (field_tys-good h f r).0
+  ty-good h (TyMeans.ty_mu b MuGives.mu) = n_mu (ty-good (tt, (tt, h)) b)
 
   pub arg_tys-good : {g : Env} {t u : Ty} {k j : Kind} {rest : TyExs} → GoodEnv g → Normal (kinds g) t k → ArgTysMean g t k rest u j → Normal (kinds g) u j
   arg_tys-good h n ArgTysMean.no_args = n
@@ -86,6 +90,13 @@ mutual
       let i : Good (extend (kinds g) ks) t = good-body (norm-good n (sig-good h a)) in
       let M = match-typed q.0 i m in
       typed-packs M.found (good-normal i) (Typed.call (typed-more (types g) M.typed) q.1) refl p
+  exp-good h (ExpMeans.exp_inj a b (InjectionGives.injection p)) = Typed.inj (ty-good h b) p (exp-good h a)
+  exp-good {g} h (ExpMeans.exp_case a b f (CaseGives.case_ c o)) =
+      let e = exp-good h a in
+      let n = normal-sum (typed-normal (env-normal g h) e) in
+      case-typed e n (ty-good h b) (branches-good h n f) o
+  exp-good h (ExpMeans.exp_roll a b (RollGives.roll n)) = Typed.roll (ty-good h b) n (exp-good h a)
+  exp-good h (ExpMeans.exp_unroll a (UnrollGives.unroll n)) = Typed.unroll (exp-good h a) n
 
   pub ops-good : {g : Env} {t u : Ty} {c e : Term} {rest : OpExps} → GoodEnv g → Typed (kinds g) (types g) c t → OpsMean g t c rest u e → Typed (kinds g) (types g) e u
   ops-good h t OpsMean.no_ops = t
@@ -101,6 +112,14 @@ mutual
   field_exps-good h (FieldExpsMean.next_field_exp {before = before} {x = x} {t = t} m a f) (RecordGives.next_field {row = row} n r) =
       let q = field_exps-good h f r in
       (typed-insert (Label.Name (name_of x)) q.1.0 (exp-good h a) q.0, fresh_all-insert before (name_of x) t row n q.1.1)
+
+  pub branches-good : {g : Env} {row : Row} {t : Ty} {before : List Name} {rest : Branches} {parts : List FieldExp}
+      → GoodEnv g
+      → Normals (kinds g) row
+      → BranchesMean g (Ty.Sum row) t before rest parts
+      → BranchesTyped (kinds g) (types g) row t parts
+  branches-good h n BranchesMean.no_branches = BranchesTyped.no_branches
+  branches-good h n (BranchesMean.next_branch m (LabelGives.label p) a f) = BranchesTyped.next_branch p (exp-good (part-normal n p, h) a) (branches-good h n f)
 
   pub sig-good : {g : Env} {S : SigEx} {x : Abs} → GoodEnv g → SigMeans g S x → GoodAbs (kinds g) x
   sig-good h (SigMeans.sig_path m p) = path-sig (mod-good h m) p

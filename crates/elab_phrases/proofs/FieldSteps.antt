@@ -1,4 +1,4 @@
--- Fields one after the other: those that are done, and those that are left.
+-- Fields and labels one after the other: those that are done, and those that are left.
 use Rattle.std.proofs.Common.{◌≡◌, List, [], ◌∷◌, ◌++◌, map, reverse, refl, sym, ap, ◌∙◌, subst}
 use Rattle.std.proofs.lemmas.List.{map-append, reverse-append, append-nil}
 use Rattle.omega_kinds.specs.Kind.{Kind}
@@ -10,21 +10,21 @@ use Rattle.sig_definitions.specs.Env.{Env}
 use Rattle.sig_definitions.specs.Signatures.RecordOrder.{IsNew}
 use Rattle.semantic_sigs.specs.declared.made.Kinded.{Kinded}
 use Rattle.semantic_sigs.specs.declared.made.Typed.{Typed}
-use Rattle.fing_syntax.specs.Phrase.{Span, SpanName, TyEx, TyAt, TyFields, FieldTyExs, NoFieldTys, MoreFieldTys, Exp, ExpAt, ExpFields, FieldExps, NoFieldExps, MoreFieldExps}
+use Rattle.fing_syntax.specs.Phrase.{Span, SpanName, TyEx, TyAt, TyFields, TySum, FieldTyExs, NoFieldTys, MoreFieldTys, Exp, ExpAt, ExpFields, FieldExps, NoFieldExps, MoreFieldExps}
 use Rattle.fing_syntax.specs.Place.{name_of}
-use Rattle.core_rules.specs.Records.{type_fields, exp_fields, RecordTypeIs, RecordIs}
+use Rattle.core_rules.specs.Records.{type_fields, exp_fields, RecordTypeIs, SumTypeIs, RecordIs}
 use Rattle.core_judgments.specs.TypeRules.{FieldTy, RecordTypeGives, RecordTypeRefuses}
 use Rattle.core_judgments.specs.ExpRules.{FieldExp, RecordGives, RecordRefuses}
 use Rattle.elab_judgments.specs.Judgments.Meaning.{TyMeans, FieldTysMean, ExpMeans, FieldExpsMean}
 use Rattle.elab_judgments.specs.Refusals.Refusal.{of_core}
 use Rattle.elab_judgments.specs.Refusals.Task.{a_type, an_exp, type_fields as type_task, fields as exp_task}
 use Rattle.fing_refusals.specs.declared.refusal.Refusal.{Refusal as CodeRefusal}
-use Rattle.elab_phrases.specs.Answered.{RefusedAs, ByRule}
-use Rattle.elab_phrases.specs.Fields.{names_before}
-use Rattle.elab_phrases.proofs.Refuse.Types.{ty_fields-parts, ty_fields-rule, ty_field-later}
-use Rattle.elab_phrases.proofs.Refuse.Expressions.{exp_fields-parts, exp_fields-rule, exp_field-later}
+use Rattle.elab_rules.specs.Answered.{RefusedAs, ByRule}
+use Rattle.elab_rules.specs.Fields.{names_before}
+use Rattle.elab_rules.proofs.Refuse.Types.{ty_fields-parts, ty_fields-rule, ty_field-later, ty_sum-parts, ty_sum-rule}
+use Rattle.elab_rules.proofs.Refuse.Expressions.{exp_fields-parts, exp_fields-rule, exp_field-later}
 
-names-more : {A : Type 0} (done : List (Name × A)) (x : Name × A) → names_before (done ++ (x ∷ [])) ≡ x.0 ∷ names_before done
+pub names-more : {A : Type 0} (done : List (Name × A)) (x : Name × A) → names_before (done ++ (x ∷ [])) ≡ x.0 ∷ names_before done
 names-more done x = ap reverse (map-append (λ y. y.0) done (x ∷ [])) ∙ reverse-append (map (λ y. y.0) done) (x.0 ∷ [])
 
 -- fields of types
@@ -87,9 +87,35 @@ record_type-rule {g} {at} {fields} {e} start all s w r =
     let m : FieldTysMean g [] fields w.0 = subst (λ d. FieldTysMean g (names_before d) fields w.0) s w.1 in
     ty_fields-rule m (subst (λ fs. ByRule of_core g at (RecordTypeRefuses [] fs) e) (w.2 ∙ ap (λ d. type_fields d ++ w.0) s) r)
 
+pub sum_type-means : {g : Env} {at : Span} {labels : FieldTyExs} {t : Ty} {k : Kind} (start all : List (Name × Kinded))
+    → start ≡ []
+    → TypesLeft g start labels all
+    → SumTypeIs (type_fields all) t k
+    → TyMeans g (TyAt at (TySum labels)) t k
+sum_type-means {g} {at} {labels} {t} {k} start all s w r =
+    let m : FieldTysMean g [] labels w.0 = subst (λ d. FieldTysMean g (names_before d) labels w.0) s w.1 in
+    let q : type_fields all ≡ w.0 = w.2 ∙ ap (λ d. type_fields d ++ w.0) s in
+    let v : RecordTypeGives [] w.0 r.0 = subst (λ fs. RecordTypeGives [] fs r.0) q r.3 in
+    subst (λ u. TyMeans g (TyAt at (TySum labels)) u k) (sym r.1) (subst (λ j. TyMeans g (TyAt at (TySum labels)) (Ty.Sum r.0) j) (sym r.2) (TyMeans.ty_sum m v))
+
+pub sum_type-parts : {g : Env} {at : Span} {labels : FieldTyExs} {e : CodeRefusal} (start : List (Name × Kinded))
+    → start ≡ []
+    → RefusedAs g (type_task (names_before start) labels) e
+    → RefusedAs g (a_type (TyAt at (TySum labels))) e
+sum_type-parts {g} {labels = labels} {e = e} start s r = ty_sum-parts (subst (λ d. RefusedAs g (type_task (names_before d) labels) e) s r)
+
+pub sum_type-rule : {g : Env} {at : Span} {labels : FieldTyExs} {e : CodeRefusal} (start all : List (Name × Kinded))
+    → start ≡ []
+    → TypesLeft g start labels all
+    → ByRule of_core g at (RecordTypeRefuses [] (type_fields all)) e
+    → RefusedAs g (a_type (TyAt at (TySum labels))) e
+sum_type-rule {g} {at} {labels} {e} start all s w r =
+    let m : FieldTysMean g [] labels w.0 = subst (λ d. FieldTysMean g (names_before d) labels w.0) s w.1 in
+    ty_sum-rule m (subst (λ fs. ByRule of_core g at (RecordTypeRefuses [] fs) e) (w.2 ∙ ap (λ d. type_fields d ++ w.0) s) r)
+
 -- fields of expressions
 
-exps-more : (done : List (Name × Typed)) (x : Name × Typed) (parts : List FieldExp) → exp_fields (done ++ (x ∷ [])) ++ parts ≡ exp_fields done ++ (FieldExp.field x.0 x.1.ty x.1.term ∷ parts)
+pub exps-more : (done : List (Name × Typed)) (x : Name × Typed) (parts : List FieldExp) → exp_fields (done ++ (x ∷ [])) ++ parts ≡ exp_fields done ++ (FieldExp.field x.0 x.1.ty x.1.term ∷ parts)
 exps-more [] x parts = refl
 exps-more (y ∷ done) x parts = ap (λ fs. FieldExp.field y.0 y.1.ty y.1.term ∷ fs) (exps-more done x parts)
 

@@ -8,7 +8,7 @@ use Rattle.sig_laws.specs.Good.{OkEnv}
 use Rattle.fing_syntax.specs.Phrase.{TyEx}
 use Rattle.elab_judgments.specs.Judgments.Meaning.{TyMeans}
 use Rattle.elab_phrases.proofs.ArgSteps.{env-in}
-use Rattle.elab_phrases.proofs.Given.{value-env, fix-env}
+use Rattle.elab_rules.proofs.Given.{value-env, fix-env}
 
 pub entered : {g h k : Env} {f : Name} {w t : Ty} → k ≡ Value f w ∷ h → w ≡ t → h ≡ g → k ≡ Value f t ∷ g
 entered {g} {h} {k} {f} {w} {t} p q s = p ∙ (ap (λ u. Value f u ∷ h) q ∙ ap (λ x. Value f t ∷ x) s)

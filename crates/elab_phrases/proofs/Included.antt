@@ -40,12 +40,12 @@ use Rattle.elab_judgments.specs.Refusals.Task.{a_bind, binds}
 use Rattle.elab_laws.proofs.FieldLaws.{rise-with_names}
 use Rattle.elab_laws.proofs.Kept.{mod_ok, binds_ok}
 use Rattle.fing_refusals.specs.declared.refusal.Refusal.{Refusal as CodeRefusal}
-use Rattle.elab_phrases.specs.Answered.{RefusedAs, Placed}
-use Rattle.elab_phrases.proofs.Entering.{left-module, left-fields}
+use Rattle.elab_rules.specs.Answered.{RefusedAs, Placed}
+use Rattle.elab_rules.proofs.Entering.{left-module, left-fields}
 use Rattle.elab_phrases.proofs.Means.{param-env}
-use Rattle.elab_phrases.proofs.Placing.{says-map, by-rule}
-use Rattle.elab_phrases.proofs.Refuse.Modules.{include-no_structure, include-later}
-use Rattle.elab_phrases.proofs.Slices.{empty}
+use Rattle.elab_rules.proofs.Placing.{says-map, by-rule}
+use Rattle.elab_rules.proofs.Refuse.Modules.{include-no_structure, include-later}
+use Rattle.elab_rules.proofs.Slices.{empty}
 
 -- a functor's body under its parameter
 pub body-module : (g : Env) (a : SigEx) (b : Mod) (x : Name) (y : Abs) (M : Module) → OkEnv g → SigMeans g a y

@@ -28,11 +28,11 @@ use Rattle.elab_judgments.specs.Refusals.Task.{a_sig, a_mod, decls, binds}
 use Rattle.elab_laws.proofs.FieldLaws.{rise-with_name}
 use Rattle.elab_laws.proofs.Kept.{sig_ok, mod_ok, bind_ok, binds_ok}
 use Rattle.fing_refusals.specs.declared.refusal.Refusal.{Refusal as CodeRefusal}
-use Rattle.elab_phrases.specs.Answered.{RefusedAs, ByRule, ByWhere}
-use Rattle.elab_phrases.specs.Fields.{fields_in}
-use Rattle.elab_phrases.specs.Modules.{FunctorGives, IsSingle}
-use Rattle.elab_phrases.proofs.Refuse.Signatures.{sig_fun-result, sig_refine-rule, decls-again, decls-later}
-use Rattle.elab_phrases.proofs.Refuse.Modules.{mod_functor-body, binds-later}
+use Rattle.elab_rules.specs.Answered.{RefusedAs, ByRule, ByWhere}
+use Rattle.elab_rules.specs.Fields.{fields_in}
+use Rattle.elab_rules.specs.Modules.{FunctorGives, IsSingle}
+use Rattle.elab_rules.proofs.Refuse.Signatures.{sig_fun-result, sig_refine-rule, decls-again, decls-later}
+use Rattle.elab_rules.proofs.Refuse.Modules.{mod_functor-body, binds-later}
 
 -- signatures of functors
 

@@ -1,11 +1,12 @@
 -- Refusals where the environment is as before, at the place of a phrase.
 use Rattle.std.proofs.Common.{◌≡◌, subst}
+use Rattle.omega_types.specs.Ty.{Ty}
 use Rattle.sig_definitions.specs.Env.{Env}
-use Rattle.fing_syntax.specs.Phrase.{Span}
+use Rattle.fing_syntax.specs.Phrase.{Span, SpanName}
 use Rattle.refusal_reasons.specs.Refusal.{ElabWhy}
 use Rattle.elab_judgments.specs.Refusals.Task.{Task}
 use Rattle.fing_refusals.specs.declared.refusal.Refusal.{Refusal as CodeRefusal}
-use Rattle.elab_phrases.specs.Answered.{RefusedAs, ByRule, ByTest}
+use Rattle.elab_rules.specs.Answered.{RefusedAs, ByRule, ByTest, ByInjection, ByRoll}
 
 pub refused-in : {g h : Env} {a : Task} {e : CodeRefusal} → h ≡ g → RefusedAs h a e → RefusedAs g a e
 refused-in {a = a} {e = e} s r = subst (λ x. RefusedAs x a e) s r
@@ -15,3 +16,9 @@ rule-at {reason = reason} {g = g} {at = at} {Refuses = R} {e = e} s q r = subst 
 
 pub test-at : {g h : Env} {at p : Span} {F : Type 0} {why : ElabWhy} {e : CodeRefusal} → h ≡ g → at ≡ p → ByTest h at F why e → ByTest g p F why e
 test-at {g = g} {at = at} {F = F} {why = why} {e = e} s q r = subst (λ p. ByTest g p F why e) q (subst (λ x. ByTest x at F why e) s r)
+
+pub injection-at : {g h : Env} {x : SpanName} {v v1 p p1 : Span} {t u : Ty} {e : CodeRefusal} → h ≡ g → v1 ≡ v → p1 ≡ p → ByInjection h x v1 t p1 u e → ByInjection g x v t p u e
+injection-at {g} {x = x} {v = v} {v1 = v1} {p1 = p1} {t = t} {u = u} {e = e} s q i r = subst (λ p. ByInjection g x v t p u e) i (subst (λ v. ByInjection g x v t p1 u e) q (subst (λ y. ByInjection y x v1 t p1 u e) s r))
+
+pub roll-at : {g h : Env} {v v1 p p1 : Span} {t u : Ty} {e : CodeRefusal} → h ≡ g → v1 ≡ v → p1 ≡ p → ByRoll h v1 t p1 u e → ByRoll g v t p u e
+roll-at {g} {v = v} {v1 = v1} {p1 = p1} {t = t} {u = u} {e = e} s q i r = subst (λ p. ByRoll g v t p u e) i (subst (λ v. ByRoll g v t p1 u e) q (subst (λ y. ByRoll y v1 t p1 u e) s r))

@@ -34,12 +34,12 @@ use Rattle.elab_judgments.specs.Refusals.Task.{decls as decls_task}
 use Rattle.elab_laws.proofs.FieldLaws.{Apart, NoFields, no_fields-end, new-no_fields, no_fields-merge, no_fields-rename, with_names-no_fields}
 use Rattle.elab_laws.proofs.Kept.{decl_ok, mod_ok, sig_ok}
 use Rattle.fing_refusals.specs.declared.refusal.Refusal.{Refusal as CodeRefusal}
-use Rattle.elab_phrases.specs.Answered.{RefusedAs}
-use Rattle.elab_phrases.specs.Fields.{fields_in}
-use Rattle.elab_phrases.proofs.Entering.{left-type_vars, left-module, left-fields}
-use Rattle.elab_phrases.proofs.Given.{ok-map}
+use Rattle.elab_rules.specs.Answered.{RefusedAs}
+use Rattle.elab_rules.specs.Fields.{fields_in}
+use Rattle.elab_rules.proofs.Entering.{left-type_vars, left-module, left-fields}
+use Rattle.elab_rules.proofs.Given.{ok-map}
 use Rattle.elab_phrases.proofs.Means.{applicative-means, decl-structure, decl-whole, param-env}
-use Rattle.elab_phrases.proofs.Slices.{empty, first-rest, rest-of}
+use Rattle.elab_rules.proofs.Slices.{empty, first-rest, rest-of}
 
 -- a declaration and those after it
 

@@ -20,9 +20,9 @@ use Rattle.elab_judgments.specs.Judgments.Meaning.{SigMeans, ExpMeans}
 use Rattle.elab_judgments.specs.Refusals.Task.{an_exp}
 use Rattle.elab_laws.proofs.Kept.{sig_ok}
 use Rattle.fing_refusals.specs.declared.refusal.Refusal.{Refusal as CodeRefusal}
-use Rattle.elab_phrases.specs.Answered.{RefusedAs, ByMatch}
-use Rattle.elab_phrases.proofs.Refuse.Expressions.{exp_pack-match}
-use Rattle.elab_phrases.proofs.Ruled.{match-forms}
+use Rattle.elab_rules.specs.Answered.{RefusedAs, ByMatch}
+use Rattle.elab_rules.proofs.Refuse.Expressions.{exp_pack-match}
+use Rattle.elab_rules.proofs.Ruled.{match-forms}
 
 pub found-in : {g h : Env} {left s : Sig} {d : Term} (x : Name) → h ≡ g → OkEnv g → find g x ≡ Some (s, d) → left ≡ s → OkSig (kinds h) left
 found-in {g} {left = left} {s = s} {d = d} x q o f e = subst (λ y. OkSig (kinds y) left) (sym q) (subst (OkSig (kinds g)) (sym e) (find-good g x o (s, d) f))

@@ -1,5 +1,5 @@
 // Bindings: what each form means, and what a structure of them means, in an environment.
-ghost use Rattle.std.specs.Prelude.{◌≡◌, IfErr, IfOk, MatchOption, OnOk};
+ghost use Rattle.std.specs.Prelude.{◌≡◌, IfErr, IfOk, OnOk};
 ghost use Rattle.sig_definitions.specs.Env.{named_fields, with_module};
 ghost use Rattle.sig_definitions.specs.Signatures.FieldOrder.{with_name as with_name_after, with_names as with_names_after};
 ghost use Rattle.sig_laws.specs.Good.{Names as GoodNames, OkEnv};
@@ -11,21 +11,21 @@ ghost use Rattle.elab_judgments.specs.Operators.{include_name};
 ghost use Rattle.elab_judgments.specs.Refusals.Task.{a_bind, binds as binds_task};
 ghost use Rattle.fing_syntax.specs.Phrase.{BindAt, BindInclude, MoreBinds, Span as Place};
 ghost use Rattle.fing_syntax.specs.View.{binds as binds_of};
-ghost use Rattle.elab_phrases.specs.Answered.{RefusedAs};
-ghost use Rattle.elab_phrases.specs.Modules.{IsSingle};
+ghost use Rattle.elab_rules.specs.Answered.{RefusedAs};
+ghost use Rattle.elab_rules.specs.Modules.{IsSingle};
 
 use crate::expressions::exp;
-use crate::mod_rules::{end_rule, include_rule};
 use crate::modules::module;
-use crate::refusing::refuse;
-use crate::scopes::{leave, push_fields, push_module};
-use crate::sets::{NameSet, with_names};
 use crate::sigs::sig;
 use crate::types::ty;
+use elab_rules::mod_rules::{end_rule, include_of, include_rule};
+use elab_rules::refusing::refuse;
+use elab_rules::scopes::{leave, push_included, push_module};
+use elab_rules::sets::{NameSet, with_names};
 use fing_refusals::{ElabWhy, Refusal};
 use fing_syntax::{Bind, BindWhat, Mod};
 use module_rules::{bind_sig, bind_type, bind_val, seq_bind};
-use omega_kinds::{Mem, Name, name_of};
+use omega_kinds::Name;
 use semantic_sigs::{Abs, Env, Module, SigFields};
 use std::alloc::Global;
 
@@ -83,16 +83,6 @@ fn binds_from(
         return bound(alloc, env, before, first, rest);
     };
     included(alloc, env, before, whole, rest)
-}
-
-// The module that a binding includes; `None` exactly for a single binding.
-fn include_of(phrase: &Bind) -> Option<&Mod>
-    ensures { MatchOption result (IsSingle phrase.now) (λ m. (p : Place) × (phrase.now ≡ BindAt p (BindInclude m.now))) }
-{
-    match &phrase.what {
-        BindWhat::Include(whole) => Some(whole),
-        _ => None,
-    }
 }
 
 // A single binding and the rest of a structure.
@@ -185,15 +175,6 @@ fn included_under(
     leave(env, fields.items().len());
     leave(env, head.kinds().items().len() + 1);
     Ok(found)
-}
-
-// An included module and each of its fields.
-fn push_included(alloc: Global, env: &mut Env, head: &Abs, fields: &SigFields) -> Result<(), Mem>
-    ensures { OnOk result (env.new ≡ named_fields (with_module env.old (kinds_of head.now) include_name (body_of head.now)) (sig_row fields.now)) }
-{
-    let hidden = name_of(alloc, b"%4")?;
-    push_module(env, &hidden, head)?;
-    push_fields(env, fields)
 }
 
 // A single binding: its name, and what it binds. An include is none: the rest of a structure takes it.

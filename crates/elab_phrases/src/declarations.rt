@@ -4,29 +4,27 @@ ghost use Rattle.sig_definitions.specs.Env.{named_fields, type_vars};
 ghost use Rattle.sig_definitions.specs.Signatures.FieldOrder.{with_names as with_names_after};
 ghost use Rattle.sig_definitions.specs.Signatures.Sig.{Str};
 ghost use Rattle.sig_laws.specs.Good.{OkEnv};
-ghost use Rattle.semantic_sigs.specs.Fields.{sig_row};
 ghost use Rattle.semantic_sigs.specs.View.{body_of, kinds_of};
 ghost use Rattle.elab_judgments.specs.Judgments.Meaning.{DeclMeans, DeclsMean};
 ghost use Rattle.elab_judgments.specs.Refusals.Task.{a_decl, decls as decls_task};
-ghost use Rattle.fing_syntax.specs.Leaves.{place, spelled};
+ghost use Rattle.fing_syntax.specs.Leaves.{spelled};
 ghost use Rattle.fing_syntax.specs.Phrase.{DeclAt, DeclInclude, DeclModule, DeclSignature, DeclTyIs, DeclTyOf, DeclVal, Span as Place};
-ghost use Rattle.fing_syntax.specs.Place.{decl_span};
 ghost use Rattle.fing_syntax.specs.View.{decls as decls_of};
-ghost use Rattle.elab_phrases.specs.Answered.{RefusedAs};
-ghost use Rattle.elab_phrases.specs.Fields.{fields_in};
+ghost use Rattle.elab_rules.specs.Answered.{RefusedAs};
+ghost use Rattle.elab_rules.specs.Fields.{fields_in};
 
-use crate::scopes::{leave, push_fields, push_type_vars};
-use crate::sets::{NameSet, with_names};
-use crate::signature_rules::{
+use crate::sigs::sig;
+use crate::types::ty;
+use elab_rules::places::decl_place;
+use elab_rules::scopes::{fields_of, leave, push_fields, push_type_vars};
+use elab_rules::sets::{NameSet, with_names};
+use elab_rules::signature_rules::{
     abstract_rule, declarations_rule, distinct_rule, include_rule, module_rule, no_fields,
     signature_rule, type_rule, value_rule,
 };
-use crate::sigs::sig;
-use crate::types::ty;
 use fing_refusals::Refusal;
 use fing_syntax::{Decl, DeclWhat, SigEx, SpanName, TyEx};
-use fing_text::Span;
-use semantic_sigs::{Abs, Env, SigFields, SigNode};
+use semantic_sigs::{Abs, Env};
 use std::alloc::Global;
 
 // A declaration.
@@ -113,20 +111,6 @@ fn decl_include(alloc: Global, env: &mut Env, of: &SigEx) -> Result<Abs, Refusal
     include_rule(env, of.span, &found)
 }
 
-// The place that a declaration's label is refused at.
-fn decl_place(phrase: &Decl) -> Span
-    ensures { place result ≡ decl_span phrase.now }
-{
-    match &phrase.what {
-        DeclWhat::Val(name, _) => name.span,
-        DeclWhat::TyIs(name, _) => name.span,
-        DeclWhat::TyOf(name, _) => name.span,
-        DeclWhat::Module(name, _) => name.span,
-        DeclWhat::Signature(name, _) => name.span,
-        DeclWhat::Include(of) => of.span,
-    }
-}
-
 // The declarations that are left, after those of the labels before.
 #[cycle(elab)]
 pub(crate) fn decls(
@@ -174,15 +158,4 @@ fn decls_under(
     leave(env, fields.items().len());
     leave(env, head.kinds().items().len());
     Ok(found)
-}
-
-// The fields of a structure.
-fn fields_of(sig: &Abs) -> &SigFields
-    requires { body_of sig.now ≡ Str (fields_in sig.now) }
-    ensures { sig_row result.now ≡ fields_in sig.now }
-{
-    match sig.body().node() {
-        SigNode::Str(fields) => fields,
-        _ => unreachable!(),
-    }
 }

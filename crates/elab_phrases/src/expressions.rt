@@ -1,41 +1,39 @@
-// Expressions: what each form means, a type and a term, in an environment.
+// Expressions: what each form means, a type and a term, in an environment. Those of sums and of recursive types have a file of
+// their own.
 ghost use Rattle.std.specs.Prelude.{◌≡◌, ◌++◌, ◌∷◌, [], List, IfErr, IfOk, OnOk};
 ghost use Rattle.omega_kinds.specs.Kind.{Star};
 ghost use Rattle.omega_kinds.specs.View.{kind_tree};
 ghost use Rattle.omega_types.specs.Normality.{Normal};
-ghost use Rattle.omega_types.specs.Ty.{Ty as TyTree};
 ghost use Rattle.sig_definitions.specs.Env.{Value, kinds as kinds_in};
 ghost use Rattle.sig_laws.specs.Good.{OkEnv};
 ghost use Rattle.core_rules.specs.Records.{exp_fields as exp_parts};
 ghost use Rattle.core_judgments.specs.ExpRules.{FieldExp};
-ghost use Rattle.elab_judgments.specs.Operators.{omega_op as omega_op_of, with_type};
 ghost use Rattle.elab_judgments.specs.Judgments.Meaning.{ArgsMean, ExpMeans, FieldExpsMean, OpsMean};
 ghost use Rattle.elab_judgments.specs.Refusals.Task.{an_exp, args as args_task, fields as fields_task, operands as operands_task};
 ghost use Rattle.fing_syntax.specs.Leaves.{op_of, place, spelled};
 ghost use Rattle.fing_syntax.specs.Phrase.{ArgExp, ArgTy, ExpApply, ExpAt, ExpFields, ExpFix, ExpGet, ExpIf, ExpLam, ExpOps, ExpTyLam, MoreArgs, MoreFieldExps, MoreOps, Span as Place};
 ghost use Rattle.fing_syntax.specs.View.{args as args_of, field_exps, ops};
-ghost use Rattle.elab_phrases.specs.Answered.{RefusedAs};
-ghost use Rattle.elab_phrases.specs.Fields.{names_before};
+ghost use Rattle.elab_rules.specs.Answered.{RefusedAs};
+ghost use Rattle.elab_rules.specs.Fields.{names_before};
 
-use crate::exp_rules::{
-    call_rule, expect_all, expect_arrow, expect_bool, expect_int, expect_record, fix_rule,
-    function_rule, get_rule, if_rule, instance_rule, literal_rule, operation_rule, record_rule,
-    type_function_rule,
-};
-use crate::naming::{add, expect_new, up_to};
-use crate::scopes::{leave, push_type, push_value};
+use crate::sums::{exp_case, exp_inj, exp_roll, exp_unroll};
 use crate::types::{ty, value_ty};
 use crate::uses::{pack_value, path_value};
 use core_rules::Literal;
+use elab_rules::exp_rules::{
+    arrow_of, call_rule, expect_all, expect_arrow, expect_bool, expect_int, expect_record,
+    fix_rule, function_rule, get_rule, if_rule, instance_rule, literal_rule, omega_op,
+    operation_rule, record_rule, type_function_rule,
+};
+use elab_rules::naming::{add, expect_new, up_to};
+use elab_rules::scopes::{leave, push_type, push_value};
 use fing_refusals::Refusal;
 use fing_syntax::{Arg, Exp, ExpWhat, Op, SpanName, TyEx};
 use fing_text::Span;
-use omega_kinds::{Kind, Mem, Name};
-use omega_terms::Op as TermOp;
-use omega_types::{Ty, TyNode};
-use semantic_sigs::{Env, Kinded, Typed};
+use omega_kinds::{Kind, Name};
+use semantic_sigs::{Env, Typed};
 use std::alloc::Global;
-use type_normal::{NormalTy, as_normal, plain};
+use type_normal::NormalTy;
 
 /// What an expression means: its type and its term.
 #[cycle(elab)]
@@ -66,12 +64,20 @@ pub(crate) fn exp(alloc: Global, env: &mut Env, phrase: &Exp) -> Result<Typed, R
         ExpWhat::Fields(fields) => exp_record(alloc, env, at, fields),
         ExpWhat::Get(whole, name) => exp_get(alloc, env, whole, name),
         ExpWhat::Pack(name, sig) => pack_value(alloc, env, name, sig),
+        ExpWhat::Inj(label, value, target) => exp_inj(alloc, env, label, value, target),
+        ExpWhat::Case {
+            whole,
+            result: target,
+            branches,
+        } => exp_case(alloc, env, at, whole, target, branches),
+        ExpWhat::Roll(value, target) => exp_roll(alloc, env, value, target),
+        ExpWhat::Unroll(whole) => exp_unroll(alloc, env, whole),
     }
 }
 
-// An expression under a value parameter of a type.
+/// An expression under a value parameter of a type.
 #[cycle(elab)]
-fn exp_under(
+pub(crate) fn exp_under(
     alloc: Global,
     env: &mut Env,
     name: &Name,
@@ -156,14 +162,6 @@ fn exp_fix(
     fix_rule(alloc, env, body.span, &from, &to, inner)
 }
 
-// The type of functions from one type to another.
-fn arrow_of(alloc: Global, from: &Kinded, to: &Kinded) -> Result<NormalTy, Mem>
-    ensures { IfOk result (λ t. t ≡ TyTree.Arrow from.now.ty to.now.ty) }
-{
-    let node = TyNode::Arrow(plain(&from.ty).share()?, plain(&to.ty).share()?);
-    Ok(as_normal(Ty::make(alloc, node)?))
-}
-
 // `if E1 then E2 else E3`.
 #[cycle(elab)]
 #[inline(never)]
@@ -236,21 +234,6 @@ fn operand(
     let whole = operation_rule(alloc, env, to, op, left, right)?;
     let both = up_to(at, to);
     operands(alloc, env, both, whole, rest)
-}
-
-// The operator of terms.
-fn omega_op(op: Op) -> TermOp
-    ensures { result ≡ omega_op_of (op_of op) }
-{
-    match op {
-        Op::Add => TermOp::Add,
-        Op::Sub => TermOp::Sub,
-        Op::Mul => TermOp::Mul,
-        Op::Div => TermOp::Div,
-        Op::Rem => TermOp::Rem,
-        Op::Less => TermOp::Less,
-        Op::Equal => TermOp::Equal,
-    }
 }
 
 // A function and its arguments.

@@ -7,20 +7,19 @@ ghost use Rattle.semantic_sigs.specs.View.{body_of, kinds_of};
 ghost use Rattle.elab_judgments.specs.Judgments.Meaning.{ModMeans};
 ghost use Rattle.elab_judgments.specs.Refusals.Task.{a_mod};
 ghost use Rattle.fing_syntax.specs.Leaves.{spelled};
-ghost use Rattle.fing_syntax.specs.Phrase.{ModApply, ModAt, ModFunctor, ModName, ModProject, ModSeal, ModStruct, ModUnpack, Span as Place};
+ghost use Rattle.fing_syntax.specs.Phrase.{ModAt, ModFunctor, ModProject, ModSeal, ModStruct, ModUnpack, Span as Place};
 ghost use Rattle.fing_syntax.specs.View.{binds as binds_of};
-ghost use Rattle.elab_phrases.specs.Answered.{RefusedAs};
+ghost use Rattle.elab_rules.specs.Answered.{RefusedAs};
 
 use crate::bindings::binds;
 use crate::expressions::exp;
-use crate::mod_rules::{
-    apply_rule, functor_rule, match_rule, named_rule, parts_rule, project_rule,
-};
-use crate::package_rules::unpack_rule;
-use crate::paths::path_part;
-use crate::scopes::{leave, push_module};
-use crate::sets::NameSet;
 use crate::sigs::sig;
+use elab_rules::mod_rules::{functor_rule, match_rule, named_rule, project_rule};
+use elab_rules::named::{mod_apply, mod_name};
+use elab_rules::package_rules::unpack_rule;
+use elab_rules::paths::path_part;
+use elab_rules::scopes::{leave, push_module};
+use elab_rules::sets::NameSet;
 use fing_refusals::Refusal;
 use fing_syntax::{Bind, Exp, Mod, ModWhat, SigEx, SpanName};
 use module_rules::seal;
@@ -53,16 +52,6 @@ pub(crate) fn module(alloc: Global, env: &mut Env, phrase: &Mod) -> Result<Modul
         ModWhat::Seal(name, by) => mod_seal(alloc, env, name, by),
         ModWhat::Unpack(value, by) => mod_unpack(alloc, env, value, by),
     }
-}
-
-// `X`.
-#[inline(never)]
-fn mod_name(alloc: Global, env: &Env, name: &SpanName) -> Result<Module, Refusal>
-    requires { OkEnv env.now }
-    ensures given { IfOk result (λ m. (at : Place) → ModMeans env.now (ModAt at (ModName (spelled name.now))) (module_of m)) }
-    ensures refused { IfErr result (λ e. (at : Place) → RefusedAs env.now (a_mod (ModAt at (ModName (spelled name.now)))) e) }
-{
-    named_rule(alloc, env, name)
 }
 
 // A structure.
@@ -136,25 +125,6 @@ fn mod_functor(
     let from = sig(alloc, env, param)?;
     let inner = mod_under(alloc, env, &name.name, &from, body)?;
     Ok(functor_rule(alloc, generative, &from, inner)?)
-}
-
-// `X1 X2`.
-#[inline(never)]
-fn mod_apply(
-    alloc: Global,
-    env: &Env,
-    function: &SpanName,
-    arg: &SpanName,
-) -> Result<Module, Refusal>
-    requires { OkEnv env.now }
-    ensures given { IfOk result (λ m. (at : Place) → ModMeans env.now (ModAt at (ModApply (spelled function.now) (spelled arg.now))) (module_of m)) }
-    ensures refused { IfErr result (λ e. (at : Place) → RefusedAs env.now (a_mod (ModAt at (ModApply (spelled function.now) (spelled arg.now)))) e) }
-{
-    let functor = named_rule(alloc, env, function)?;
-    let parts = parts_rule(alloc, env, function.span, functor.sig.body())?;
-    let found = named_rule(alloc, env, arg)?;
-    let matched = match_rule(alloc, env, arg.span, found.sig.body(), &parts.1)?;
-    Ok(apply_rule(alloc, &functor, found.term, matched)?)
 }
 
 // `X :> S`.

@@ -5,7 +5,7 @@ ghost use Rattle.sig_laws.specs.Good.{OkEnv};
 ghost use Rattle.semantic_sigs.specs.Made.{module_of};
 ghost use Rattle.elab_judgments.specs.Judgments.Meaning.{ExpMeans, ModMeans, SigMeans, TyMeans};
 ghost use Rattle.elab_judgments.specs.Refusals.Task.{a_mod, a_sig, a_type, an_exp};
-ghost use Rattle.elab_phrases.specs.Answered.{RefusedAs};
+ghost use Rattle.elab_rules.specs.Answered.{RefusedAs};
 
 use crate::expressions::exp;
 use crate::modules::module;

@@ -11,19 +11,21 @@ ghost use Rattle.elab_judgments.specs.Operators.{with_type};
 ghost use Rattle.elab_judgments.specs.Judgments.Meaning.{ArgTysMean, FieldTysMean, TyMeans};
 ghost use Rattle.elab_judgments.specs.Refusals.Task.{a_type, type_args, type_fields};
 ghost use Rattle.fing_syntax.specs.Leaves.{place, spelled};
-ghost use Rattle.fing_syntax.specs.Phrase.{MoreFieldTys, MoreTys, Span as Place, TyAll, TyApply, TyArrow, TyAt, TyFields, TyLam};
+ghost use Rattle.fing_syntax.specs.Phrase.{MoreFieldTys, MoreTys, Span as Place, TyAll, TyApply, TyArrow, TyAt, TyFields, TyLam, TyMu, TySum};
 ghost use Rattle.fing_syntax.specs.View.{field_tys, tys};
-ghost use Rattle.elab_phrases.specs.Answered.{NoValueType, RefusedAs};
-ghost use Rattle.elab_phrases.specs.Fields.{names_before};
+ghost use Rattle.elab_rules.specs.Answered.{NoValueType, RefusedAs};
+ghost use Rattle.elab_rules.specs.Fields.{names_before};
 
-use crate::naming::{add, expect_new, up_to};
-use crate::scopes::{leave, push_type};
-use crate::type_rules::{
+use crate::uses::{pack_type, path_type};
+use core_rules::Base;
+use elab_rules::data_rules::mu_rule;
+use elab_rules::naming::{add, expect_new, up_to};
+use elab_rules::scopes::{leave, push_type};
+use elab_rules::sum_rules::sum_rule;
+use elab_rules::type_rules::{
     all_rule, apply_rule, arrow_rule, base_rule, expect_operator, expect_star, fields_rule,
     lam_rule,
 };
-use crate::uses::{pack_type, path_type};
-use core_rules::Base;
 use fing_refusals::Refusal;
 use fing_syntax::{SpanName, TyEx, TyWhat};
 use fing_text::Span;
@@ -53,6 +55,8 @@ pub(crate) fn ty(alloc: Global, env: &mut Env, phrase: &TyEx) -> Result<Kinded, 
         TyWhat::All(name, kind, body) => ty_all(alloc, env, name, kind, body),
         TyWhat::Lam(name, kind, body) => ty_lam(alloc, env, name, kind, body),
         TyWhat::Pack(sig) => pack_type(alloc, env, sig),
+        TyWhat::Sum(labels) => ty_sum(alloc, env, at, labels),
+        TyWhat::Mu(name, body) => ty_mu(alloc, env, name, body),
     }
 }
 
@@ -161,7 +165,26 @@ fn ty_record(
     fields_rule(alloc, env, at, parts)
 }
 
-// The fields that are left of a record type, behind those that are done.
+// A sum type.
+#[cycle(elab)]
+#[inline(never)]
+fn ty_sum(
+    alloc: Global,
+    env: &mut Env,
+    at: Span,
+    labels: &[(SpanName, TyEx)],
+) -> Result<Kinded, Refusal>
+    requires { OkEnv env.old }
+    ensures given { IfOk result (λ o. TyMeans env.old (TyAt (place at) (TySum (field_tys labels.now))) o.ty (kind_tree o.kind)) }
+    ensures refused { IfErr result (λ e. RefusedAs env.old (a_type (TyAt (place at) (TySum (field_tys labels.now)))) e) }
+    ensures same { OnOk result (env.new ≡ env.old) }
+{
+    let mut parts = Vec::new(alloc);
+    ty_fields(alloc, env, &mut parts, labels)?;
+    sum_rule(alloc, env, at, parts)
+}
+
+// The fields that are left of a record type, or the labels of a sum type, behind those that are done.
 #[cycle(elab)]
 fn ty_fields(
     alloc: Global,
@@ -180,7 +203,7 @@ fn ty_fields(
     }
 }
 
-// One field of a record type, behind those that are done, and then those that are left.
+// One field of a record type, or label of a sum type, behind those that are done, and then those that are left.
 #[cycle(elab)]
 fn ty_field(
     alloc: Global,
@@ -256,4 +279,17 @@ fn ty_lam(
 {
     let inner = ty_under(alloc, env, &name.name, kind, body)?;
     lam_rule(alloc, kind, &inner)
+}
+
+// A recursive type, for which its name stands in the body.
+#[cycle(elab)]
+#[inline(never)]
+fn ty_mu(alloc: Global, env: &mut Env, name: &SpanName, body: &TyEx) -> Result<Kinded, Refusal>
+    requires { OkEnv env.old }
+    ensures given { IfOk result (λ o. (at : Place) → TyMeans env.old (TyAt at (TyMu (spelled name.now) body.now)) o.ty (kind_tree o.kind)) }
+    ensures refused { IfErr result (λ e. (at : Place) → RefusedAs env.old (a_type (TyAt at (TyMu (spelled name.now) body.now))) e) }
+    ensures same { OnOk result (env.new ≡ env.old) }
+{
+    let inner = ty_under(alloc, env, &name.name, &Kind::Star, body)?;
+    mu_rule(alloc, env, body.span, &inner)
 }

@@ -6,12 +6,12 @@ ghost use Rattle.elab_judgments.specs.Judgments.Meaning.{ExpMeans, TyMeans};
 ghost use Rattle.elab_judgments.specs.Refusals.Task.{a_type, an_exp};
 ghost use Rattle.fing_syntax.specs.Leaves.{place, spelled};
 ghost use Rattle.fing_syntax.specs.Phrase.{ExpAt, ExpPack, PathExp, PathTy, Span as Place, TyAt, TyPack};
-ghost use Rattle.elab_phrases.specs.Answered.{RefusedAs};
+ghost use Rattle.elab_rules.specs.Answered.{RefusedAs};
 
-use crate::mod_rules::{match_rule, named_rule};
 use crate::modules::module;
-use crate::path_rules::{type_path_rule, value_path_rule};
 use crate::sigs::sig;
+use elab_rules::mod_rules::{match_rule, named_rule};
+use elab_rules::path_rules::{type_path_rule, value_path_rule};
 use fing_refusals::Refusal;
 use fing_syntax::{Mod, SigEx, SpanName};
 use fing_text::Span;

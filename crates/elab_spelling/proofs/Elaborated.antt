@@ -7,10 +7,12 @@ use Rattle.omega_kinds.specs.declared.effect.Effect.{Effect}
 use Rattle.omega_kinds.specs.declared.effect.Effect.TheVariants.{Pure, Impure}
 use Rattle.omega_kinds.specs.Name.{Name}
 use Rattle.omega_types.specs.Ty.{Ty, Row}
+use Rattle.omega_types.specs.Normality.{Normals}
 use Rattle.omega_types.specs.Normality.Normal.{n_arrow}
 use Rattle.omega_types.specs.Binders.{extend, past}
 use Rattle.omega_terms.specs.declared.version.Version.{Version}
 use Rattle.omega_terms.specs.Term.{Term, TermRow}
+use Rattle.omega_terms.proofs.NormalTyping.{normal-sum}
 use Rattle.sig_definitions.specs.Signatures.Sig.{Sig, Abs, SigRow, Module, made}
 use Rattle.sig_definitions.specs.Signatures.SigSubst.{raise_sig_row}
 use Rattle.sig_definitions.specs.Signatures.Encoding.{enc_abs}
@@ -22,11 +24,13 @@ use Rattle.sig_laws.specs.Good.{OkSig, OkRow, OkRight, OkEnv, OkModule}
 use Rattle.sig_laws.proofs.Algebra.FormLaws.{kinds-type_vars}
 use Rattle.sig_laws.proofs.Formed.Conditions.{abs-body, left-functor, structure-row}
 use Rattle.sig_premise_laws.proofs.Environments.{body-ok, good-module, good-fields, good-type_fields, find-good}
-use Rattle.fing_syntax.specs.Phrase.{TyEx, TyExs, FieldTyExs, Exp, OpExps, Args, FieldExps, SigEx, Decl, Decls, Mod, Bind, Binds}
+use Rattle.fing_syntax.specs.Phrase.{TyEx, TyExs, FieldTyExs, Exp, OpExps, Args, FieldExps, Branches, SigEx, Decl, Decls, Mod, Bind}
+use Rattle.fing_syntax.specs.Phrase.{Binds}
 use Rattle.fing_syntax.specs.Place.{name_of}
 use Rattle.core_judgments.specs.TypeRules.{BaseGives, FieldTy, RecordTypeGives, ArrowGives, AllGives, OperatorGives, AppliedGives}
 use Rattle.core_judgments.specs.ExpRules.{LiteralGives, FieldExp, RecordGives, FunctionGives, TypeFunctionGives, CallGives, InstanceGives, GetGives, IfGives}
-use Rattle.core_judgments.specs.ExpRules.{OperationGives, FixGives}
+use Rattle.core_judgments.specs.ExpRules.{OperationGives, FixGives, LabelGives, InjectionGives, CaseGives}
+use Rattle.core_judgments.specs.DataRules.{MuGives, RollGives, UnrollGives}
 use Rattle.sig_judgments.specs.SigRules.{ValueGives, TypeGives, AbstractGives, ModuleGives, SignatureGives, IncludeGives, DeclarationsGive}
 use Rattle.sig_judgments.specs.SigRules.{GenerativeGives as GenerativeSigGives}
 use Rattle.module_judgments.specs.ModRules.{NamedGives, GenerativeGives, PartsGive, IncludeGives as IncludeModule, SealGives, ValueGives as ValueModule}
@@ -35,21 +39,22 @@ use Rattle.functor_judgments.specs.PureFunctor.{PureFunctorGives}
 use Rattle.package_judgments.specs.Package.{PackTypeGives, PackGives, UnpackGives}
 use Rattle.elab_judgments.specs.Operators.{omega_op, include_name, with_type}
 use Rattle.elab_judgments.specs.Judgments.Meaning.{TyMeans, ArgTysMean, FieldTysMean, ExpMeans, OpsMean, ArgsMean, FieldExpsMean, SigMeans, DeclMeans}
-use Rattle.elab_judgments.specs.Judgments.Meaning.{DeclsMean, ModMeans, BindMeans, BindsMean}
+use Rattle.elab_judgments.specs.Judgments.Meaning.{BranchesMean, DeclsMean, ModMeans, BindMeans, BindsMean}
 use Rattle.elab_laws.proofs.FieldLaws.{FreshAll, fresh_all-end, fresh_all-insert, NoFields, no_fields-end, no_fields-joined, with_names-no_fields, apart-rename}
 use Rattle.elab_laws.proofs.FieldLaws.{rise-with_name, rise-with_names}
-use Rattle.elab_laws.proofs.Kept.{type_ok, sig_ok, decl_ok, mod_ok, bind_ok, norm_ok}
+use Rattle.elab_laws.proofs.SumTyping.{part-normal}
+use Rattle.elab_laws.proofs.Kept.{type_ok, exp_ok, sig_ok, decl_ok, mod_ok, bind_ok, norm_ok}
 use Rattle.elab_spelling.specs.Legible.{TyLegible, RowLegible, TypesLegible, TermLegible, TermRowLegible}
 use Rattle.elab_spelling.specs.Signatures.{NameSpelled, NamesSpelled, AbsLegible, FieldsLegible, ModuleLegible, EnvLegible}
 use Rattle.elab_spelling.specs.Phrases.{ModSpelled, BindSpelled, BindsSpelled, SigExSpelled, DeclSpelled, DeclsSpelled, TyExSpelled, TyExsSpelled}
-use Rattle.elab_spelling.specs.Phrases.{FieldTyExsSpelled, ExpSpelled, OpExpsSpelled, ArgsSpelled, FieldExpsSpelled}
+use Rattle.elab_spelling.specs.Phrases.{FieldTyExsSpelled, ExpSpelled, OpExpsSpelled, ArgsSpelled, FieldExpsSpelled, BranchesSpelled}
 use Rattle.elab_spelling.proofs.Types.{eta-legible, instantiate-legible}
 use Rattle.elab_spelling.proofs.Forms.{form-legible}
 use Rattle.elab_spelling.proofs.Terms.{packs-legible, one_field-legible, type_term-legible}
 use Rattle.elab_spelling.proofs.Signatures.{rename_fields-legible, norm-legible, enc_abs-legible}
 use Rattle.elab_spelling.proofs.Matching.{match-legible}
 use Rattle.elab_spelling.proofs.Fields.{FreshTermAll, fresh_term_all-end, fresh_term_all-insert, insert_part-legible, insert_term-legible, part-legible}
-use Rattle.elab_spelling.proofs.Fields.{merge-legible, with_name-spelled, with_names-spelled, follow-none}
+use Rattle.elab_spelling.proofs.Fields.{PartsLegible, in_order-legible, merge-legible, with_name-spelled, with_names-spelled, follow-none}
 use Rattle.elab_spelling.proofs.Rules.{type_vars-legible, named_fields-legible, found-legible, result_type-legible, type_path-legible, value_path-legible}
 use Rattle.elab_spelling.proofs.Rules.{sig_path-legible, lift-legible, lifted_types-legible, refined-legible, packed-legible, projected-legible}
 use Rattle.elab_spelling.proofs.Rules.{functor-legible, applied-module-legible, sequence-legible, field_lets-legible, collected-legible}
@@ -100,7 +105,7 @@ module _ (v : Version) where
       (rename_fields-legible v (past js) None fs h) g) (no_fields-joined (past js) names fs gs a n)
 
   mutual
-    pub ty-legible : (g : Env) {a : TyEx} {t : Ty} {k : Kind} → OkEnv g → EnvLegible v g → TyExSpelled a → TyMeans g a t k → TyLegible v t
+    pub ty-legible : (g : Env) {a : TyEx} {t : Ty} {k : Kind} → OkEnv g → EnvLegible v g → TyExSpelled v a → TyMeans g a t k → TyLegible v t
     ty-legible g w l s (TyMeans.ty_path m p) = type_path-legible v (mod-legible g w l s m) p
     ty-legible g w l s (TyMeans.ty_int BaseGives.int) = tt
     ty-legible g w l s (TyMeans.ty_bool BaseGives.bool) = tt
@@ -111,19 +116,21 @@ module _ (v : Version) where
     ty-legible g w l s (TyMeans.ty_all {a = a} {k = k} b AllGives.all) = ty-legible (with_type g k (name_of a)) (tt, (tt, w)) l s.1 b
     ty-legible g w l s (TyMeans.ty_lam {a = a} {k = k} b OperatorGives.operator) = ty-legible (with_type g k (name_of a)) (tt, (tt, w)) l s.1 b
     ty-legible g w l s (TyMeans.ty_pack a (PackTypeGives.pack_type {y = y} n)) = enc_abs-legible v y (norm-legible v n (sig-legible g w l s a))
+    ty-legible g w l s (TyMeans.ty_sum f r) = (s.0, (field_tys-legible g w l s.1 f r).0)
+    ty-legible g w l s (TyMeans.ty_mu {x = x} b MuGives.mu) = (s.0, ty-legible (with_type g Kind.Star (name_of x)) (tt, (tt, w)) l s.2 b)
 
-    pub arg_tys-legible : (g : Env) {rest : TyExs} {t u : Ty} {k j : Kind} → OkEnv g → EnvLegible v g → TyExsSpelled rest → TyLegible v t
+    pub arg_tys-legible : (g : Env) {rest : TyExs} {t u : Ty} {k j : Kind} → OkEnv g → EnvLegible v g → TyExsSpelled v rest → TyLegible v t
         → ArgTysMean g t k rest u j → TyLegible v u
     arg_tys-legible g w l s h ArgTysMean.no_args = h
     arg_tys-legible g w l s h (ArgTysMean.next_arg a (AppliedGives.applied n) r) = arg_tys-legible g w l s.1 (form-legible v n (h, ty-legible g w l s.0 a)) r
 
     pub field_tys-legible : (g : Env) {names : List Name} {a : FieldTyExs} {parts : List FieldTy} {row : Row} → OkEnv g → EnvLegible v g
-        → FieldTyExsSpelled a → FieldTysMean g names a parts → RecordTypeGives names parts row → GoodRow names row
+        → FieldTyExsSpelled v a → FieldTysMean g names a parts → RecordTypeGives names parts row → GoodRow names row
     field_tys-legible g {names} w l s FieldTysMean.no_field_tys RecordTypeGives.no_fields = (tt, fresh_all-end names)
     field_tys-legible g {names} w l s (FieldTysMean.next_field_ty {x = x} {t = t} m a f) (RecordTypeGives.next_field {row = row} n r) =
         one-field names (name_of x) t row n s.0 (ty-legible g w l s.1 a) (field_tys-legible g w l s.2 f r)
 
-    pub exp-legible : (g : Env) {a : Exp} {t : Ty} {e : Term} → OkEnv g → EnvLegible v g → ExpSpelled a → ExpMeans g a t e → TyLegible v t × TermLegible v e
+    pub exp-legible : (g : Env) {a : Exp} {t : Ty} {e : Term} → OkEnv g → EnvLegible v g → ExpSpelled v a → ExpMeans g a t e → TyLegible v t × TermLegible v e
     exp-legible g w l s (ExpMeans.exp_path m p) = value_path-legible v (mod-legible g w l s m) p
     exp-legible g w l s (ExpMeans.exp_int LiteralGives.int) = (tt, s)
     exp-legible g w l s (ExpMeans.exp_bool LiteralGives.bool) = (tt, tt)
@@ -155,14 +162,28 @@ module _ (v : Version) where
         let o = found-match g (name_of x) w l p (norm_ok (kinds g) y z (sig_ok g _ y w a) n) h m in
         let u = enc_abs-legible v z h in
         (u, packs-legible v q o.1.0 (o.1.1, o.0) u)
+    exp-legible g w l s (ExpMeans.exp_inj a b (InjectionGives.injection p)) =
+        let h = ty-legible g w l s.3 b in
+        (h, (s.0, s.1, (exp-legible g w l s.2 a).1, h))
+    exp-legible g w l s (ExpMeans.exp_case a b c (CaseGives.case_ d o)) =
+        let h = exp-legible g w l s.1 a in
+        let i = ty-legible g w l s.2 b in
+        let q = branches-legible g w l s.3 (normal-sum (exp_ok g _ _ _ w a)) h.0.1 c in
+        (i, (s.0, h.1, i, in_order-legible v None h.0.1 q o))
+    exp-legible g w l s (ExpMeans.exp_roll a b (RollGives.roll u)) =
+        let h = ty-legible g w l s.2 b in
+        (h, (s.0, (exp-legible g w l s.1 a).1, h))
+    exp-legible g w l s (ExpMeans.exp_unroll a (UnrollGives.unroll {b = b} u)) =
+        let h = exp-legible g w l s.1 a in
+        (form-legible v u (instantiate-legible v b (Ty.Mu b) h.0.1 h.0), (s.0, h.1))
 
-    pub ops-legible : (g : Env) {rest : OpExps} {t u : Ty} {d e : Term} → OkEnv g → EnvLegible v g → OpExpsSpelled rest → TyLegible v t × TermLegible v d
+    pub ops-legible : (g : Env) {rest : OpExps} {t u : Ty} {d e : Term} → OkEnv g → EnvLegible v g → OpExpsSpelled v rest → TyLegible v t × TermLegible v d
         → OpsMean g t d rest u e → TyLegible v u × TermLegible v e
     ops-legible g w l s h OpsMean.no_ops = h
     ops-legible g w l s h (OpsMean.next_op {o = o} b OperationGives.operation r) =
         ops-legible g w l s.1 (result_type-legible v (omega_op o), (h.1, (exp-legible g w l s.0 b).1)) r
 
-    pub args-legible : (g : Env) {rest : Args} {t u : Ty} {d e : Term} → OkEnv g → EnvLegible v g → ArgsSpelled rest → TyLegible v t × TermLegible v d
+    pub args-legible : (g : Env) {rest : Args} {t u : Ty} {d e : Term} → OkEnv g → EnvLegible v g → ArgsSpelled v rest → TyLegible v t × TermLegible v d
         → ArgsMean g t d rest u e → TyLegible v u × TermLegible v e
     args-legible g w l s h ArgsMean.no_arg = h
     args-legible g w l s h (ArgsMean.next_value b CallGives.call r) = args-legible g w l s.1 (h.0.1, (h.1, (exp-legible g w l s.0 b).1)) r
@@ -171,7 +192,7 @@ module _ (v : Version) where
         args-legible g w l s.1 (form-legible v n (instantiate-legible v u t h.0 i), (h.1, i)) r
 
     pub field_exps-legible : (g : Env) {names : List Name} {a : FieldExps} {parts : List FieldExp} {row : Row} {es : TermRow} → OkEnv g → EnvLegible v g
-        → FieldExpsSpelled a → FieldExpsMean g names a parts → RecordGives names parts row es → GoodTermRow names row es
+        → FieldExpsSpelled v a → FieldExpsMean g names a parts → RecordGives names parts row es → GoodTermRow names row es
     field_exps-legible g {names} w l s FieldExpsMean.no_field_exps RecordGives.no_fields = ((tt, fresh_all-end names), (tt, fresh_term_all-end names))
     field_exps-legible g {names} w l s (FieldExpsMean.next_field_exp {x = x} {t = t} {e = e} m a f) (RecordGives.next_field {row = row} {es = es} n r) =
         let h = exp-legible g w l s.1 a in
@@ -180,7 +201,17 @@ module _ (v : Version) where
           (insert_term-legible v None (Label.Name (name_of x)) e es refl s.0 h.1 q.1.1.0 q.1.0, fresh_term_all-insert names (name_of x) e es n q.1.1.1),
         )
 
-    pub sig-legible : (g : Env) {a : SigEx} {x : Abs} → OkEnv g → EnvLegible v g → SigExSpelled a → SigMeans g a x → AbsLegible v x
+    pub branches-legible : (g : Env) {names : List Name} {row : Row} {t : Ty} {a : Branches} {parts : List FieldExp} → OkEnv g
+        → EnvLegible v g → BranchesSpelled v a → Normals (kinds g) row → RowLegible v None row → BranchesMean g (Ty.Sum row) t names a parts
+        → PartsLegible v parts
+    branches-legible g w l s n h BranchesMean.no_branches = tt
+    branches-legible g w l s n h (BranchesMean.next_branch {u = u} {y = y} m (LabelGives.label p) a r) =
+        let i = (part-legible v None h p).1 in (
+          (exp-legible (Value (name_of y) u ∷ g) (part-normal n p, w) (i, l) s.2 a).1,
+          branches-legible g w l s.3 n h r,
+        )
+
+    pub sig-legible : (g : Env) {a : SigEx} {x : Abs} → OkEnv g → EnvLegible v g → SigExSpelled v a → SigMeans g a x → AbsLegible v x
     sig-legible g w l s (SigMeans.sig_path m p) = sig_path-legible v (mod-legible g w l s m) p
     sig-legible g w l s (SigMeans.sig_decls d) = good-abs (decls-legible g w l s d)
     sig-legible g w l s (SigMeans.sig_generative {x = x} {ks = ks} {s = q} a b GenerativeSigGives.generative) =
@@ -192,7 +223,7 @@ module _ (v : Version) where
         (h, type_vars-legible v g ks l) s.2 b) f
     sig-legible g w l s (SigMeans.sig_refine a b r) = refined-legible v (sig-legible g w l s.0 a) (ty-legible g w l s.2 b) r
 
-    pub decl-legible : (g : Env) {a : Decl} {x : Abs} → OkEnv g → EnvLegible v g → DeclSpelled a → DeclMeans g a x → AbsLegible v x
+    pub decl-legible : (g : Env) {a : Decl} {x : Abs} → OkEnv g → EnvLegible v g → DeclSpelled v a → DeclMeans g a x → AbsLegible v x
     decl-legible g w l s (DeclMeans.decl_val a ValueGives.value) = (refl, s.0, ty-legible g w l s.1 a, tt)
     decl-legible g w l s (DeclMeans.decl_is a TypeGives.type) = (refl, s.0, ty-legible g w l s.1 a, tt)
     decl-legible g w l s (DeclMeans.decl_of {k = k} AbstractGives.abstract) = (refl, s, eta-legible v k (Ty.Var 0) tt, tt)
@@ -200,7 +231,7 @@ module _ (v : Version) where
     decl-legible g w l s (DeclMeans.decl_signature a SignatureGives.signature) = (refl, s.0, sig-legible g w l s.1 a, tt)
     decl-legible g w l s (DeclMeans.decl_include a IncludeGives.include) = sig-legible g w l s a
 
-    pub decls-legible : (g : Env) {names : List Name} {a : Decls} {x : Abs} → OkEnv g → EnvLegible v g → DeclsSpelled a → DeclsMean g names a x
+    pub decls-legible : (g : Env) {names : List Name} {a : Decls} {x : Abs} → OkEnv g → EnvLegible v g → DeclsSpelled v a → DeclsMean g names a x
         → GoodDecls names x
     decls-legible g {names} w l s DeclsMean.no_decls = good_decls tt (no_fields-end names)
     decls-legible g {names} w l s (DeclsMean.next_decl {ks = ks} {fs = fs} d n r DeclarationsGive.declarations) =
@@ -209,7 +240,7 @@ module _ (v : Version) where
         joined-decls ks fs n h (decls-legible (named_fields (type_vars g ks) fs) inner
         (named_fields-legible v None (type_vars g ks) fs (type_vars-legible v g ks l) h) s.1 r)
 
-    pub mod-legible : (g : Env) {a : Mod} {m : Module} → OkEnv g → EnvLegible v g → ModSpelled a → ModMeans g a m → ModuleLegible v m
+    pub mod-legible : (g : Env) {a : Mod} {m : Module} → OkEnv g → EnvLegible v g → ModSpelled v a → ModMeans g a m → ModuleLegible v m
     mod-legible g w l s (ModMeans.mod_name {x = x} (NamedGives.named p)) = let o = found-legible v g (name_of x) l p in (o.0, tt, o.1)
     mod-legible g w l s (ModMeans.mod_struct b) = binds-legible g w l tt tt s b
     mod-legible g w l s (ModMeans.mod_project m p) = projected-legible v (mod-legible g w l s.0 m) p
@@ -231,7 +262,7 @@ module _ (v : Version) where
         (h, c.1.0, (c.1.1, c.0))
     mod-legible g w l s (ModMeans.mod_unpack e a n UnpackGives.unpack) = (norm-legible v n (sig-legible g w l s.1 a), tt, (exp-legible g w l s.0 e).1)
 
-    pub bind-legible : (g : Env) {a : Bind} {x : Name} {m : Module} → OkEnv g → EnvLegible v g → BindSpelled a → BindMeans g a x m
+    pub bind-legible : (g : Env) {a : Bind} {x : Name} {m : Module} → OkEnv g → EnvLegible v g → BindSpelled v a → BindMeans g a x m
         → NameSpelled x × ModuleLegible v m
     bind-legible g w l s (BindMeans.bind_val {e = e} a ValueModule.value) =
         let h = exp-legible g w l s.1 a in
@@ -243,7 +274,7 @@ module _ (v : Version) where
     bind-legible g w l s (BindMeans.bind_module m) = (s.0, mod-legible g w l s.1 m)
 
     pub binds-legible : (g : Env) {names : List Name} {a : Binds} {m : Module} → OkEnv g → EnvLegible v g → NamesRise names → NamesSpelled names
-        → BindsSpelled a → BindsMean g names a m → ModuleLegible v m
+        → BindsSpelled v a → BindsMean g names a m → ModuleLegible v m
     binds-legible g {names} w l o n s (BindsMean.no_binds c) = let p = collected-legible v None l (follow-none names) o n c in (p.0, tt, p.1)
     binds-legible g {names} w l o n s (BindsMean.next_bind {x = x} {f = f} {ks = ks} {s = q} {ts = ts} {e = e} b r z) =
         let h = bind-legible g w l s.0 b in

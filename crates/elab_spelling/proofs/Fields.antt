@@ -19,6 +19,7 @@ use Rattle.sig_definitions.specs.Signatures.FieldOrder.{insert_field, merge, wit
 use Rattle.sig_definitions.specs.Signatures.RecordOrder.{insert_part, insert_term, IsNew, BeforeNames}
 use Rattle.sig_laws.proofs.Encoded.EncodingTyping.{name-differs}
 use Rattle.sig_explicit_laws.proofs.Fields.{merge-none}
+use Rattle.core_judgments.specs.ExpRules.{FieldExp, field, HasBranch, InOrder}
 use Rattle.elab_laws.proofs.FieldLaws.{pick, not-sym, Apart}
 use Rattle.elab_spelling.specs.Legible.{TyLegible, RowLegible, TermLegible, TermRowLegible}
 use Rattle.elab_spelling.specs.Signatures.{NameSpelled, NamesSpelled, SigLegible, FieldsLegible}
@@ -89,6 +90,22 @@ module _ (v : Version) where
   pub part-legible : {row : Row} {l : Label} {t : Ty} (last : Option Label) → RowLegible v last row → HasPart row l t → LabelSpelled l × TyLegible v t
   part-legible last h HasPart.here = (h.1, h.2)
   part-legible last h (HasPart.there {m = m} n p) = part-legible (Some m) h.3 p
+
+  -- branches of a case
+
+  abbrev pub PartsLegible : List FieldExp → Type 0
+  PartsLegible [] = Unit {0}
+  PartsLegible (field l t e ∷ rest) = TermLegible v e × PartsLegible rest
+
+  branch-legible : {branches : List FieldExp} {l : Label} {e : Term} → PartsLegible branches → HasBranch branches l e → TermLegible v e
+  branch-legible h HasBranch.here = h.0
+  branch-legible h (HasBranch.there d b) = branch-legible h.1 b
+
+  -- in the order of the sum's labels
+  pub in_order-legible : {branches : List FieldExp} {row : Row} {es : TermRow} (last : Option Label) → RowLegible v last row → PartsLegible branches
+      → InOrder branches row es → TermRowLegible v last es
+  in_order-legible last h g InOrder.no_labels = tt
+  in_order-legible last h g (InOrder.next_label {l = l} b o) = (h.0, h.1, branch-legible g b, in_order-legible (Some l) h.3 g o)
 
   -- structures
 

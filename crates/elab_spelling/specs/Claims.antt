@@ -50,34 +50,34 @@ abbrev pub MatchesAreLegible : Type 0
 MatchesAreLegible = (v : Version) (ctx : List Kind) (s : Sig) (x : Abs) (ts : List Ty)
     (f : Term) → OkSig ctx s → OkRight ctx x → SigLegible v s → AbsLegible v x → Match ctx s x ts f → TypesLegible v ts × TermLegible v f
 
--- in a good and legible environment each phrase that is spelled has a legible meaning
+-- in each version, in a good and legible environment, each phrase that is spelled has a legible meaning
 
 abbrev pub TypesMeanLegible : Type 0
-TypesMeanLegible = (v : Version) (g : Env) (a : TyEx) (t : Ty) (k : Kind) → OkEnv g → EnvLegible v g → TyExSpelled a → TyMeans g a t k → TyLegible v t
+TypesMeanLegible = (v : Version) (g : Env) (a : TyEx) (t : Ty) (k : Kind) → OkEnv g → EnvLegible v g → TyExSpelled v a → TyMeans g a t k → TyLegible v t
 
 abbrev pub ExpsMeanLegible : Type 0
 ExpsMeanLegible =
-    (v : Version) (g : Env) (a : Exp) (t : Ty) (e : Term) → OkEnv g → EnvLegible v g → ExpSpelled a → ExpMeans g a t e → TyLegible v t × TermLegible v e
+    (v : Version) (g : Env) (a : Exp) (t : Ty) (e : Term) → OkEnv g → EnvLegible v g → ExpSpelled v a → ExpMeans g a t e → TyLegible v t × TermLegible v e
 
 abbrev pub SigsMeanLegible : Type 0
-SigsMeanLegible = (v : Version) (g : Env) (a : SigEx) (x : Abs) → OkEnv g → EnvLegible v g → SigExSpelled a → SigMeans g a x → AbsLegible v x
+SigsMeanLegible = (v : Version) (g : Env) (a : SigEx) (x : Abs) → OkEnv g → EnvLegible v g → SigExSpelled v a → SigMeans g a x → AbsLegible v x
 
 abbrev pub ModsMeanLegible : Type 0
-ModsMeanLegible = (v : Version) (g : Env) (a : Mod) (m : Module) → OkEnv g → EnvLegible v g → ModSpelled a → ModMeans g a m → ModuleLegible v m
+ModsMeanLegible = (v : Version) (g : Env) (a : Mod) (m : Module) → OkEnv g → EnvLegible v g → ModSpelled v a → ModMeans g a m → ModuleLegible v m
 
 -- a program that is spelled means a legible module, and its whole term is legible
 abbrev pub ProgramsMeanLegible : Type 0
 ProgramsMeanLegible =
-    (v : Version) (bs : Binds) (m : Module) (whole : Term) → BindsSpelled bs → ProgramMeans bs m whole → ModuleLegible v m × TermLegible v whole
+    (v : Version) (bs : Binds) (m : Module) (whole : Term) → BindsSpelled v bs → ProgramMeans bs m whole → ModuleLegible v m × TermLegible v whole
 
--- where such a program's whole term and encoded signature are not too high, they have a spelling in each version, which is their text
+-- where such a program's whole term and encoded signature are not too high, they have a spelling in the version, which is their text
 abbrev pub ProgramsHaveText : Type 0
-ProgramsHaveText = (v : Version) (bs : Binds) (f : Effect) (x : Abs) (ts : List Ty) (e whole : Term) → BindsSpelled bs → ProgramMeans bs
+ProgramsHaveText = (v : Version) (bs : Binds) (f : Effect) (x : Abs) (ts : List Ty) (e whole : Term) → BindsSpelled v bs → ProgramMeans bs
     (made f x ts e) whole → height (enc_abs x) ≤ 2 ^ 64 → term_height whole ≤ 2 ^ 63
     → TextIn v (version_text v (enc_abs x) whole) (enc_abs x) whole
 
 -- and reading that text gives them again, where no more than 4,000 parentheses are open
 abbrev pub ProgramsReadBack : Type 0
-ProgramsReadBack = (v : Version) (bs : Binds) (f : Effect) (x : Abs) (ts : List Ty) (e whole : Term) → BindsSpelled bs → ProgramMeans bs
+ProgramsReadBack = (v : Version) (bs : Binds) (f : Effect) (x : Abs) (ts : List Ty) (e whole : Term) → BindsSpelled v bs → ProgramMeans bs
     (made f x ts e) whole → height (enc_abs x) ≤ 2 ^ 64 → term_height whole ≤ 2 ^ 63
     → is_too_deep (version_text v (enc_abs x) whole) ≡ false → omega_at (version_text v (enc_abs x) whole) ≡ Some (enc_abs x, whole)

@@ -31,9 +31,10 @@ pub fn legible_matches()
     ensures matches { MatchesAreLegible }
 {}
 
-/// In a good environment of legible signatures and types each phrase whose names, numbers and texts have a spelling has a
-/// legible meaning: types, expressions with their types and terms, signatures, and modules with the types that they keep.
-/// So has each program, and its whole term is legible.
+/// In each version, in a good environment of legible signatures and types, each phrase whose names, numbers and texts have
+/// a spelling, and which has sums and recursive types in the second version only, has a legible meaning: types, expressions
+/// with their types and terms, signatures, and modules with the types that they keep. So has each program, and its whole
+/// term is legible.
 pub fn legible_meanings()
     ensures of_types { TypesMeanLegible }
     ensures of_exps { ExpsMeanLegible }
@@ -42,9 +43,9 @@ pub fn legible_meanings()
     ensures programs { ProgramsMeanLegible }
 {}
 
-/// The whole term of a program whose names, numbers and texts have a spelling has, with the encoding of its signature, a text
-/// in each version, if both are not too high for the levels of variables; and where no more than 4,000 parentheses are open
-/// in it, reading that text gives both again.
+/// The whole term of a program whose names, numbers and texts have a spelling in a version has, with the encoding of its
+/// signature, a text in that version, if both are not too high for the levels of variables; and where no more than 4,000
+/// parentheses are open in it, reading that text gives both again.
 pub fn program_texts()
     ensures spelled { ProgramsHaveText }
     ensures read_back { ProgramsReadBack }

@@ -25,8 +25,8 @@ use Rattle.elab_spelling.specs.Phrases.{BindsSpelled}
 use Rattle.elab_spelling.proofs.Theorems.{encodings_are_legible, programs_mean_legible}
 use Rattle.fing_refusals.specs.Plain.{Says}
 use Rattle.fing_refusals.specs.declared.refusal.Refusal.{Refusal as CodeRefusal}
-use Rattle.elab_phrases.specs.Answered.{RefusedAs}
-use Rattle.elab_phrases.proofs.Placing.{says-map}
+use Rattle.elab_rules.specs.Answered.{RefusedAs}
+use Rattle.elab_rules.proofs.Placing.{says-map}
 use Rattle.fing_elab.specs.declared.whole.Elaborated.{Elaborated}
 use Rattle.fing_elab.specs.Exactly.{module_in, Means, IsRefused}
 
@@ -59,9 +59,9 @@ typed bs o p q = whole_is_typed bs o.effect o.sig o.types o.term o.whole (Progra
 
 -- the encoding of the signature and the whole term have a spelling, apart from the scope of variables, where the program's
 -- names, texts and numbers have one
-pub legible : (bs : Binds) (o : Elaborated) → BindsMean [] [] bs (module_in o) → Packed [] (module_in o) o.whole → BindsSpelled bs → (v : Version)
+pub legible : (bs : Binds) (o : Elaborated) → BindsMean [] [] bs (module_in o) → Packed [] (module_in o) o.whole → (v : Version) → BindsSpelled v bs
     → TyLegible v (enc_abs o.sig) × TermLegible v o.whole
-legible bs o p q s v = let h = programs_mean_legible v bs (module_in o) o.whole s (ProgramMeans.program p q) in (encodings_are_legible v o.sig h.0.0, h.1)
+legible bs o p q v s = let h = programs_mean_legible v bs (module_in o) o.whole s (ProgramMeans.program p q) in (encodings_are_legible v o.sig h.0.0, h.1)
 
 refusal : (bs : Binds) (r : Refusal) → ProgramRefused bs r → IsRefused bs r
 refusal bs r h = go (each-program bs)

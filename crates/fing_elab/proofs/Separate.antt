@@ -31,9 +31,9 @@ use Rattle.elab_exact.specs.Claims.{Exactly}
 use Rattle.elab_exact.proofs.Theorems.{each-answered}
 use Rattle.fing_refusals.specs.Plain.{Says}
 use Rattle.fing_refusals.specs.declared.refusal.Refusal.{Refusal as CodeRefusal}
-use Rattle.elab_phrases.specs.Answered.{RefusedAs}
+use Rattle.elab_rules.specs.Answered.{RefusedAs}
 use Rattle.elab_phrases.proofs.Included.{left-under}
-use Rattle.elab_phrases.proofs.Placing.{says-map}
+use Rattle.elab_rules.proofs.Placing.{says-map}
 use Rattle.unit_judgments.specs.Interfaces.{hidden_in, sig_in, with_interface}
 use Rattle.unit_judgments.specs.Link.{LinkGives}
 use Rattle.unit_judgments.proofs.Sequences.{seq-ok}

@@ -17,7 +17,7 @@ ghost use Rattle.fing_syntax.specs.Phrase.{ModAt, ModSeal, Spelled};
 ghost use Rattle.elab_judgments.specs.Judgments.Meaning.{ModMeans};
 ghost use Rattle.elab_judgments.specs.Refusals.Task.{a_mod};
 ghost use Rattle.fing_refusals.specs.Plain.{Says, want_of_memory};
-ghost use Rattle.elab_phrases.specs.Answered.{RefusedAs};
+ghost use Rattle.elab_rules.specs.Answered.{RefusedAs};
 ghost use Rattle.unit_judgments.specs.Interfaces.{with_interface};
 ghost use Rattle.unit_laws.specs.Sealing.{Joins};
 ghost use Rattle.unit_laws.specs.Units.{sealed, sealing_name, unit_result, unit_sealing};

@@ -51,14 +51,14 @@ fn whole_of(alloc: Global, whole: &Module) -> Result<Term, Mem>
 /// What a program means, or why it means nothing: the refusal is that of the first rule, in the order of the text, of which
 /// a condition fails. A refusal for want of memory has the place from 0 to 0 and tells of no type variables. The types of
 /// each meaning are normal by the laws of elab_laws, and those of each refusal by elab_exact's, in a context of as many
-/// type variables as it tells. Where the names, texts and numbers of the program have a spelling in Omega text, the labels,
-/// texts, numbers and fields of the whole term and of its type have one, in each version.
+/// type variables as it tells. Where the names, texts and numbers of the program have a spelling in a version of Omega text,
+/// and it has the forms of the program, the labels, texts, numbers and fields of the whole term and of its type have one.
 ///
 /// Rossberg, Russo and Dreyer, "F-ing modules", sections 4 to 7, Elaboration.
 pub fn elab(alloc: Global, program: &Program) -> Result<Elaborated, Refusal>
     ensures means { IfOk result (λ o. Means program.now o) }
     ensures typed { IfOk result (λ o. HasType [] [] o.whole (enc_abs o.sig)) }
-    ensures spelled { IfOk result (λ o. BindsSpelled program.now → (v : Version) → TyLegible v (enc_abs o.sig) × TermLegible v o.whole) }
+    ensures spelled { IfOk result (λ o. (v : Version) → BindsSpelled v program.now → TyLegible v (enc_abs o.sig) × TermLegible v o.whole) }
     ensures refused { IfErr result (λ e. Says e (IsRefused program.now)) }
 {
     let env = Env::new(alloc);

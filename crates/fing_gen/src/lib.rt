@@ -4,7 +4,5 @@
 #![tactic(auto)]
 
 mod source;
-#[cfg(test)]
-mod tests;
 
 pub use source::source_of;

@@ -1,7 +1,7 @@
 -- How deep a token stands: a stack of pairs of numbers, which openers and closers change.
 use Rattle.std.specs.Prelude.{ℕ, ◌+◌, Bool, true, false, List, [], ◌∷◌, if◌then◌else◌}
 use Rattle.fing_lexer.specs.declared.nest.Level.{Level}
-use Rattle.fing_lexer.specs.declared.token.Word.TheVariants.{KwVal, KwType, KwModule, KwSignature, KwInclude, KwIn, KwStruct, KwSig, KwLet, KwEnd}
+use Rattle.fing_lexer.specs.declared.token.Word.TheVariants.{KwVal, KwType, KwModule, KwSignature, KwInclude, KwData, KwIn, KwStruct, KwSig, KwLet, KwEnd}
 use Rattle.fing_lexer.specs.declared.token.Mark.TheVariants.{LeftParen, LeftBrace, LeftBracket, RightParen, RightBrace, RightBracket}
 use Rattle.fing_lexer.specs.declared.token.What.{What}
 use Rattle.fing_lexer.specs.declared.token.What.TheVariants as what
@@ -40,6 +40,7 @@ is_binding_word (what.Word KwType) = true
 is_binding_word (what.Word KwModule) = true
 is_binding_word (what.Word KwSignature) = true
 is_binding_word (what.Word KwInclude) = true
+is_binding_word (what.Word KwData) = true
 is_binding_word (what.Word KwIn) = true
 is_binding_word _ = false
 

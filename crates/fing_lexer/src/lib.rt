@@ -10,8 +10,6 @@ mod facts;
 mod lexer;
 mod nest;
 mod scan;
-#[cfg(test)]
-mod tests;
 mod token;
 
 pub use facts::{one_outcome, slices_in_order};

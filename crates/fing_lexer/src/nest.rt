@@ -38,6 +38,7 @@ fn is_binding_word(what: &What) -> bool
                 | Word::KwModule
                 | Word::KwSignature
                 | Word::KwInclude
+                | Word::KwData
                 | Word::KwIn
         )
     )

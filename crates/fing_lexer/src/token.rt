@@ -3,7 +3,6 @@ use fing_text::Span;
 use omega_kinds::Name;
 
 /// A keyword. Each is named after its spelling, and `Type` is `KwKind`.
-/// `case`, `of`, `inj`, `data`, `roll` and `unroll` are kept for sums and recursive types.
 #[derive(Clone, Copy, Debug, PartialEq, Eq)]
 pub enum Word {
     KwVal,

@@ -1,7 +1,7 @@
 -- The moves that give a tree, played from the last to the first, leave what the tree gives.
 use Rattle.std.proofs.Common.{◌≡◌, List, [], ◌∷◌, ◌++◌, refl, sym, ◌∙◌, ap}
 use Rattle.std.specs.Prelude.{Option, None, Some, option_map}
-use Rattle.parse_grammar.specs.Grammar.{Class, Units, OneUnit, Binds, Bind, Decls, Decl, TypeOf, K, KArrow, KA, P, Dots, T, TArrow, TC, TArgs, TA, TFields, MoreTFields, S, SArrow, Wheres, SA, M, MArgs, Seals, MA, E, Lam, Compare, ES, Sums, EM, Products, EP, Args, EA, Gets, EB, EFields, MoreEFields, Symbol, token, phrase, Rule, rhs}
+use Rattle.parse_grammar.specs.Grammar.{Class, Units, OneUnit, Binds, Bind, Decls, Decl, TypeOf, K, KArrow, KA, P, Dots, T, TArrow, TC, TArgs, TA, TFields, MoreTFields, S, SArrow, Wheres, SA, M, MArgs, Seals, MA, E, Lam, EBranches, MoreEBranches, Compare, ES, Sums, EM, Products, EP, Args, EA, Gets, EB, EFields, MoreEFields, Symbol, token, phrase, Rule, rhs}
 use Rattle.parse_grammar.specs.Meaning.{Value, Values, act}
 use Rattle.parse_grammar.specs.Moves.{Move, shift, by, track}
 use Rattle.parse_grammar.specs.Tree.{Trees, end, leaf, node, spelling, values, Phrase}
@@ -46,6 +46,8 @@ again Seals v = refl
 again MA v = refl
 again E v = refl
 again Lam v = refl
+again EBranches v = refl
+again MoreEBranches v = refl
 again Compare v = refl
 again ES v = refl
 again Sums v = refl

@@ -123,11 +123,12 @@ fn agrees(
     Ok(())
 }
 
-const PROGRAMS: [&str; 4] = [
+const PROGRAMS: [&str; 5] = [
     "module M = struct type t = Int val f = fun (x : t) => x + 1 end :> sig type t val f : t -> t end",
     "val r = {a = ~1, b = \"s\"} val g = fun [a : Type -> Type] => fix f (x : Int) : Int => if x < 1 then 0 else f (x - 1) * r#a",
     "signature S = sig module A : sig end where type t.u = [a : Type] -> {l : a} include S type k : Type end include from (F (struct end)).x",
     "module F = gen (X : fun (Y : S) -> T) => let module Z = unpack X.p : S in Z end val p = pack M : S val q = p [Int] (p == p)",
+    "data t = case {a : Int, b : {}} val x = roll inj a 1 : u : t val y = case unroll x : Int of {a (n) => n, b (_) => 0} signature S = sig data v = t end",
 ];
 
 #[test]
@@ -189,7 +190,7 @@ fn what_was_expected(rt: HostRuntime) -> Result<(), Fail> {
 }
 
 // Sources with a slip, and how its hint begins.
-const SLIPS: [(&str, &str); 12] = [
+const SLIPS: [(&str, &str); 13] = [
     ("val x = -1", "A negative number"),
     ("val x = f ()", "There is no unit value"),
     ("val x = (1, 2)", "There are no tuples"),
@@ -205,7 +206,8 @@ const SLIPS: [(&str, &str); 12] = [
         "A signature declares a module",
     ),
     ("val x = if y = 1 then 2 else 3", "Equality is written"),
-    ("val data = 1", "This word is reserved"),
+    ("val x = case y of {}", "A `case` says the type"),
+    ("val data = 1", "This is a keyword"),
     ("val end = 1", "This is a keyword"),
     ("val f = fun x => x", "A parameter has its type"),
 ];

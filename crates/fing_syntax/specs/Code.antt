@@ -5,7 +5,7 @@ use denote.Struct.Codes.{itself}
 use Rattle.std.specs.Coded.{Coded, code_by}
 use Rattle.omega_kinds.specs.Kind.{Star}
 use Rattle.omega_kinds.specs.Code.{stored_kind, restored_kind, restored-stored_kind as kind_again, stored_bytes, restored_bytes, restored-stored_bytes as bytes_again}
-use Rattle.fing_syntax.specs.Phrase.{Span, Bytes, SpanName, Spelled, Op, Add, Sub, Mul, Div, Rem, Less, Equal, Mod, ModWhat, Bind, BindWhat, SigEx, SigWhat, Decl, DeclWhat, TyEx, TyWhat, Exp, ExpWhat, Binds, Decls, TyExs, FieldTyExs, OpExps, Args, FieldExps, Arg, ModAt, ModName, ModStruct, ModProject, ModFunctor, ModApply, ModSeal, ModUnpack, BindAt, BindVal, BindTy, BindModule, BindSignature, BindInclude, SigAt, PathSig, SigDecls, SigFun, SigRefine, DeclAt, DeclVal, DeclTyIs, DeclTyOf, DeclModule, DeclSignature, DeclInclude, TyAt, PathTy, TyInt, TyBool, TyText, TyArrow, TyApply, TyFields, TyAll, TyLam, TyPack, ExpAt, PathExp, ExpInt, ExpBool, ExpText, ExpLam, ExpTyLam, ExpFix, ExpIf, ExpOps, ExpApply, ExpFields, ExpGet, ExpPack, NoBinds, MoreBinds, NoDecls, MoreDecls, NoTys, MoreTys, NoFieldTys, MoreFieldTys, NoOps, MoreOps, NoArgs, MoreArgs, NoFieldExps, MoreFieldExps, ArgExp, ArgTy}
+use Rattle.fing_syntax.specs.Phrase.{Span, Bytes, SpanName, Spelled, Op, Add, Sub, Mul, Div, Rem, Less, Equal, Mod, ModWhat, Bind, BindWhat, SigEx, SigWhat, Decl, DeclWhat, TyEx, TyWhat, Exp, ExpWhat, Binds, Decls, TyExs, FieldTyExs, OpExps, Args, FieldExps, Arg, Branches, ModAt, ModName, ModStruct, ModProject, ModFunctor, ModApply, ModSeal, ModUnpack, BindAt, BindVal, BindTy, BindModule, BindSignature, BindInclude, SigAt, PathSig, SigDecls, SigFun, SigRefine, DeclAt, DeclVal, DeclTyIs, DeclTyOf, DeclModule, DeclSignature, DeclInclude, TyAt, PathTy, TyInt, TyBool, TyText, TyArrow, TyApply, TyFields, TyAll, TyLam, TyPack, TySum, TyMu, ExpAt, PathExp, ExpInt, ExpBool, ExpText, ExpLam, ExpTyLam, ExpFix, ExpIf, ExpOps, ExpApply, ExpFields, ExpGet, ExpPack, ExpInj, ExpCase, ExpRoll, ExpUnroll, NoBinds, MoreBinds, NoDecls, MoreDecls, NoTys, MoreTys, NoFieldTys, MoreFieldTys, NoOps, MoreOps, NoArgs, MoreArgs, NoFieldExps, MoreFieldExps, NoBranches, MoreBranches, ArgExp, ArgTy}
 
 abbrev pub stored_span : Span → Gv
 stored_span (Bytes a b) = gcons (gnum a) (gnum b)
@@ -108,32 +108,38 @@ pick7 (suc (suc (suc (suc zero)))) x0 x1 x2 x3 x4 x5 x6 = x4
 pick7 (suc (suc (suc (suc (suc zero))))) x0 x1 x2 x3 x4 x5 x6 = x5
 pick7 (suc (suc (suc (suc (suc (suc n)))))) x0 x1 x2 x3 x4 x5 x6 = x6
 
-abbrev pub pick10 : {A : Type 0} → ℕ → A → A → A → A → A → A → A → A → A → A → A
-pick10 zero x0 x1 x2 x3 x4 x5 x6 x7 x8 x9 = x0
-pick10 (suc zero) x0 x1 x2 x3 x4 x5 x6 x7 x8 x9 = x1
-pick10 (suc (suc zero)) x0 x1 x2 x3 x4 x5 x6 x7 x8 x9 = x2
-pick10 (suc (suc (suc zero))) x0 x1 x2 x3 x4 x5 x6 x7 x8 x9 = x3
-pick10 (suc (suc (suc (suc zero)))) x0 x1 x2 x3 x4 x5 x6 x7 x8 x9 = x4
-pick10 (suc (suc (suc (suc (suc zero))))) x0 x1 x2 x3 x4 x5 x6 x7 x8 x9 = x5
-pick10 (suc (suc (suc (suc (suc (suc zero)))))) x0 x1 x2 x3 x4 x5 x6 x7 x8 x9 = x6
-pick10 (suc (suc (suc (suc (suc (suc (suc zero))))))) x0 x1 x2 x3 x4 x5 x6 x7 x8 x9 = x7
-pick10 (suc (suc (suc (suc (suc (suc (suc (suc zero)))))))) x0 x1 x2 x3 x4 x5 x6 x7 x8 x9 = x8
-pick10 (suc (suc (suc (suc (suc (suc (suc (suc (suc n))))))))) x0 x1 x2 x3 x4 x5 x6 x7 x8 x9 = x9
+abbrev pub pick12 : {A : Type 0} → ℕ → A → A → A → A → A → A → A → A → A → A → A → A → A
+pick12 zero x0 x1 x2 x3 x4 x5 x6 x7 x8 x9 x10 x11 = x0
+pick12 (suc zero) x0 x1 x2 x3 x4 x5 x6 x7 x8 x9 x10 x11 = x1
+pick12 (suc (suc zero)) x0 x1 x2 x3 x4 x5 x6 x7 x8 x9 x10 x11 = x2
+pick12 (suc (suc (suc zero))) x0 x1 x2 x3 x4 x5 x6 x7 x8 x9 x10 x11 = x3
+pick12 (suc (suc (suc (suc zero)))) x0 x1 x2 x3 x4 x5 x6 x7 x8 x9 x10 x11 = x4
+pick12 (suc (suc (suc (suc (suc zero))))) x0 x1 x2 x3 x4 x5 x6 x7 x8 x9 x10 x11 = x5
+pick12 (suc (suc (suc (suc (suc (suc zero)))))) x0 x1 x2 x3 x4 x5 x6 x7 x8 x9 x10 x11 = x6
+pick12 (suc (suc (suc (suc (suc (suc (suc zero))))))) x0 x1 x2 x3 x4 x5 x6 x7 x8 x9 x10 x11 = x7
+pick12 (suc (suc (suc (suc (suc (suc (suc (suc zero)))))))) x0 x1 x2 x3 x4 x5 x6 x7 x8 x9 x10 x11 = x8
+pick12 (suc (suc (suc (suc (suc (suc (suc (suc (suc zero))))))))) x0 x1 x2 x3 x4 x5 x6 x7 x8 x9 x10 x11 = x9
+pick12 (suc (suc (suc (suc (suc (suc (suc (suc (suc (suc zero)))))))))) x0 x1 x2 x3 x4 x5 x6 x7 x8 x9 x10 x11 = x10
+pick12 (suc (suc (suc (suc (suc (suc (suc (suc (suc (suc (suc n))))))))))) x0 x1 x2 x3 x4 x5 x6 x7 x8 x9 x10 x11 = x11
 
-abbrev pub pick13 : {A : Type 0} → ℕ → A → A → A → A → A → A → A → A → A → A → A → A → A → A
-pick13 zero x0 x1 x2 x3 x4 x5 x6 x7 x8 x9 x10 x11 x12 = x0
-pick13 (suc zero) x0 x1 x2 x3 x4 x5 x6 x7 x8 x9 x10 x11 x12 = x1
-pick13 (suc (suc zero)) x0 x1 x2 x3 x4 x5 x6 x7 x8 x9 x10 x11 x12 = x2
-pick13 (suc (suc (suc zero))) x0 x1 x2 x3 x4 x5 x6 x7 x8 x9 x10 x11 x12 = x3
-pick13 (suc (suc (suc (suc zero)))) x0 x1 x2 x3 x4 x5 x6 x7 x8 x9 x10 x11 x12 = x4
-pick13 (suc (suc (suc (suc (suc zero))))) x0 x1 x2 x3 x4 x5 x6 x7 x8 x9 x10 x11 x12 = x5
-pick13 (suc (suc (suc (suc (suc (suc zero)))))) x0 x1 x2 x3 x4 x5 x6 x7 x8 x9 x10 x11 x12 = x6
-pick13 (suc (suc (suc (suc (suc (suc (suc zero))))))) x0 x1 x2 x3 x4 x5 x6 x7 x8 x9 x10 x11 x12 = x7
-pick13 (suc (suc (suc (suc (suc (suc (suc (suc zero)))))))) x0 x1 x2 x3 x4 x5 x6 x7 x8 x9 x10 x11 x12 = x8
-pick13 (suc (suc (suc (suc (suc (suc (suc (suc (suc zero))))))))) x0 x1 x2 x3 x4 x5 x6 x7 x8 x9 x10 x11 x12 = x9
-pick13 (suc (suc (suc (suc (suc (suc (suc (suc (suc (suc zero)))))))))) x0 x1 x2 x3 x4 x5 x6 x7 x8 x9 x10 x11 x12 = x10
-pick13 (suc (suc (suc (suc (suc (suc (suc (suc (suc (suc (suc zero))))))))))) x0 x1 x2 x3 x4 x5 x6 x7 x8 x9 x10 x11 x12 = x11
-pick13 (suc (suc (suc (suc (suc (suc (suc (suc (suc (suc (suc (suc n)))))))))))) x0 x1 x2 x3 x4 x5 x6 x7 x8 x9 x10 x11 x12 = x12
+abbrev pub pick17 : {A : Type 0} → ℕ → A → A → A → A → A → A → A → A → A → A → A → A → A → A → A → A → A → A
+pick17 zero x0 x1 x2 x3 x4 x5 x6 x7 x8 x9 x10 x11 x12 x13 x14 x15 x16 = x0
+pick17 (suc zero) x0 x1 x2 x3 x4 x5 x6 x7 x8 x9 x10 x11 x12 x13 x14 x15 x16 = x1
+pick17 (suc (suc zero)) x0 x1 x2 x3 x4 x5 x6 x7 x8 x9 x10 x11 x12 x13 x14 x15 x16 = x2
+pick17 (suc (suc (suc zero))) x0 x1 x2 x3 x4 x5 x6 x7 x8 x9 x10 x11 x12 x13 x14 x15 x16 = x3
+pick17 (suc (suc (suc (suc zero)))) x0 x1 x2 x3 x4 x5 x6 x7 x8 x9 x10 x11 x12 x13 x14 x15 x16 = x4
+pick17 (suc (suc (suc (suc (suc zero))))) x0 x1 x2 x3 x4 x5 x6 x7 x8 x9 x10 x11 x12 x13 x14 x15 x16 = x5
+pick17 (suc (suc (suc (suc (suc (suc zero)))))) x0 x1 x2 x3 x4 x5 x6 x7 x8 x9 x10 x11 x12 x13 x14 x15 x16 = x6
+pick17 (suc (suc (suc (suc (suc (suc (suc zero))))))) x0 x1 x2 x3 x4 x5 x6 x7 x8 x9 x10 x11 x12 x13 x14 x15 x16 = x7
+pick17 (suc (suc (suc (suc (suc (suc (suc (suc zero)))))))) x0 x1 x2 x3 x4 x5 x6 x7 x8 x9 x10 x11 x12 x13 x14 x15 x16 = x8
+pick17 (suc (suc (suc (suc (suc (suc (suc (suc (suc zero))))))))) x0 x1 x2 x3 x4 x5 x6 x7 x8 x9 x10 x11 x12 x13 x14 x15 x16 = x9
+pick17 (suc (suc (suc (suc (suc (suc (suc (suc (suc (suc zero)))))))))) x0 x1 x2 x3 x4 x5 x6 x7 x8 x9 x10 x11 x12 x13 x14 x15 x16 = x10
+pick17 (suc (suc (suc (suc (suc (suc (suc (suc (suc (suc (suc zero))))))))))) x0 x1 x2 x3 x4 x5 x6 x7 x8 x9 x10 x11 x12 x13 x14 x15 x16 = x11
+pick17 (suc (suc (suc (suc (suc (suc (suc (suc (suc (suc (suc (suc zero)))))))))))) x0 x1 x2 x3 x4 x5 x6 x7 x8 x9 x10 x11 x12 x13 x14 x15 x16 = x12
+pick17 (suc (suc (suc (suc (suc (suc (suc (suc (suc (suc (suc (suc (suc zero))))))))))))) x0 x1 x2 x3 x4 x5 x6 x7 x8 x9 x10 x11 x12 x13 x14 x15 x16 = x13
+pick17 (suc (suc (suc (suc (suc (suc (suc (suc (suc (suc (suc (suc (suc (suc zero)))))))))))))) x0 x1 x2 x3 x4 x5 x6 x7 x8 x9 x10 x11 x12 x13 x14 x15 x16 = x14
+pick17 (suc (suc (suc (suc (suc (suc (suc (suc (suc (suc (suc (suc (suc (suc (suc zero))))))))))))))) x0 x1 x2 x3 x4 x5 x6 x7 x8 x9 x10 x11 x12 x13 x14 x15 x16 = x15
+pick17 (suc (suc (suc (suc (suc (suc (suc (suc (suc (suc (suc (suc (suc (suc (suc (suc n)))))))))))))))) x0 x1 x2 x3 x4 x5 x6 x7 x8 x9 x10 x11 x12 x13 x14 x15 x16 = x16
 
 abbrev pub restored_op : Gv → Op
 restored_op (gnum n) = pick7 n Add Sub Mul Div Rem Less Equal
@@ -205,6 +211,8 @@ abbrev mutual
   stored_ty_what (TyAll a b c) = gcons (gnum 7) (gcons (stored_name a) (gcons (stored_kind b) (gcons (stored_ty c) gnil)))
   stored_ty_what (TyLam a b c) = gcons (gnum 8) (gcons (stored_name a) (gcons (stored_kind b) (gcons (stored_ty c) gnil)))
   stored_ty_what (TyPack a) = gcons (gnum 9) (gcons (stored_sig a) (gcons gnil (gcons gnil gnil)))
+  stored_ty_what (TySum a) = gcons (gnum 10) (gcons (stored_field_tys a) (gcons gnil (gcons gnil gnil)))
+  stored_ty_what (TyMu a b) = gcons (gnum 11) (gcons (stored_name a) (gcons (stored_ty b) (gcons gnil gnil)))
 
   pub stored_exp : Exp → Gv
   stored_exp (ExpAt a b) = gcons (gnum 0) (gcons (stored_span a) (gcons (stored_exp_what b) gnil))
@@ -223,6 +231,10 @@ abbrev mutual
   stored_exp_what (ExpFields a) = gcons (gnum 10) (gcons (stored_field_exps a) (gcons gnil (gcons gnil (gcons gnil (gcons gnil gnil)))))
   stored_exp_what (ExpGet a b) = gcons (gnum 11) (gcons (stored_exp a) (gcons (stored_name b) (gcons gnil (gcons gnil (gcons gnil gnil)))))
   stored_exp_what (ExpPack a b) = gcons (gnum 12) (gcons (stored_name a) (gcons (stored_sig b) (gcons gnil (gcons gnil (gcons gnil gnil)))))
+  stored_exp_what (ExpInj a b c) = gcons (gnum 13) (gcons (stored_name a) (gcons (stored_exp b) (gcons (stored_ty c) (gcons gnil (gcons gnil gnil)))))
+  stored_exp_what (ExpCase a b c) = gcons (gnum 14) (gcons (stored_exp a) (gcons (stored_ty b) (gcons (stored_branches c) (gcons gnil (gcons gnil gnil)))))
+  stored_exp_what (ExpRoll a b) = gcons (gnum 15) (gcons (stored_exp a) (gcons (stored_ty b) (gcons gnil (gcons gnil (gcons gnil gnil)))))
+  stored_exp_what (ExpUnroll a) = gcons (gnum 16) (gcons (stored_exp a) (gcons gnil (gcons gnil (gcons gnil (gcons gnil gnil)))))
 
   pub stored_binds : Binds → Gv
   stored_binds NoBinds = gcons (gnum 0) (gcons gnil (gcons gnil gnil))
@@ -251,6 +263,10 @@ abbrev mutual
   pub stored_field_exps : FieldExps → Gv
   stored_field_exps NoFieldExps = gcons (gnum 0) (gcons gnil (gcons gnil (gcons gnil gnil)))
   stored_field_exps (MoreFieldExps a b c) = gcons (gnum 1) (gcons (stored_name a) (gcons (stored_exp b) (gcons (stored_field_exps c) gnil)))
+
+  pub stored_branches : Branches → Gv
+  stored_branches NoBranches = gcons (gnum 0) (gcons gnil (gcons gnil (gcons gnil (gcons gnil gnil))))
+  stored_branches (MoreBranches a b c d) = gcons (gnum 1) (gcons (stored_name a) (gcons (stored_name b) (gcons (stored_exp c) (gcons (stored_branches d) gnil))))
 
   pub stored_arg : Arg → Gv
   stored_arg (ArgExp a) = gcons (gnum 0) (gcons (stored_exp a) (gcons gnil gnil))
@@ -289,6 +305,9 @@ no_args = NoArgs
 
 abbrev pub no_field_exps : FieldExps
 no_field_exps = NoFieldExps
+
+abbrev pub no_branches : Branches
+no_branches = NoBranches
 
 abbrev pub no_mod : Mod
 no_mod = ModAt (Bytes 0 0) no_mod_what
@@ -355,7 +374,7 @@ abbrev mutual
   restored_ty _ = no_ty
 
   pub restored_ty_what : Gv → TyWhat
-  restored_ty_what (gcons (gnum n) (gcons a (gcons b (gcons c z)))) = pick10 n (PathTy (restored_mod a)) TyInt TyBool TyText (TyArrow (restored_ty a) (restored_ty b)) (TyApply (restored_ty a) (restored_tys b)) (TyFields (restored_field_tys a)) (TyAll (restored_name a) (restored_kind b) (restored_ty c)) (TyLam (restored_name a) (restored_kind b) (restored_ty c)) (TyPack (restored_sig a))
+  restored_ty_what (gcons (gnum n) (gcons a (gcons b (gcons c z)))) = pick12 n (PathTy (restored_mod a)) TyInt TyBool TyText (TyArrow (restored_ty a) (restored_ty b)) (TyApply (restored_ty a) (restored_tys b)) (TyFields (restored_field_tys a)) (TyAll (restored_name a) (restored_kind b) (restored_ty c)) (TyLam (restored_name a) (restored_kind b) (restored_ty c)) (TyPack (restored_sig a)) (TySum (restored_field_tys a)) (TyMu (restored_name a) (restored_ty b))
   restored_ty_what _ = no_ty_what
 
   pub restored_exp : Gv → Exp
@@ -363,7 +382,7 @@ abbrev mutual
   restored_exp _ = no_exp
 
   pub restored_exp_what : Gv → ExpWhat
-  restored_exp_what (gcons (gnum n) (gcons a (gcons b (gcons c (gcons d (gcons e z)))))) = pick13 n (PathExp (restored_mod a)) (ExpInt (restored_int a)) (ExpBool (restored_truth a)) (ExpText (restored_bytes a)) (ExpLam (restored_name a) (restored_ty b) (restored_exp c)) (ExpTyLam (restored_name a) (restored_kind b) (restored_exp c)) (ExpFix (restored_name a) (restored_name b) (restored_ty c) (restored_ty d) (restored_exp e)) (ExpIf (restored_exp a) (restored_exp b) (restored_exp c)) (ExpOps (restored_exp a) (restored_ops b)) (ExpApply (restored_exp a) (restored_args b)) (ExpFields (restored_field_exps a)) (ExpGet (restored_exp a) (restored_name b)) (ExpPack (restored_name a) (restored_sig b))
+  restored_exp_what (gcons (gnum n) (gcons a (gcons b (gcons c (gcons d (gcons e z)))))) = pick17 n (PathExp (restored_mod a)) (ExpInt (restored_int a)) (ExpBool (restored_truth a)) (ExpText (restored_bytes a)) (ExpLam (restored_name a) (restored_ty b) (restored_exp c)) (ExpTyLam (restored_name a) (restored_kind b) (restored_exp c)) (ExpFix (restored_name a) (restored_name b) (restored_ty c) (restored_ty d) (restored_exp e)) (ExpIf (restored_exp a) (restored_exp b) (restored_exp c)) (ExpOps (restored_exp a) (restored_ops b)) (ExpApply (restored_exp a) (restored_args b)) (ExpFields (restored_field_exps a)) (ExpGet (restored_exp a) (restored_name b)) (ExpPack (restored_name a) (restored_sig b)) (ExpInj (restored_name a) (restored_exp b) (restored_ty c)) (ExpCase (restored_exp a) (restored_ty b) (restored_branches c)) (ExpRoll (restored_exp a) (restored_ty b)) (ExpUnroll (restored_exp a))
   restored_exp_what _ = no_exp_what
 
   pub restored_binds : Gv → Binds
@@ -393,6 +412,10 @@ abbrev mutual
   pub restored_field_exps : Gv → FieldExps
   restored_field_exps (gcons (gnum n) (gcons a (gcons b (gcons c z)))) = pick2 n NoFieldExps (MoreFieldExps (restored_name a) (restored_exp b) (restored_field_exps c))
   restored_field_exps _ = no_field_exps
+
+  pub restored_branches : Gv → Branches
+  restored_branches (gcons (gnum n) (gcons a (gcons b (gcons c (gcons d z))))) = pick2 n NoBranches (MoreBranches (restored_name a) (restored_name b) (restored_exp c) (restored_branches d))
+  restored_branches _ = no_branches
 
   pub restored_arg : Gv → Arg
   restored_arg (gcons (gnum n) (gcons a (gcons b z))) = pick2 n (ArgExp (restored_exp a)) (ArgTy (restored_ty a) (restored_span b))
@@ -455,6 +478,8 @@ mutual
   ty_what_again (TyAll a b c) = λ i. TyAll (name_again a i) (kind_again b i) (ty_again c i)
   ty_what_again (TyLam a b c) = λ i. TyLam (name_again a i) (kind_again b i) (ty_again c i)
   ty_what_again (TyPack a) = λ i. TyPack (sig_again a i)
+  ty_what_again (TySum a) = λ i. TySum (field_tys_again a i)
+  ty_what_again (TyMu a b) = λ i. TyMu (name_again a i) (ty_again b i)
 
   pub exp_again : (x : Exp) → restored_exp (stored_exp x) ≡ x
   exp_again (ExpAt a b) = λ i. ExpAt (span_again a i) (exp_what_again b i)
@@ -473,6 +498,10 @@ mutual
   exp_what_again (ExpFields a) = λ i. ExpFields (field_exps_again a i)
   exp_what_again (ExpGet a b) = λ i. ExpGet (exp_again a i) (name_again b i)
   exp_what_again (ExpPack a b) = λ i. ExpPack (name_again a i) (sig_again b i)
+  exp_what_again (ExpInj a b c) = λ i. ExpInj (name_again a i) (exp_again b i) (ty_again c i)
+  exp_what_again (ExpCase a b c) = λ i. ExpCase (exp_again a i) (ty_again b i) (branches_again c i)
+  exp_what_again (ExpRoll a b) = λ i. ExpRoll (exp_again a i) (ty_again b i)
+  exp_what_again (ExpUnroll a) = λ i. ExpUnroll (exp_again a i)
 
   pub binds_again : (x : Binds) → restored_binds (stored_binds x) ≡ x
   binds_again NoBinds = refl
@@ -501,6 +530,10 @@ mutual
   pub field_exps_again : (x : FieldExps) → restored_field_exps (stored_field_exps x) ≡ x
   field_exps_again NoFieldExps = refl
   field_exps_again (MoreFieldExps a b c) = λ i. MoreFieldExps (name_again a i) (exp_again b i) (field_exps_again c i)
+
+  pub branches_again : (x : Branches) → restored_branches (stored_branches x) ≡ x
+  branches_again NoBranches = refl
+  branches_again (MoreBranches a b c d) = λ i. MoreBranches (name_again a i) (name_again b i) (exp_again c i) (branches_again d i)
 
   pub arg_again : (x : Arg) → restored_arg (stored_arg x) ≡ x
   arg_again (ArgExp a) = λ i. ArgExp (exp_again a i)

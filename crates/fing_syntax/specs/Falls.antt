@@ -2,7 +2,7 @@
 use Rattle.std.specs.Prelude.{◌≤◌, ◌+◌, max, List, [], ◌∷◌}
 use Rattle.std.proofs.Common.{arith}
 use denote.Param.Weighed.{most}
-use Rattle.fing_syntax.specs.declared.tree.Bind.TheDeep.{deep-BindWhat, deep-DeclWhat, deep-ExpWhat, deep-ModWhat, deep-SigWhat, deep-TyWhat, deep-Arg}
+use Rattle.fing_syntax.specs.declared.tree.Bind.TheDeep.{deep-BindWhat, deep-DeclWhat, deep-ExpWhat, deep-ModWhat, deep-SigWhat, deep-TyWhat, deep-Arg, deep-Branch}
 use Rattle.fing_syntax.specs.declared.leaf.SpanName.{SpanName as NameAt}
 use Rattle.fing_syntax.specs.declared.leaf.Op.{Op as OpIn}
 use Rattle.fing_text.specs.declared.span.Span.{Span as SpanAt}
@@ -20,9 +20,10 @@ use Rattle.fing_syntax.specs.declared.tree.ExpWhat.{ExpWhat as ExpNode}
 use Rattle.fing_syntax.specs.declared.tree.ExpWhat.TheVariants as exp_what_in
 use Rattle.fing_syntax.specs.declared.tree.Arg.{Arg as ArgNode}
 use Rattle.fing_syntax.specs.declared.tree.Arg.TheVariants as arg_in
+use Rattle.fing_syntax.specs.declared.tree.Branch.{Branch as BranchNode}
 use Rattle.fing_syntax.specs.Phrase.{Bind, Decl, TyEx, Exp}
-use Rattle.fing_syntax.specs.Size.{mod_size, mod_what_size, bind_size, bind_what_size, sig_size, sig_what_size, decl_size, decl_what_size, ty_size, ty_what_size, exp_size, exp_what_size, binds_size, decls_size, tys_size, field_tys_size, ops_size, args_size, field_exps_size, arg_size}
-use Rattle.fing_syntax.specs.View.{mod_of, bind_of, sig_of, decl_of, ty_of, exp_of, bind_what_of, mod_what_of, decl_what_of, exp_what_of, sig_what_of, ty_what_of, arg_of, binds, decls, tys, field_tys, ops, args, field_exps}
+use Rattle.fing_syntax.specs.Size.{mod_size, mod_what_size, bind_size, bind_what_size, sig_size, sig_what_size, decl_size, decl_what_size, ty_size, ty_what_size, exp_size, exp_what_size, binds_size, decls_size, tys_size, field_tys_size, ops_size, args_size, field_exps_size, branches_size, arg_size}
+use Rattle.fing_syntax.specs.View.{mod_of, bind_of, sig_of, decl_of, ty_of, exp_of, bind_what_of, mod_what_of, decl_what_of, exp_what_of, sig_what_of, ty_what_of, arg_of, binds, decls, tys, field_tys, ops, args, field_exps, branches}
 
 pub arg_deep : (a : ArgNode) → deep-Arg a ≤ arg_size (arg_of a)
 arg_deep (arg_in.Exp a) = omega arith
@@ -55,6 +56,10 @@ args_most (x ∷ xs) = omega (arith, args_most xs, arg_deep x)
 pub field_exps_most : (xs : List (NameAt × Exp)) → most (λ x. max 0 (max (exp_size x.1 + 1) 0)) xs ≤ field_exps_size (field_exps xs)
 field_exps_most [] = omega arith
 field_exps_most (x ∷ xs) = omega (arith, field_exps_most xs)
+
+pub branches_most : (xs : List BranchNode) → most (λ x. deep-Branch x) xs ≤ branches_size (branches xs)
+branches_most [] = omega arith
+branches_most (x ∷ xs) = omega (arith, branches_most xs)
 
 pub mod_what_deep : (w : ModNode) → deep-ModWhat w ≤ mod_what_size (mod_what_of w)
 mod_what_deep (mod_what_in.Name a) = omega arith
@@ -109,6 +114,8 @@ ty_what_deep (ty_what_in.Fields a) = omega (arith, field_tys_most a.items)
 ty_what_deep (ty_what_in.All a b c) = omega arith
 ty_what_deep (ty_what_in.Lam a b c) = omega arith
 ty_what_deep (ty_what_in.Pack a) = omega arith
+ty_what_deep (ty_what_in.Sum a) = omega (arith, field_tys_most a.items)
+ty_what_deep (ty_what_in.Mu a b) = omega arith
 
 pub ty_falls : (s : SpanAt) (w : TyExNode) → max (deep-TyWhat w) 0 ≤ ty_size (ty_of s w)
 ty_falls s w = omega (arith, ty_what_deep w)
@@ -127,6 +134,10 @@ exp_what_deep (exp_what_in.Apply a b) = omega (arith, args_most b.items)
 exp_what_deep (exp_what_in.Fields a) = omega (arith, field_exps_most a.items)
 exp_what_deep (exp_what_in.Get a b) = omega arith
 exp_what_deep (exp_what_in.Pack a b) = omega arith
+exp_what_deep (exp_what_in.Inj a b c) = omega arith
+exp_what_deep (exp_what_in.Case a b c) = omega (arith, branches_most c.items)
+exp_what_deep (exp_what_in.Roll a b) = omega arith
+exp_what_deep (exp_what_in.Unroll a) = omega arith
 
 pub exp_falls : (s : SpanAt) (w : ExpNode) → max (deep-ExpWhat w) 0 ≤ exp_size (exp_of s w)
 exp_falls s w = omega (arith, exp_what_deep w)

@@ -1,6 +1,6 @@
 -- How large a phrase is: its nodes and the items of its lists.
 use Rattle.std.specs.Prelude.{ℕ, ◌+◌}
-use Rattle.fing_syntax.specs.Phrase.{Mod, ModWhat, Bind, BindWhat, SigEx, SigWhat, Decl, DeclWhat, TyEx, TyWhat, Exp, ExpWhat, Binds, Decls, TyExs, FieldTyExs, OpExps, Args, FieldExps, Arg, ModAt, ModName, ModStruct, ModProject, ModFunctor, ModApply, ModSeal, ModUnpack, BindAt, BindVal, BindTy, BindModule, BindSignature, BindInclude, SigAt, PathSig, SigDecls, SigFun, SigRefine, DeclAt, DeclVal, DeclTyIs, DeclTyOf, DeclModule, DeclSignature, DeclInclude, TyAt, PathTy, TyInt, TyBool, TyText, TyArrow, TyApply, TyFields, TyAll, TyLam, TyPack, ExpAt, PathExp, ExpInt, ExpBool, ExpText, ExpLam, ExpTyLam, ExpFix, ExpIf, ExpOps, ExpApply, ExpFields, ExpGet, ExpPack, NoBinds, MoreBinds, NoDecls, MoreDecls, NoTys, MoreTys, NoFieldTys, MoreFieldTys, NoOps, MoreOps, NoArgs, MoreArgs, NoFieldExps, MoreFieldExps, ArgExp, ArgTy}
+use Rattle.fing_syntax.specs.Phrase.{Mod, ModWhat, Bind, BindWhat, SigEx, SigWhat, Decl, DeclWhat, TyEx, TyWhat, Exp, ExpWhat, Binds, Decls, TyExs, FieldTyExs, OpExps, Args, FieldExps, Arg, Branches, ModAt, ModName, ModStruct, ModProject, ModFunctor, ModApply, ModSeal, ModUnpack, BindAt, BindVal, BindTy, BindModule, BindSignature, BindInclude, SigAt, PathSig, SigDecls, SigFun, SigRefine, DeclAt, DeclVal, DeclTyIs, DeclTyOf, DeclModule, DeclSignature, DeclInclude, TyAt, PathTy, TyInt, TyBool, TyText, TyArrow, TyApply, TyFields, TyAll, TyLam, TyPack, TySum, TyMu, ExpAt, PathExp, ExpInt, ExpBool, ExpText, ExpLam, ExpTyLam, ExpFix, ExpIf, ExpOps, ExpApply, ExpFields, ExpGet, ExpPack, ExpInj, ExpCase, ExpRoll, ExpUnroll, NoBinds, MoreBinds, NoDecls, MoreDecls, NoTys, MoreTys, NoFieldTys, MoreFieldTys, NoOps, MoreOps, NoArgs, MoreArgs, NoFieldExps, MoreFieldExps, NoBranches, MoreBranches, ArgExp, ArgTy}
 
 abbrev mutual
   pub mod_size : Mod → ℕ
@@ -59,6 +59,8 @@ abbrev mutual
   ty_what_size (TyAll a b c) = ty_size c + 1
   ty_what_size (TyLam a b c) = ty_size c + 1
   ty_what_size (TyPack a) = sig_size a + 1
+  ty_what_size (TySum a) = field_tys_size a + 1
+  ty_what_size (TyMu a b) = ty_size b + 1
 
   pub exp_size : Exp → ℕ
   exp_size (ExpAt a b) = exp_what_size b
@@ -77,6 +79,10 @@ abbrev mutual
   exp_what_size (ExpFields a) = field_exps_size a + 1
   exp_what_size (ExpGet a b) = exp_size a + 1
   exp_what_size (ExpPack a b) = sig_size b + 1
+  exp_what_size (ExpInj a b c) = exp_size b + ty_size c + 1
+  exp_what_size (ExpCase a b c) = exp_size a + ty_size b + branches_size c + 1
+  exp_what_size (ExpRoll a b) = exp_size a + ty_size b + 1
+  exp_what_size (ExpUnroll a) = exp_size a + 1
 
   pub binds_size : Binds → ℕ
   binds_size NoBinds = 0
@@ -105,6 +111,10 @@ abbrev mutual
   pub field_exps_size : FieldExps → ℕ
   field_exps_size NoFieldExps = 0
   field_exps_size (MoreFieldExps a b c) = exp_size b + field_exps_size c + 1
+
+  pub branches_size : Branches → ℕ
+  branches_size NoBranches = 0
+  branches_size (MoreBranches a b c d) = exp_size c + branches_size d + 1
 
   pub arg_size : Arg → ℕ
   arg_size (ArgExp a) = exp_size a + 1

@@ -19,7 +19,8 @@ use Rattle.fing_syntax.specs.declared.tree.ExpWhat.{ExpWhat as ExpNode}
 use Rattle.fing_syntax.specs.declared.tree.ExpWhat.TheVariants as exp_what_in
 use Rattle.fing_syntax.specs.declared.tree.Arg.{Arg as ArgNode}
 use Rattle.fing_syntax.specs.declared.tree.Arg.TheVariants as arg_in
-use Rattle.fing_syntax.specs.Phrase.{Mod, ModWhat, Bind, BindWhat, SigEx, SigWhat, Decl, DeclWhat, TyEx, TyWhat, Exp, ExpWhat, Binds, Decls, TyExs, FieldTyExs, OpExps, Args, FieldExps, Arg, ModAt, ModName, ModStruct, ModProject, ModFunctor, ModApply, ModSeal, ModUnpack, BindAt, BindVal, BindTy, BindModule, BindSignature, BindInclude, SigAt, PathSig, SigDecls, SigFun, SigRefine, DeclAt, DeclVal, DeclTyIs, DeclTyOf, DeclModule, DeclSignature, DeclInclude, TyAt, PathTy, TyInt, TyBool, TyText, TyArrow, TyApply, TyFields, TyAll, TyLam, TyPack, ExpAt, PathExp, ExpInt, ExpBool, ExpText, ExpLam, ExpTyLam, ExpFix, ExpIf, ExpOps, ExpApply, ExpFields, ExpGet, ExpPack, NoBinds, MoreBinds, NoDecls, MoreDecls, NoTys, MoreTys, NoFieldTys, MoreFieldTys, NoOps, MoreOps, NoArgs, MoreArgs, NoFieldExps, MoreFieldExps, ArgExp, ArgTy}
+use Rattle.fing_syntax.specs.declared.tree.Branch.{Branch as BranchNode}
+use Rattle.fing_syntax.specs.Phrase.{Mod, ModWhat, Bind, BindWhat, SigEx, SigWhat, Decl, DeclWhat, TyEx, TyWhat, Exp, ExpWhat, Binds, Decls, TyExs, FieldTyExs, OpExps, Args, FieldExps, Arg, Branches, ModAt, ModName, ModStruct, ModProject, ModFunctor, ModApply, ModSeal, ModUnpack, BindAt, BindVal, BindTy, BindModule, BindSignature, BindInclude, SigAt, PathSig, SigDecls, SigFun, SigRefine, DeclAt, DeclVal, DeclTyIs, DeclTyOf, DeclModule, DeclSignature, DeclInclude, TyAt, PathTy, TyInt, TyBool, TyText, TyArrow, TyApply, TyFields, TyAll, TyLam, TyPack, TySum, TyMu, ExpAt, PathExp, ExpInt, ExpBool, ExpText, ExpLam, ExpTyLam, ExpFix, ExpIf, ExpOps, ExpApply, ExpFields, ExpGet, ExpPack, ExpInj, ExpCase, ExpRoll, ExpUnroll, NoBinds, MoreBinds, NoDecls, MoreDecls, NoTys, MoreTys, NoFieldTys, MoreFieldTys, NoOps, MoreOps, NoArgs, MoreArgs, NoFieldExps, MoreFieldExps, NoBranches, MoreBranches, ArgExp, ArgTy}
 
 abbrev pub arg_of : ArgNode → Arg
 arg_of (arg_in.Exp a) = ArgExp a
@@ -52,6 +53,10 @@ args (x ∷ xs) = MoreArgs (arg_of x) (args xs)
 abbrev pub field_exps : List (NameAt × Exp) → FieldExps
 field_exps [] = NoFieldExps
 field_exps (x ∷ xs) = MoreFieldExps (spelled x.0) x.1 (field_exps xs)
+
+abbrev pub branches : List BranchNode → Branches
+branches [] = NoBranches
+branches (x ∷ xs) = MoreBranches (spelled x.label) (spelled x.name) x.body (branches xs)
 
 abbrev pub mod_what_of : ModNode → ModWhat
 mod_what_of (mod_what_in.Name a) = ModName (spelled a)
@@ -106,6 +111,8 @@ ty_what_of (ty_what_in.Fields a) = TyFields (field_tys a.items)
 ty_what_of (ty_what_in.All a b c) = TyAll (spelled a) (kind_tree b) c.value
 ty_what_of (ty_what_in.Lam a b c) = TyLam (spelled a) (kind_tree b) c.value
 ty_what_of (ty_what_in.Pack a) = TyPack a.value
+ty_what_of (ty_what_in.Sum a) = TySum (field_tys a.items)
+ty_what_of (ty_what_in.Mu a b) = TyMu (spelled a) b.value
 
 abbrev pub ty_of : SpanAt → TyExNode → TyEx
 ty_of s w = TyAt (place s) (ty_what_of w)
@@ -124,6 +131,10 @@ exp_what_of (exp_what_in.Apply a b) = ExpApply a.value (args b.items)
 exp_what_of (exp_what_in.Fields a) = ExpFields (field_exps a.items)
 exp_what_of (exp_what_in.Get a b) = ExpGet a.value (spelled b)
 exp_what_of (exp_what_in.Pack a b) = ExpPack (spelled a) b.value
+exp_what_of (exp_what_in.Inj a b c) = ExpInj (spelled a) b.value c.value
+exp_what_of (exp_what_in.Case a b c) = ExpCase a.value b (branches c.items)
+exp_what_of (exp_what_in.Roll a b) = ExpRoll a.value b.value
+exp_what_of (exp_what_in.Unroll a) = ExpUnroll a.value
 
 abbrev pub exp_of : SpanAt → ExpNode → Exp
 exp_of s w = ExpAt (place s) (exp_what_of w)

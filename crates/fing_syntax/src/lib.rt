@@ -13,6 +13,7 @@ mod units;
 pub use leaf::{Op, SpanName};
 pub use program::Program;
 pub use tree::{
-    Arg, Bind, BindWhat, Decl, DeclWhat, Exp, ExpWhat, Mod, ModWhat, SigEx, SigWhat, TyEx, TyWhat,
+    Arg, Bind, BindWhat, Branch, Decl, DeclWhat, Exp, ExpWhat, Mod, ModWhat, SigEx, SigWhat, TyEx,
+    TyWhat,
 };
 pub use units::{UnitTree, Units};

@@ -112,8 +112,8 @@ pub struct TyEx {
 }
 
 /// What a type is: that at a path, integers, booleans, texts, functions, an operator and the types that it is applied to,
-/// records, types of generic values, operators, or packed modules of a signature. The parser makes an application of at
-/// least one type; the field may be any list.
+/// records, types of generic values, operators, packed modules of a signature, sums of labelled types, or a recursive type,
+/// in which the name stands for the whole. The parser makes an application of at least one type; the field may be any list.
 #[cycle(phrase)]
 #[derive(Drop)]
 pub enum TyWhat {
@@ -127,6 +127,8 @@ pub enum TyWhat {
     All(SpanName, Kind, Box<TyEx>),
     Lam(SpanName, Kind, Box<TyEx>),
     Pack(Box<SigEx>),
+    Sum(Vec<(SpanName, TyEx)>),
+    Mu(SpanName, Box<TyEx>),
 }
 
 /// An expression and its place.
@@ -138,8 +140,10 @@ pub struct Exp {
 }
 
 /// What an expression is: the value at a path, a constant, a function, a generic value, a recursive function, a choice,
-/// a chain of operators of one level, which group to the left, a chain of arguments, a record, a field of a record, or a
-/// named module packed with a signature. The parser makes a chain of at least one argument; the field may be any list.
+/// a chain of operators of one level, which group to the left, a chain of arguments, a record, a field of a record, a
+/// named module packed with a signature, a value with a label in a sum, a case by the labels of a sum, whose result has
+/// the type that is written, or a value of a recursive type rolled up or unrolled. The parser makes a chain of at least one
+/// argument; the field may be any list.
 #[cycle(phrase)]
 #[derive(Drop)]
 pub enum ExpWhat {
@@ -162,6 +166,23 @@ pub enum ExpWhat {
     Fields(Vec<(SpanName, Exp)>),
     Get(Box<Exp>, SpanName),
     Pack(SpanName, Box<SigEx>),
+    Inj(SpanName, Box<Exp>, Box<TyEx>),
+    Case {
+        whole: Box<Exp>,
+        result: TyEx,
+        branches: Vec<Branch>,
+    },
+    Roll(Box<Exp>, Box<TyEx>),
+    Unroll(Box<Exp>),
+}
+
+/// A branch of a case: the label, the name of its value, and what the case gives then.
+#[cycle(phrase)]
+#[derive(Drop)]
+pub struct Branch {
+    pub label: SpanName,
+    pub name: SpanName,
+    pub body: Exp,
 }
 
 /// An argument: a value, or a type with the place from its opening bracket to its closing one.

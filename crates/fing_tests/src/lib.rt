@@ -22,8 +22,6 @@ mod link;
 #[cfg(test)]
 mod outcomes;
 #[cfg(test)]
-mod phrases;
-#[cfg(test)]
 mod reasons;
 #[cfg(test)]
 mod runs;
@@ -32,6 +30,12 @@ mod sets;
 #[cfg(test)]
 mod simplify;
 #[cfg(test)]
+mod sizes;
+#[cfg(test)]
 mod spelling;
 #[cfg(test)]
+mod sums;
+#[cfg(test)]
 mod verify;
+#[cfg(test)]
+mod words;

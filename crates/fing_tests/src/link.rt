@@ -56,7 +56,7 @@ fn accepted_units(rt: HostRuntime) -> Result<(), Fail> {
 }
 
 // Units, and the program that binds the name of each to its body, sealed by its signature.
-const PROGRAMS: [(&str, &str); 3] = [
+const PROGRAMS: [(&str, &str); 4] = [
     (
         TWO,
         "module A = struct type t = Int val x = 5 end :> sig type t val x : t end module B = struct val y = A.x end :> sig val y : A.t end",
@@ -68,6 +68,10 @@ const PROGRAMS: [(&str, &str); 3] = [
     (
         "module S : sig signature T = sig type t end val p : pack T end = struct signature T = sig type t end val p = pack struct type t = Int end : T end module U : S.T = struct include unpack S.p : S.T end",
         "module S = struct signature T = sig type t end val p = pack struct type t = Int end : T end :> sig signature T = sig type t end val p : pack T end module U = struct include unpack S.p : S.T end :> S.T",
+    ),
+    (
+        "module A : sig data t = {n : Int} val x : t end = struct data t = {n : Int} val x = roll {n = 5} : t end module B : sig val y : Int end = struct val y = unroll A.x#n end",
+        "module A = struct data t = {n : Int} val x = roll {n = 5} : t end :> sig data t = {n : Int} val x : t end module B = struct val y = unroll A.x#n end :> sig val y : Int end",
     ),
 ];
 
@@ -125,7 +129,7 @@ fn refused_units(rt: HostRuntime) -> Result<(), Fail> {
 
 // Bindings of the body of a second unit, one for each reason for which they mean nothing, and the line that refuses the
 // text: the body's bindings begin at the byte 60.
-const REASONS: [(&str, &str); 22] = [
+const REASONS: [(&str, &str); 26] = [
     ("val y = z + 1", "refused 68-69 Unbound z\n"),
     ("val x = 1 val y = x.z", "refused 80-81 NotStructure\n"),
     (
@@ -167,11 +171,21 @@ const REASONS: [(&str, &str); 22] = [
     ("val x = 1 2", "refused 68-69 NotArrow int\n"),
     ("val x = 1 [Int]", "refused 68-69 NotAll int\n"),
     ("val x = 1#a", "refused 68-69 NotRecord int\n"),
+    ("val x = inj a 1 : Int", "refused 78-81 NotSum int\n"),
+    ("val x = unroll 1", "refused 75-76 NotData int\n"),
     ("val x = {a = 1}#b", "refused 76-77 NoField b\n"),
+    (
+        "val x = case inj a 1 : case {a : Int} : Int of {}",
+        "refused 68-109 NoBranch a\n",
+    ),
     ("val x = true + 1", "refused 68-72 Differ bool int\n"),
     (
         "type f = fun (a : Type) => a val x = fun (y : f) => 1",
         "refused 106-107 KindDiffer (> * *) *\n",
+    ),
+    (
+        "data t = fun (a : Type) => a",
+        "refused 69-88 KindDiffer (> * *) *\n",
     ),
     ("type t = Int Int", "refused 69-72 NotOperator\n"),
     ("val x = {a = 1, a = 2}", "refused 76-77 DuplicateField a\n"),

@@ -3,7 +3,7 @@ use crate::runs::all_reply;
 use fing_top::Status;
 use std::test::Fail;
 
-const REASONS: [(&str, &str); 22] = [
+const REASONS: [(&str, &str); 25] = [
     ("val y = z + 1", "refused 8-9 Unbound z\n"),
     ("val x = 1 val y = x.z", "refused 20-21 NotStructure\n"),
     (
@@ -45,7 +45,13 @@ const REASONS: [(&str, &str); 22] = [
     ("val x = 1 2", "refused 8-9 NotArrow int\n"),
     ("val x = 1 [Int]", "refused 8-9 NotAll int\n"),
     ("val x = 1#a", "refused 8-9 NotRecord int\n"),
+    ("val x = inj a 1 : Int", "refused 18-21 NotSum int\n"),
+    ("val x = unroll 1", "refused 15-16 NotData int\n"),
     ("val x = {a = 1}#b", "refused 16-17 NoField b\n"),
+    (
+        "val x = case inj a 1 : case {a : Int} : Int of {}",
+        "refused 8-49 NoBranch a\n",
+    ),
     ("val x = true + 1", "refused 8-12 Differ bool int\n"),
     (
         "type f = fun (a : Type) => a val x = fun (y : f) => 1",

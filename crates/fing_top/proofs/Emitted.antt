@@ -21,7 +21,7 @@ use Rattle.elab_spelling.proofs.Theorems.{encodings_are_legible, programs_mean_l
 use Rattle.parse_spelling.specs.Values.{UnitsSpelled, ValueSpelled}
 use Rattle.parse_spelling.specs.Claims.{Compiles, Emits}
 use Rattle.parse_spelling.proofs.Simplified.{emits-legible}
-use Rattle.parse_spelling.proofs.Theorems.{tokens_are_spelled, phrases_are_spelled, emitted_are_typed, emitted_in_scope, emitted_have_text}
+use Rattle.parse_spelling.proofs.Theorems.{tokens_are_spelled, keywords_are_spelled, phrases_are_spelled, emitted_are_typed, emitted_in_scope, emitted_have_text}
 use Rattle.unit_laws.specs.Units.{program_of}
 use Rattle.fing_top.specs.declared.status.Status.TheVariants as status
 use Rattle.fing_top.specs.Meaning.{Form, one_program, separate_units, class_of, stands_for, Spells, Meaning, BytesMean}
@@ -30,20 +30,20 @@ use Rattle.fing_top.specs.Emission.{IsVerified, IsEmitted, EmittedIsVerified}
 use Rattle.fing_top.proofs.TextDepth.{not-high}
 
 -- the program of units that are spelled is spelled, the hidden names of their sealings too
-units-spelled : (us : List UnitTree) → UnitsSpelled us → BindsSpelled (program_of us)
+units-spelled : (us : List UnitTree) → UnitsSpelled Second us → BindsSpelled Second (program_of us)
 units-spelled [] h = tt
 units-spelled (UnitAt at x s m ∷ us) h = ((h.0.0, (((refl, h.0.2), ((refl, (refl, h.0.1)), tt)), refl)), units-spelled us h.1)
 
-program-spelled : (form : Form) (tree : Value (class_of form)) → ValueSpelled (class_of form) tree → BindsSpelled (stands_for form tree)
+program-spelled : (form : Form) (tree : Value (class_of form)) → ValueSpelled Second (class_of form) tree → BindsSpelled Second (stands_for form tree)
 program-spelled one_program program h = h
 program-spelled separate_units units h = units-spelled units h
 
-spells-spelled : {form : Form} {bytes : List ℕ} {program : Program} → Spells form bytes program → BindsSpelled program
+spells-spelled : {form : Form} {bytes : List ℕ} {program : Program} → Spells form bytes program → BindsSpelled Second program
 spells-spelled {form} {bytes} s =
-    let h = phrases_are_spelled (class_of form) s.tokens s.tree (tokens_are_spelled bytes s.tokens s.lexed) s.phrase in
-    subst BindsSpelled s.stands (program-spelled form s.tree h)
+    let h = phrases_are_spelled Second (class_of form) s.tokens s.tree (tokens_are_spelled bytes s.tokens s.lexed) (keywords_are_spelled s.tokens) s.phrase in
+    subst (BindsSpelled Second) s.stands (program-spelled form s.tree h)
 
-compiles : {form : Form} {bytes : List ℕ} {m : Meaning} → BytesMean form bytes m → Compiles m.sig m.whole
+compiles : {form : Form} {bytes : List ℕ} {m : Meaning} → BytesMean form bytes m → Compiles Second m.sig m.whole
 compiles {m = m} b = record {
   program = m.program;
   spelled = spells-spelled b.spelled;
@@ -57,7 +57,7 @@ emits : (simplify : Bool) (whole : Term) → Emits whole (emitted simplify whole
 emits false whole = Emits.as_it_is
 emits true whole = Emits.simpler
 
-module _ {x : Abs} {whole e : Term} (c : Compiles x whole) (k : Emits whole e) where
+module _ {x : Abs} {whole e : Term} (c : Compiles Second x whole) (k : Emits whole e) where
   -- what is emitted is legible
   legible : TyLegible Second (enc_abs x) × TermLegible Second e
   legible =
@@ -65,19 +65,19 @@ module _ {x : Abs} {whole e : Term} (c : Compiles x whole) (k : Emits whole e) w
       (encodings_are_legible Second x h.0.0, emits-legible Second k h.1)
 
   low-spelled : height (enc_abs x) ≤ 2 ^ 64 → term_height e ≤ 2 ^ 63 → OmegaText (omega_text (enc_abs x) e) (enc_abs x) e
-  low-spelled low shallow = let scope = emitted_in_scope x whole e c k low shallow in (Second, emitted_have_text Second x whole e c k scope.0 scope.1)
+  low-spelled low shallow = let scope = emitted_in_scope Second x whole e c k low shallow in (Second, emitted_have_text Second x whole e c k scope.0 scope.1)
 
   fits-verified : is_too_deep (omega_text (enc_abs x) e) ≡ false → IsVerified (omega_text (enc_abs x) e) (enc_abs x) e
   fits-verified fits =
       let high = not-high Second (enc_abs x) e legible.0 legible.1 fits in
       let spelled = low-spelled (omega (arith, high.0)) (omega (arith, high.1)) in
-      record { spelled = spelled; verified = VerifyReplies.well_typed spelled fits (emitted_are_typed x whole e c k) }
+      record { spelled = spelled; verified = VerifyReplies.well_typed spelled fits (emitted_are_typed Second x whole e c k) }
 
 -- what is written for a meaning
 meaning-emitted : {form : Form} {bytes : List ℕ} {m : Meaning} (simplify : Bool) → BytesMean form bytes m
     → IsEmitted (omega_text (enc_abs m.sig) (emitted simplify m.whole)) (enc_abs m.sig) (emitted simplify m.whole)
 meaning-emitted {m = m} simplify b =
-    let c : Compiles m.sig m.whole = compiles b in
+    let c : Compiles Second m.sig m.whole = compiles b in
     let k : Emits m.whole (emitted simplify m.whole) = emits simplify m.whole in
     record { verified = fits-verified c k; spelled = low-spelled c k }
 

@@ -7,8 +7,6 @@
 mod command_line;
 mod number;
 mod table;
-#[cfg(test)]
-mod tests;
 mod words;
 
 pub use command_line::{CommandLine, one_line};

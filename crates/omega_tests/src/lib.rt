@@ -1,5 +1,5 @@
-// Tests of the crates of System Fω through their public calls, with ample memory: normal types, terms, texts, scopes,
-// the checker, the machine and simplified terms. Stands on these crates and on fing_text.
+// Tests of the crates of System Fω through their public calls, with ample memory: normal types, their store, terms, texts,
+// scopes, the checker, the machine and simplified terms. Stands on these crates and on fing_text.
 // Proved: that no test reads out of bounds, overflows or breaks what a call asks for. What they assert is tested alone.
 #![tactic(auto)]
 
@@ -9,6 +9,8 @@ mod checking;
 mod machine;
 #[cfg(test)]
 mod normal_types;
+#[cfg(test)]
+mod numbers;
 #[cfg(test)]
 mod reading;
 #[cfg(test)]

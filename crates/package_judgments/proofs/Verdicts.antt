@@ -1,4 +1,4 @@
--- Each rule of packages has exactly one conclusion or exactly one refusal, and signatures that match share a package type.
+-- Each rule of packages has exactly one conclusion or exactly one refusal.
 use Rattle.std.specs.Prelude.{List, [], ◌≡◌, ◌≢◌}
 use Rattle.std.proofs.Math.Path.{refl, sym, subst, ap, ◌∙◌}
 use Rattle.omega_kinds.specs.Kind.{Kind}
@@ -17,11 +17,9 @@ use Rattle.sig_laws.specs.Decide.{dec_ty}
 use Rattle.sig_laws.proofs.Encoded.EncodingLaws.{enc_well_formed-normal}
 use Rattle.sig_laws.proofs.Formed.Conditions.{explicit-abs}
 use Rattle.sig_laws.proofs.Formed.Forms.{pair-same}
-use Rattle.sig_premise_laws.proofs.Determined.{norm-one}
+use Rattle.sig_norm_laws.proofs.NormClaims.{norm-one}
 use Rattle.sig_premise_laws.proofs.Terms.{packs-one}
 use Rattle.package_judgments.specs.Package.{PackTypeGives, PackGives, UnpackGives, UnpackWhy, Differ, UnpackRefuses}
-use Rattle.sig_package_laws.proofs.PackageClaims.{one_normal_package_type}
-use Rattle.package_judgments.specs.SharedType.{OneSharedType}
 use Rattle.package_judgments.specs.OneOutcome.{OnePackType, OnePack, OneUnpack}
 
 pub pack_type-view : {ctx : List Kind} {x : Abs} {t : Ty} → PackTypeGives ctx x t → (y : Abs) × Norm ctx x y × (t ≡ enc_abs y)
@@ -31,12 +29,6 @@ pub one_pack_type : OnePackType
 one_pack_type ctx x h =
     let n = norm-one ctx x h in
     (enc_abs n.0, PackTypeGives.pack_type n.1, λ t g. let v = pack_type-view g in v.2 ∙ ap enc_abs (n.2 v.0 v.1))
-
-pub one_shared_type : OneSharedType
-one_shared_type ctx x t ok p y u f g right a b same q =
-    let v = pack_type-view p in
-    let w = pack_type-view q in
-    v.2 ∙ (one_normal_package_type ctx x y v.0 w.0 f g ok right a b same v.1 w.1 ∙ sym w.2)
 
 pack-view : {ctx : List Kind} {e c : Term} {z : Abs} {ts : List Ty} (o : Ty × Term) → PackGives ctx e z ts c o.0 o.1 → (o.0 ≡ enc_abs z) × Packs ctx ts (Term.Call c e) (enc_abs z) o.1
 pack-view _ (PackGives.pack p) = (refl, p)

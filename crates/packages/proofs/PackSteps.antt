@@ -15,8 +15,8 @@ use Rattle.sig_laws.specs.Good.{OkAbs, OkRight}
 use Rattle.sig_laws.proofs.Encoded.EncodingLaws.{enc_well_formed-normal}
 use Rattle.sig_laws.proofs.Formed.Conditions.{explicit-abs}
 use Rattle.package_judgments.specs.Package.{PackTypeGives, PackGives, UnpackGives, UnpackWhy, UnpackRefuses}
-use Rattle.package_judgments.specs.SharedType.{IsSharedType}
-use Rattle.package_judgments.proofs.Verdicts.{one_shared_type}
+use Rattle.package_laws.specs.SharedType.{IsSharedType}
+use Rattle.package_laws.proofs.SharedTypes.{one_shared_type}
 use Rattle.semantic_sigs.specs.View.{kinds_of}
 use Rattle.omega_shorthands.specs.Packed.{Fills}
 

@@ -3,13 +3,16 @@ ghost use Rattle.std.specs.Prelude.{◌≡◌, [], ◌∷◌, ◌++◌, IfOk, On
 ghost use Rattle.fing_syntax.specs.Leaves.{place};
 ghost use Rattle.fing_syntax.specs.View.{binds as binds_of};
 ghost use Rattle.parse_grammar.specs.Forms as form;
+ghost use Rattle.parse_grammar.specs.Parts as part;
 ghost use Rattle.parse_forms.specs.Part.{tail_in, abstraction_in};
 
 use crate::kept::Kept;
 use crate::part::{Abstraction, TypeTail};
 use crate::tokens::{hidden, named, up_to};
 use fing_lexer::Token;
-use fing_syntax::{Bind, BindWhat, Decl, DeclWhat, Exp, ExpWhat, Mod, ModWhat, SigEx};
+use fing_syntax::{
+    Bind, BindWhat, Decl, DeclWhat, Exp, ExpWhat, Mod, ModWhat, SigEx, TyEx, TyWhat,
+};
 use fing_text::Span;
 use omega_kinds::{Kind, Mem};
 use std::alloc::Global;
@@ -210,6 +213,42 @@ pub fn pack_exp(alloc: Global, span: Span, inner: Mod, sig: SigEx) -> Result<Exp
     add_module(alloc, &mut binds, span, b"%1", inner.take())?;
     binds.push(last.take())?;
     value_of(alloc, span, binds)
+}
+
+// The recursive type of this body, in which the name stands for the type itself.
+fn recursive(alloc: Global, span: Span, name: &Token, body: TyEx) -> Result<TyEx, Mem>
+    ensures { IfOk result (λ t. t ≡ form.recursive (place span) (part.named name.now) body) }
+{
+    let body = Box::new(alloc, body)?;
+    let name = named(alloc, name)?;
+    Ok(TyEx {
+        span,
+        what: TyWhat::Mu(name, body),
+    })
+}
+
+/// `data X = T` as a binding, at this place. `Err` is want of memory.
+pub fn data_bind(alloc: Global, span: Span, name: &Token, body: TyEx) -> Result<Bind, Mem>
+    ensures { IfOk result (λ b. b ≡ form.data_bind (place span) (part.named name.now) body) }
+{
+    let ty = Kept::new(recursive(alloc, span, name, body)?);
+    let name = named(alloc, name)?;
+    Ok(Bind {
+        span,
+        what: BindWhat::Ty(name, ty.take()),
+    })
+}
+
+/// `data X = T` as a declaration, at this place. `Err` is want of memory.
+pub fn data_decl(alloc: Global, span: Span, name: &Token, body: TyEx) -> Result<Decl, Mem>
+    ensures { IfOk result (λ d. d ≡ form.data_decl (place span) (part.named name.now) body) }
+{
+    let ty = Kept::new(recursive(alloc, span, name, body)?);
+    let name = named(alloc, name)?;
+    Ok(Decl {
+        span,
+        what: DeclWhat::TyIs(name, ty.take()),
+    })
 }
 
 /// A declaration of a type, from its keyword, its name and what follows them. `Err` is want of memory.

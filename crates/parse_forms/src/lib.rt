@@ -14,7 +14,8 @@ pub use chains::{
     projected, refine_all, ty_chain,
 };
 pub use forms::{
-    abstracted, apply_mod, declared_type, let_exp, let_mod, pack_exp, seal_mod, show_mod,
+    abstracted, apply_mod, data_bind, data_decl, declared_type, let_exp, let_mod, pack_exp,
+    seal_mod, show_mod,
 };
 pub use kept::Kept;
 pub use part::{Abstraction, Ascription, KindPart, TypeTail, Where};

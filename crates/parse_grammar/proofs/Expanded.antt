@@ -7,7 +7,7 @@ use Rattle.parse_grammar.specs.Tables.{choose}
 use Rattle.parse_grammar.specs.View.{class_in, rule_in, any, chosen}
 use Rattle.parse_grammar.specs.declared.grammar.Rule.{Rule as RuleIn}
 use Rattle.parse_grammar.specs.declared.grammar.Class.{Class as ClassIn}
-use Rattle.parse_grammar.specs.declared.grammar.Class.TheVariants.{Units, OneUnit, Binds, Bind, Decls, Decl, TypeOf, Kind, KindArrow, KindAtom, Path, Dots, Ty, TyArrow, TyChain, TyArgs, TyAtom, TyFields, MoreTyFields, Sig, SigArrow, Wheres, SigAtom, Mod, ModArgs, Seals, ModAtom, Exp, Lam, Compare, Sum, Sums, Product, Products, Application, Args, Selection, Gets, ExpAtom, ExpFields, MoreExpFields}
+use Rattle.parse_grammar.specs.declared.grammar.Class.TheVariants.{Units, OneUnit, Binds, Bind, Decls, Decl, TypeOf, Kind, KindArrow, KindAtom, Path, Dots, Ty, TyArrow, TyChain, TyArgs, TyAtom, TyFields, MoreTyFields, Sig, SigArrow, Wheres, SigAtom, Mod, ModArgs, Seals, ModAtom, Exp, Lam, Branches, MoreBranches, Compare, Sum, Sums, Product, Products, Application, Args, Selection, Gets, ExpAtom, ExpFields, MoreExpFields}
 
 chosen_is : (c : ClassIn) (j : ℕ) → chosen c j ≡ option_map any (choose (class_in c) j)
 chosen_is Units j = refl
@@ -39,6 +39,8 @@ chosen_is Seals j = refl
 chosen_is ModAtom j = refl
 chosen_is Exp j = refl
 chosen_is Lam j = refl
+chosen_is Branches j = refl
+chosen_is MoreBranches j = refl
 chosen_is Compare j = refl
 chosen_is Sum j = refl
 chosen_is Sums j = refl

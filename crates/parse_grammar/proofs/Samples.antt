@@ -1,6 +1,6 @@
 -- a phrase of each class, the least deep one
 use Rattle.std.proofs.Common.{refl, List, [], ◌∷◌}
-use Rattle.parse_grammar.specs.Grammar.{Terminal, a_keyword, a_mark, a_name, a_number, a_text, Class, Units, OneUnit, Binds, Bind, Decls, Decl, TypeOf, K, KArrow, KA, P, Dots, T, TArrow, TC, TArgs, TA, TFields, MoreTFields, S, SArrow, Wheres, SA, M, MArgs, Seals, MA, E, Lam, Compare, ES, Sums, EM, Products, EP, Args, EA, Gets, EB, EFields, MoreEFields, phrase, rhs, no_units, unit_module, no_binds, bind_module, no_decls, decl_type, type_of_nothing, kind_chain, no_kind_arrow, kind_type, path_name, no_dots, ty_chain, no_arrow, ty_args, no_ty_args, ty_int, no_ty_fields, last_ty_field, sig_where, generative, no_wheres, sig_decls, mod_chain, no_mod_args, no_seals, mod_struct, exp_compare, lam_value, no_compare, sums, no_sums, products, no_products, exp_args, no_args, exp_gets, no_gets, exp_number, no_exp_fields, last_exp_field}
+use Rattle.parse_grammar.specs.Grammar.{Terminal, a_keyword, a_mark, a_name, a_number, a_text, Class, Units, OneUnit, Binds, Bind, Decls, Decl, TypeOf, K, KArrow, KA, P, Dots, T, TArrow, TC, TArgs, TA, TFields, MoreTFields, S, SArrow, Wheres, SA, M, MArgs, Seals, MA, E, Lam, EBranches, MoreEBranches, Compare, ES, Sums, EM, Products, EP, Args, EA, Gets, EB, EFields, MoreEFields, phrase, rhs, no_units, unit_module, no_binds, bind_module, no_decls, decl_type, type_of_nothing, kind_chain, no_kind_arrow, kind_type, path_name, no_dots, ty_chain, no_arrow, ty_args, no_ty_args, ty_int, no_ty_fields, last_ty_field, sig_where, generative, no_wheres, sig_decls, mod_chain, no_mod_args, no_seals, mod_struct, exp_compare, lam_value, no_branches, last_branch, no_compare, sums, no_sums, products, no_products, exp_args, no_args, exp_gets, no_gets, exp_number, no_exp_fields, last_exp_field}
 use Rattle.fing_lexer.specs.declared.token.Word.TheVariants.{KwType, KwModule, KwStruct, KwSig, KwEnd, KwFrom, KwInt, KwKind}
 use Rattle.fing_lexer.specs.declared.token.Mark.TheVariants.{LeftParen, RightParen, RightBrace, Colon, Equal, DoubleArrow, Arrow}
 use Rattle.fing_lexer.specs.declared.token.What.{What}
@@ -74,6 +74,12 @@ parts_of_MArgs = end
 
 pub parts_of_Seals : Trees (rhs no_seals)
 parts_of_Seals = end
+
+pub parts_of_EBranches : Trees (rhs no_branches)
+parts_of_EBranches = end
+
+pub parts_of_MoreEBranches : Trees (rhs last_branch)
+parts_of_MoreEBranches = end
 
 pub parts_of_Compare : Trees (rhs no_compare)
 parts_of_Compare = end
@@ -180,6 +186,8 @@ any_phrase Seals = node no_seals parts_of_Seals end
 any_phrase MA = node mod_struct parts_of_MA end
 any_phrase E = node exp_compare parts_of_E end
 any_phrase Lam = node lam_value parts_of_Lam end
+any_phrase EBranches = node no_branches parts_of_EBranches end
+any_phrase MoreEBranches = node last_branch parts_of_MoreEBranches end
 any_phrase Compare = node no_compare parts_of_Compare end
 any_phrase ES = node sums parts_of_ES end
 any_phrase Sums = node no_sums parts_of_Sums end
@@ -224,6 +232,8 @@ behind Seals = []
 behind MA = []
 behind E = []
 behind Lam = []
+behind EBranches = any_token (a_mark RightBrace) ∷ []
+behind MoreEBranches = any_token (a_mark RightBrace) ∷ []
 behind Compare = []
 behind ES = []
 behind Sums = []

@@ -3,7 +3,7 @@ use Rattle.std.specs.Prelude.{ℕ, false, List, [], ◌∷◌, Option, None, Som
 use Rattle.fing_lexer.specs.declared.token.Token.{Token}
 use Rattle.omega_kinds.specs.Kind.{Star, Arrow}
 use Rattle.fing_syntax.specs.Phrase as tree
-use Rattle.fing_syntax.specs.Phrase.{Span, SpanName, Spelled, Mod, SigEx, TyEx, TyExs, Exp, OpExps, ModAt, ModName, ModStruct, ModProject, ModFunctor, ModApply, ModSeal, BindAt, BindVal, BindModule, NoBinds, MoreBinds, SigAt, SigRefine, DeclAt, DeclTyIs, DeclTyOf, TyAt, TyArrow, TyApply, NoTys, MoreTys, ExpAt, PathExp, ExpLam, ExpTyLam, ExpOps, ExpApply, ExpGet, ExpPack, NoOps, MoreOps, NoArgs, MoreArgs}
+use Rattle.fing_syntax.specs.Phrase.{Span, SpanName, Spelled, Mod, SigEx, TyEx, TyExs, Exp, OpExps, ModAt, ModName, ModStruct, ModProject, ModFunctor, ModApply, ModSeal, BindAt, BindVal, BindTy, BindModule, NoBinds, MoreBinds, SigAt, SigRefine, DeclAt, DeclTyIs, DeclTyOf, TyAt, TyArrow, TyApply, TyMu, NoTys, MoreTys, ExpAt, PathExp, ExpLam, ExpTyLam, ExpOps, ExpApply, ExpGet, ExpPack, NoOps, MoreOps, NoArgs, MoreArgs}
 use Rattle.fing_syntax.specs.Place.{name_span, mod_span, sig_span, ty_span, exp_span, arg_span, up_to}
 use Rattle.parse_grammar.specs.Parts.{at, named, Kinded, TypeTail, Open, Is, Has, Where, Ascription, Sealed, Shown, Abstraction, OfValue, OfType}
 
@@ -88,6 +88,18 @@ hidden_pack s at g = ExpAt s (ExpPack (hidden (codes "%1") at) g)
 -- `pack M : S`
 abbrev pub pack_exp : Span → Mod → SigEx → Exp
 pack_exp s m g = value_of s (MoreBinds (hidden_module s (codes "%1") m) (MoreBinds (hidden_val s (hidden_pack s (mod_span m) g)) NoBinds))
+
+-- the recursive type in which the name stands for the type itself
+abbrev pub recursive : Span → SpanName → TyEx → TyEx
+recursive s x t = TyAt s (TyMu x t)
+
+-- `data X = T` as a binding
+abbrev pub data_bind : Span → SpanName → TyEx → tree.Bind
+data_bind s x t = BindAt s (BindTy x (recursive s x t))
+
+-- `data X = T` as a declaration
+abbrev pub data_decl : Span → SpanName → TyEx → tree.Decl
+data_decl s x t = DeclAt s (DeclTyIs x (recursive s x t))
 
 -- chains group to the left
 abbrev pub project_all : Mod → List SpanName → Mod

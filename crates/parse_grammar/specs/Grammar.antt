@@ -6,7 +6,7 @@ use Rattle.fing_lexer.specs.declared.token.Mark.{Mark}
 use Rattle.fing_lexer.specs.declared.token.What.{What}
 use Rattle.fing_lexer.specs.declared.token.What.TheVariants as what
 use Rattle.fing_lexer.specs.declared.token.Token.{Token}
-use Rattle.fing_lexer.specs.declared.token.Word.TheVariants.{KwVal, KwType, KwModule, KwSignature, KwInclude, KwStruct, KwSig, KwEnd, KwLet, KwIn, KwFun, KwGen, KwFix, KwIf, KwThen, KwElse, KwPack, KwUnpack, KwFrom, KwWhere, KwTrue, KwFalse, KwInt, KwBool, KwText, KwKind}
+use Rattle.fing_lexer.specs.declared.token.Word.TheVariants.{KwVal, KwType, KwModule, KwSignature, KwInclude, KwStruct, KwSig, KwEnd, KwLet, KwIn, KwFun, KwGen, KwFix, KwIf, KwThen, KwElse, KwPack, KwUnpack, KwFrom, KwWhere, KwTrue, KwFalse, KwInt, KwBool, KwText, KwKind, KwCase, KwOf, KwInj, KwData, KwRoll, KwUnroll}
 use Rattle.fing_lexer.specs.declared.token.Mark.TheVariants.{LeftParen, RightParen, LeftBrace, RightBrace, LeftBracket, RightBracket, Dot, Comma, Colon, Seal, Equal, DoubleArrow, Arrow, Hash, Plus, Minus, Star, Slash, Percent, Less, EqualEqual}
 
 -- what a token is, without its name, its number or its text
@@ -26,7 +26,7 @@ abbrev pub kind_of : Token → Terminal
 kind_of t = terminal_of t.what
 
 pub data Class : Type 0 where
-  Units OneUnit Binds Bind Decls Decl TypeOf K KArrow KA P Dots T TArrow TC TArgs TA TFields MoreTFields S SArrow Wheres SA M MArgs Seals MA E Lam Compare ES Sums EM Products EP Args EA Gets EB EFields MoreEFields : Class
+  Units OneUnit Binds Bind Decls Decl TypeOf K KArrow KA P Dots T TArrow TC TArgs TA TFields MoreTFields S SArrow Wheres SA M MArgs Seals MA E Lam EBranches MoreEBranches Compare ES Sums EM Products EP Args EA Gets EB EFields MoreEFields : Class
 
 -- one token, or one phrase of a class
 pub data Symbol : Type 0 where
@@ -53,9 +53,9 @@ pub data Rule : Class → Type 0 where
   no_units more_units : Rule Units
   unit_module : Rule OneUnit
   no_binds more_binds : Rule Binds
-  bind_val bind_type bind_module bind_signature bind_include : Rule Bind
+  bind_val bind_type bind_data bind_module bind_signature bind_include : Rule Bind
   no_decls more_decls : Rule Decls
-  decl_val decl_type decl_module decl_signature decl_include : Rule Decl
+  decl_val decl_type decl_data decl_module decl_signature decl_include : Rule Decl
   type_of_nothing type_is type_has : Rule TypeOf
   kind_chain : Rule K
   no_kind_arrow kind_arrow : Rule KArrow
@@ -66,7 +66,7 @@ pub data Rule : Class → Type 0 where
   no_arrow ty_arrow : Rule TArrow
   ty_args : Rule TC
   no_ty_args more_ty_args : Rule TArgs
-  ty_int ty_bool ty_text ty_path ty_fields ty_pack ty_paren : Rule TA
+  ty_int ty_bool ty_text ty_path ty_fields ty_sum ty_pack ty_paren : Rule TA
   no_ty_fields ty_field : Rule TFields
   last_ty_field next_ty_field : Rule MoreTFields
   sig_fun sig_where : Rule S
@@ -77,8 +77,10 @@ pub data Rule : Class → Type 0 where
   no_mod_args more_mod_args : Rule MArgs
   no_seals seal ascribe : Rule Seals
   mod_path mod_struct mod_let mod_paren : Rule MA
-  exp_fun exp_fix exp_if exp_compare : Rule E
+  exp_fun exp_fix exp_if exp_case exp_compare : Rule E
   lam_value lam_type : Rule Lam
+  no_branches case_branch : Rule EBranches
+  last_branch next_branch : Rule MoreEBranches
   no_compare less_than equal_to : Rule Compare
   sums : Rule ES
   no_sums add subtract : Rule Sums
@@ -88,7 +90,7 @@ pub data Rule : Class → Type 0 where
   no_args exp_arg ty_arg : Rule Args
   exp_gets : Rule EA
   no_gets more_gets : Rule Gets
-  exp_number exp_text exp_true exp_false exp_path exp_fields exp_let exp_pack exp_paren : Rule EB
+  exp_number exp_text exp_true exp_false exp_path exp_fields exp_inj exp_roll exp_unroll exp_let exp_pack exp_paren : Rule EB
   no_exp_fields exp_field : Rule EFields
   last_exp_field next_exp_field : Rule MoreEFields
 
@@ -101,6 +103,7 @@ rhs no_binds = []
 rhs more_binds = phrase Bind ∷ phrase Binds ∷ []
 rhs bind_val = keyword KwVal ∷ name ∷ mark Equal ∷ phrase E ∷ []
 rhs bind_type = keyword KwType ∷ name ∷ mark Equal ∷ phrase T ∷ []
+rhs bind_data = keyword KwData ∷ name ∷ mark Equal ∷ phrase T ∷ []
 rhs bind_module = keyword KwModule ∷ name ∷ mark Equal ∷ phrase M ∷ []
 rhs bind_signature = keyword KwSignature ∷ name ∷ mark Equal ∷ phrase S ∷ []
 rhs bind_include = keyword KwInclude ∷ phrase M ∷ []
@@ -108,6 +111,7 @@ rhs no_decls = []
 rhs more_decls = phrase Decl ∷ phrase Decls ∷ []
 rhs decl_val = keyword KwVal ∷ name ∷ mark Colon ∷ phrase T ∷ []
 rhs decl_type = keyword KwType ∷ name ∷ phrase TypeOf ∷ []
+rhs decl_data = keyword KwData ∷ name ∷ mark Equal ∷ phrase T ∷ []
 rhs decl_module = keyword KwModule ∷ name ∷ mark Colon ∷ phrase S ∷ []
 rhs decl_signature = keyword KwSignature ∷ name ∷ mark Equal ∷ phrase S ∷ []
 rhs decl_include = keyword KwInclude ∷ phrase S ∷ []
@@ -136,6 +140,7 @@ rhs ty_bool = keyword KwBool ∷ []
 rhs ty_text = keyword KwText ∷ []
 rhs ty_path = phrase P ∷ []
 rhs ty_fields = mark LeftBrace ∷ phrase TFields ∷ mark RightBrace ∷ []
+rhs ty_sum = keyword KwCase ∷ mark LeftBrace ∷ phrase TFields ∷ mark RightBrace ∷ []
 rhs ty_pack = keyword KwPack ∷ phrase SA ∷ []
 rhs ty_paren = mark LeftParen ∷ phrase T ∷ mark RightParen ∷ []
 rhs no_ty_fields = []
@@ -167,9 +172,14 @@ rhs mod_paren = mark LeftParen ∷ phrase M ∷ mark RightParen ∷ []
 rhs exp_fun = keyword KwFun ∷ phrase Lam ∷ []
 rhs exp_fix = keyword KwFix ∷ name ∷ mark LeftParen ∷ name ∷ mark Colon ∷ phrase T ∷ mark RightParen ∷ mark Colon ∷ phrase T ∷ mark DoubleArrow ∷ phrase E ∷ []
 rhs exp_if = keyword KwIf ∷ phrase E ∷ keyword KwThen ∷ phrase E ∷ keyword KwElse ∷ phrase E ∷ []
+rhs exp_case = keyword KwCase ∷ phrase E ∷ mark Colon ∷ phrase T ∷ keyword KwOf ∷ mark LeftBrace ∷ phrase EBranches ∷ mark RightBrace ∷ []
 rhs exp_compare = phrase ES ∷ phrase Compare ∷ []
 rhs lam_value = mark LeftParen ∷ name ∷ mark Colon ∷ phrase T ∷ mark RightParen ∷ mark DoubleArrow ∷ phrase E ∷ []
 rhs lam_type = mark LeftBracket ∷ name ∷ mark Colon ∷ phrase K ∷ mark RightBracket ∷ mark DoubleArrow ∷ phrase E ∷ []
+rhs no_branches = []
+rhs case_branch = name ∷ mark LeftParen ∷ name ∷ mark RightParen ∷ mark DoubleArrow ∷ phrase E ∷ phrase MoreEBranches ∷ []
+rhs last_branch = []
+rhs next_branch = mark Comma ∷ name ∷ mark LeftParen ∷ name ∷ mark RightParen ∷ mark DoubleArrow ∷ phrase E ∷ phrase MoreEBranches ∷ []
 rhs no_compare = []
 rhs less_than = mark Less ∷ phrase ES ∷ []
 rhs equal_to = mark EqualEqual ∷ phrase ES ∷ []
@@ -195,6 +205,9 @@ rhs exp_true = keyword KwTrue ∷ []
 rhs exp_false = keyword KwFalse ∷ []
 rhs exp_path = phrase P ∷ []
 rhs exp_fields = mark LeftBrace ∷ phrase EFields ∷ mark RightBrace ∷ []
+rhs exp_inj = keyword KwInj ∷ name ∷ phrase EB ∷ mark Colon ∷ phrase TA ∷ []
+rhs exp_roll = keyword KwRoll ∷ phrase EB ∷ mark Colon ∷ phrase TA ∷ []
+rhs exp_unroll = keyword KwUnroll ∷ phrase EB ∷ []
 rhs exp_let = keyword KwLet ∷ phrase Binds ∷ keyword KwIn ∷ phrase E ∷ keyword KwEnd ∷ []
 rhs exp_pack = keyword KwPack ∷ phrase MA ∷ mark Colon ∷ phrase SA ∷ []
 rhs exp_paren = mark LeftParen ∷ phrase E ∷ mark RightParen ∷ []

@@ -3,12 +3,12 @@ use Rattle.std.specs.Prelude.{Bool, true, false, List, [], ◌∷◌, Option, No
 use Rattle.fing_lexer.specs.declared.token.Token.{Token}
 use Rattle.omega_kinds.specs.Kind.{Star}
 use Rattle.fing_syntax.specs.Phrase as tree
-use Rattle.fing_syntax.specs.Phrase.{SpanName, Mod, SigEx, TyEx, TyExs, FieldTyExs, Exp, OpExps, FieldExps, ModAt, ModName, ModStruct, ModProject, ModFunctor, ModUnpack, BindAt, BindVal, BindTy, BindModule, BindSignature, BindInclude, NoBinds, MoreBinds, SigAt, PathSig, SigDecls, SigFun, DeclAt, DeclVal, DeclModule, DeclSignature, DeclInclude, NoDecls, MoreDecls, TyAt, PathTy, TyInt, TyBool, TyText, TyFields, TyAll, TyLam, TyPack, NoTys, MoreTys, NoFieldTys, MoreFieldTys, ExpAt, PathExp, ExpInt, ExpBool, ExpText, ExpFix, ExpIf, ExpFields, NoOps, MoreOps, ArgExp, ArgTy, NoArgs, MoreArgs, NoFieldExps, MoreFieldExps, Add, Sub, Mul, Div, Rem, Less, Equal}
+use Rattle.fing_syntax.specs.Phrase.{SpanName, Mod, SigEx, TyEx, TyExs, FieldTyExs, Exp, OpExps, FieldExps, ModAt, ModName, ModStruct, ModProject, ModFunctor, ModUnpack, BindAt, BindVal, BindTy, BindModule, BindSignature, BindInclude, NoBinds, MoreBinds, SigAt, PathSig, SigDecls, SigFun, DeclAt, DeclVal, DeclModule, DeclSignature, DeclInclude, NoDecls, MoreDecls, TyAt, PathTy, TyInt, TyBool, TyText, TyFields, TyAll, TyLam, TyPack, TySum, NoTys, MoreTys, NoFieldTys, MoreFieldTys, ExpAt, PathExp, ExpInt, ExpBool, ExpText, ExpFix, ExpIf, ExpFields, ExpInj, ExpCase, ExpRoll, ExpUnroll, NoOps, MoreOps, ArgExp, ArgTy, NoArgs, MoreArgs, NoFieldExps, MoreFieldExps, NoBranches, MoreBranches, Add, Sub, Mul, Div, Rem, Less, Equal}
 use Rattle.fing_syntax.specs.Units.{UnitTree, UnitAt}
 use Rattle.fing_syntax.specs.Place.{mod_span, sig_span, ty_span, exp_span, up_to}
-use Rattle.parse_grammar.specs.Grammar.{Class, Units, OneUnit, Binds, Bind, Decls, Decl, TypeOf, K, KArrow, KA, P, Dots, T, TArrow, TC, TArgs, TA, TFields, MoreTFields, S, SArrow, Wheres, SA, M, MArgs, Seals, MA, E, Lam, Compare, ES, Sums, EM, Products, EP, Args, EA, Gets, EB, EFields, MoreEFields, Symbol, token, phrase, Rule, rhs, no_units, more_units, unit_module, no_binds, more_binds, bind_val, bind_type, bind_module, bind_signature, bind_include, no_decls, more_decls, decl_val, decl_type, decl_module, decl_signature, decl_include, type_of_nothing, type_is, type_has, kind_chain, no_kind_arrow, kind_arrow, kind_type, kind_paren, path_name, path_from, no_dots, more_dots, ty_lam, ty_all, ty_chain, no_arrow, ty_arrow, ty_args, no_ty_args, more_ty_args, ty_int, ty_bool, ty_text, ty_path, ty_fields, ty_pack, ty_paren, no_ty_fields, ty_field, last_ty_field, next_ty_field, sig_fun, sig_where, generative, applicative, no_wheres, more_wheres, sig_path, sig_decls, sig_paren, mod_fun, mod_gen, mod_unpack, mod_chain, no_mod_args, more_mod_args, no_seals, seal, ascribe, mod_path, mod_struct, mod_let, mod_paren, exp_fun, exp_fix, exp_if, exp_compare, lam_value, lam_type, no_compare, less_than, equal_to, sums, no_sums, add, subtract, products, no_products, multiply, divide, remainder, exp_args, no_args, exp_arg, ty_arg, exp_gets, no_gets, more_gets, exp_number, exp_text, exp_true, exp_false, exp_path, exp_fields, exp_let, exp_pack, exp_paren, no_exp_fields, exp_field, last_exp_field, next_exp_field}
+use Rattle.parse_grammar.specs.Grammar.{Class, Units, OneUnit, Binds, Bind, Decls, Decl, TypeOf, K, KArrow, KA, P, Dots, T, TArrow, TC, TArgs, TA, TFields, MoreTFields, S, SArrow, Wheres, SA, M, MArgs, Seals, MA, E, Lam, EBranches, MoreEBranches, Compare, ES, Sums, EM, Products, EP, Args, EA, Gets, EB, EFields, MoreEFields, Symbol, token, phrase, Rule, rhs, no_units, more_units, unit_module, no_binds, more_binds, bind_val, bind_type, bind_data, bind_module, bind_signature, bind_include, no_decls, more_decls, decl_val, decl_type, decl_data, decl_module, decl_signature, decl_include, type_of_nothing, type_is, type_has, kind_chain, no_kind_arrow, kind_arrow, kind_type, kind_paren, path_name, path_from, no_dots, more_dots, ty_lam, ty_all, ty_chain, no_arrow, ty_arrow, ty_args, no_ty_args, more_ty_args, ty_int, ty_bool, ty_text, ty_path, ty_fields, ty_sum, ty_pack, ty_paren, no_ty_fields, ty_field, last_ty_field, next_ty_field, sig_fun, sig_where, generative, applicative, no_wheres, more_wheres, sig_path, sig_decls, sig_paren, mod_fun, mod_gen, mod_unpack, mod_chain, no_mod_args, more_mod_args, no_seals, seal, ascribe, mod_path, mod_struct, mod_let, mod_paren, exp_fun, exp_fix, exp_if, exp_case, exp_compare, lam_value, lam_type, no_branches, case_branch, last_branch, next_branch, no_compare, less_than, equal_to, sums, no_sums, add, subtract, products, no_products, multiply, divide, remainder, exp_args, no_args, exp_arg, ty_arg, exp_gets, no_gets, more_gets, exp_number, exp_text, exp_true, exp_false, exp_path, exp_fields, exp_inj, exp_roll, exp_unroll, exp_let, exp_pack, exp_paren, no_exp_fields, exp_field, last_exp_field, next_exp_field}
 use Rattle.parse_grammar.specs.Parts.{at, bytes_in, number_in, named, Kinded, TypeTail, Open, Is, Has, Where, Ascription, Sealed, Shown, Abstraction, OfValue, OfType}
-use Rattle.parse_grammar.specs.Forms.{mod_at, sig_at, ty_at, exp_at, let_mod, let_exp, pack_exp, project_all, get_all, apply_all, ascribe_all, refine_all, ty_chain_of, ops_of, args_of, arrow_of, kind_arrow_of, decl_type_of, abstraction_of}
+use Rattle.parse_grammar.specs.Forms.{mod_at, sig_at, ty_at, exp_at, let_mod, let_exp, pack_exp, data_bind, data_decl, project_all, get_all, apply_all, ascribe_all, refine_all, ty_chain_of, ops_of, args_of, arrow_of, kind_arrow_of, decl_type_of, abstraction_of}
 
 -- what a phrase of each class gives
 abbrev pub Value : Class → Type 0
@@ -41,6 +41,8 @@ Value Seals = List Ascription
 Value MA = Mod
 Value E = Exp
 Value Lam = Abstraction
+Value EBranches = tree.Branches
+Value MoreEBranches = tree.Branches
 Value Compare = OpExps
 Value ES = Exp
 Value Sums = OpExps
@@ -68,6 +70,7 @@ act no_binds _ = NoBinds
 act more_binds (b, (bs, _)) = MoreBinds b bs
 act bind_val (w, (x, (_, (e, _)))) = BindAt (up_to (at w) (exp_span e)) (BindVal (named x) e)
 act bind_type (w, (x, (_, (t, _)))) = BindAt (up_to (at w) (ty_span t)) (BindTy (named x) t)
+act bind_data (w, (x, (_, (t, _)))) = data_bind (up_to (at w) (ty_span t)) (named x) t
 act bind_module (w, (x, (_, (m, _)))) = BindAt (up_to (at w) (mod_span m)) (BindModule (named x) m)
 act bind_signature (w, (x, (_, (g, _)))) = BindAt (up_to (at w) (sig_span g)) (BindSignature (named x) g)
 act bind_include (w, (m, _)) = BindAt (up_to (at w) (mod_span m)) (BindInclude m)
@@ -75,6 +78,7 @@ act no_decls _ = NoDecls
 act more_decls (d, (ds, _)) = MoreDecls d ds
 act decl_val (w, (x, (_, (t, _)))) = DeclAt (up_to (at w) (ty_span t)) (DeclVal (named x) t)
 act decl_type (w, (x, (o, _))) = decl_type_of w x o
+act decl_data (w, (x, (_, (t, _)))) = data_decl (up_to (at w) (ty_span t)) (named x) t
 act decl_module (w, (x, (_, (g, _)))) = DeclAt (up_to (at w) (sig_span g)) (DeclModule (named x) g)
 act decl_signature (w, (x, (_, (g, _)))) = DeclAt (up_to (at w) (sig_span g)) (DeclSignature (named x) g)
 act decl_include (w, (g, _)) = DeclAt (up_to (at w) (sig_span g)) (DeclInclude g)
@@ -103,6 +107,7 @@ act ty_bool (w, _) = TyAt (at w) TyBool
 act ty_text (w, _) = TyAt (at w) TyText
 act ty_path (m, _) = TyAt (mod_span m) (PathTy m)
 act ty_fields (w, (fs, (z, _))) = TyAt (up_to (at w) (at z)) (TyFields fs)
+act ty_sum (w, (_, (fs, (z, _)))) = TyAt (up_to (at w) (at z)) (TySum fs)
 act ty_pack (w, (g, _)) = TyAt (up_to (at w) (sig_span g)) (TyPack g)
 act ty_paren (w, (t, (z, _))) = ty_at (up_to (at w) (at z)) t
 act no_ty_fields _ = NoFieldTys
@@ -134,9 +139,14 @@ act mod_paren (w, (m, (z, _))) = mod_at (up_to (at w) (at z)) m
 act exp_fun (w, (l, _)) = abstraction_of w l
 act exp_fix (w, (f, (_, (x, (_, (t, (_, (_, (u, (_, (e, _))))))))))) = ExpAt (up_to (at w) (exp_span e)) (ExpFix (named f) (named x) t u e)
 act exp_if (w, (e, (_, (f, (_, (g, _)))))) = ExpAt (up_to (at w) (exp_span g)) (ExpIf e f g)
+act exp_case (w, (e, (_, (t, (_, (_, (bs, (z, _)))))))) = ExpAt (up_to (at w) (at z)) (ExpCase e t bs)
 act exp_compare (e, (o, _)) = ops_of e o
 act lam_value (_, (x, (_, (t, (_, (_, (e, _))))))) = OfValue (named x) t e
 act lam_type (_, (x, (_, (k, (_, (_, (e, _))))))) = OfType (named x) k.kind e
+act no_branches _ = NoBranches
+act case_branch (l, (_, (x, (_, (_, (e, (bs, _))))))) = MoreBranches (named l) (named x) e bs
+act last_branch _ = NoBranches
+act next_branch (_, (l, (_, (x, (_, (_, (e, (bs, _)))))))) = MoreBranches (named l) (named x) e bs
 act no_compare _ = NoOps
 act less_than (_, (e, _)) = MoreOps Less e NoOps
 act equal_to (_, (e, _)) = MoreOps Equal e NoOps
@@ -162,6 +172,9 @@ act exp_true (t, _) = ExpAt (at t) (ExpBool true)
 act exp_false (t, _) = ExpAt (at t) (ExpBool false)
 act exp_path (m, _) = ExpAt (mod_span m) (PathExp m)
 act exp_fields (w, (fs, (z, _))) = ExpAt (up_to (at w) (at z)) (ExpFields fs)
+act exp_inj (w, (x, (e, (_, (t, _))))) = ExpAt (up_to (at w) (ty_span t)) (ExpInj (named x) e t)
+act exp_roll (w, (e, (_, (t, _)))) = ExpAt (up_to (at w) (ty_span t)) (ExpRoll e t)
+act exp_unroll (w, (e, _)) = ExpAt (up_to (at w) (exp_span e)) (ExpUnroll e)
 act exp_let (w, (bs, (_, (e, (z, _))))) = let_exp (up_to (at w) (at z)) bs e
 act exp_pack (w, (m, (_, (g, _)))) = pack_exp (up_to (at w) (sig_span g)) m g
 act exp_paren (w, (e, (z, _))) = exp_at (up_to (at w) (at z)) e

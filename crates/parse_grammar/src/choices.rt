@@ -35,12 +35,17 @@ pub fn next(rest: &[Token]) -> Option<Terminal>
 // Whether a binding or a declaration begins.
 #[tactic(auto, unfolding(crate::specs::Tables::number_of))]
 fn begins_binding(next: Option<Terminal>) -> bool
-    ensures { result ≡ is_in (number_next next) (1 ∷ 2 ∷ 3 ∷ 4 ∷ 5 ∷ []) }
+    ensures { result ≡ is_in (number_next next) (1 ∷ 2 ∷ 3 ∷ 4 ∷ 5 ∷ 30 ∷ []) }
 {
     match next {
         Some(
             Terminal::Word(
-                Word::KwVal | Word::KwType | Word::KwModule | Word::KwSignature | Word::KwInclude,
+                Word::KwVal
+                | Word::KwType
+                | Word::KwData
+                | Word::KwModule
+                | Word::KwSignature
+                | Word::KwInclude,
             ),
         ) => true,
         _ => false,
@@ -50,11 +55,18 @@ fn begins_binding(next: Option<Terminal>) -> bool
 // Whether a type that needs no parentheses begins.
 #[tactic(auto, unfolding(crate::specs::Tables::number_of))]
 fn begins_ty(next: Option<Terminal>) -> bool
-    ensures { result ≡ is_in (number_next next) (17 ∷ 19 ∷ 23 ∷ 24 ∷ 25 ∷ 33 ∷ 35 ∷ 54 ∷ []) }
+    ensures { result ≡ is_in (number_next next) (17 ∷ 19 ∷ 23 ∷ 24 ∷ 25 ∷ 27 ∷ 33 ∷ 35 ∷ 54 ∷ []) }
 {
     match next {
         Some(
-            Terminal::Word(Word::KwPack | Word::KwFrom | Word::KwInt | Word::KwBool | Word::KwText),
+            Terminal::Word(
+                Word::KwPack
+                | Word::KwFrom
+                | Word::KwInt
+                | Word::KwBool
+                | Word::KwText
+                | Word::KwCase,
+            ),
         ) => true,
         Some(Terminal::Mark(Mark::LeftParen | Mark::LeftBrace)) => true,
         Some(Terminal::Name) => true,
@@ -78,12 +90,19 @@ fn begins_mod(next: Option<Terminal>) -> bool
 // Whether an expression that needs no parentheses begins.
 #[tactic(auto, unfolding(crate::specs::Tables::number_of))]
 fn begins_exp(next: Option<Terminal>) -> bool
-    ensures { result ≡ is_in (number_next next) (9 ∷ 17 ∷ 19 ∷ 21 ∷ 22 ∷ 33 ∷ 35 ∷ 54 ∷ 55 ∷ 56 ∷ []) }
+    ensures { result ≡ is_in (number_next next) (9 ∷ 17 ∷ 19 ∷ 21 ∷ 22 ∷ 29 ∷ 31 ∷ 32 ∷ 33 ∷ 35 ∷ 54 ∷ 55 ∷ 56 ∷ []) }
 {
     match next {
         Some(
             Terminal::Word(
-                Word::KwLet | Word::KwPack | Word::KwFrom | Word::KwTrue | Word::KwFalse,
+                Word::KwLet
+                | Word::KwPack
+                | Word::KwFrom
+                | Word::KwTrue
+                | Word::KwFalse
+                | Word::KwInj
+                | Word::KwRoll
+                | Word::KwUnroll,
             ),
         ) => true,
         Some(Terminal::Mark(Mark::LeftParen | Mark::LeftBrace)) => true,
@@ -123,6 +142,7 @@ fn bind(next: Option<Terminal>) -> Option<Rule>
         Some(Terminal::Word(Word::KwModule)) => Some(Rule::Bind(BindRule::Module)),
         Some(Terminal::Word(Word::KwSignature)) => Some(Rule::Bind(BindRule::Signature)),
         Some(Terminal::Word(Word::KwInclude)) => Some(Rule::Bind(BindRule::Include)),
+        Some(Terminal::Word(Word::KwData)) => Some(Rule::Bind(BindRule::Data)),
         _ => None,
     }
 }
@@ -148,6 +168,7 @@ fn decl(next: Option<Terminal>) -> Option<Rule>
         Some(Terminal::Word(Word::KwModule)) => Some(Rule::Decl(DeclRule::Module)),
         Some(Terminal::Word(Word::KwSignature)) => Some(Rule::Decl(DeclRule::Signature)),
         Some(Terminal::Word(Word::KwInclude)) => Some(Rule::Decl(DeclRule::Include)),
+        Some(Terminal::Word(Word::KwData)) => Some(Rule::Decl(DeclRule::Data)),
         _ => None,
     }
 }
@@ -246,6 +267,7 @@ fn ty_atom(next: Option<Terminal>) -> Option<Rule>
         Some(Terminal::Word(Word::KwBool)) => Some(Rule::Ty(TyRule::Bool)),
         Some(Terminal::Word(Word::KwText)) => Some(Rule::Ty(TyRule::Text)),
         Some(Terminal::Mark(Mark::LeftBrace)) => Some(Rule::Ty(TyRule::Fields)),
+        Some(Terminal::Word(Word::KwCase)) => Some(Rule::Ty(TyRule::Sum)),
         Some(Terminal::Word(Word::KwPack)) => Some(Rule::Ty(TyRule::Pack)),
         Some(Terminal::Mark(Mark::LeftParen)) => Some(Rule::Ty(TyRule::Paren)),
         _ => Some(Rule::Ty(TyRule::Path)),
@@ -368,6 +390,7 @@ fn exp(next: Option<Terminal>) -> Option<Rule>
         Some(Terminal::Word(Word::KwFun)) => Some(Rule::Exp(ExpRule::Fun)),
         Some(Terminal::Word(Word::KwFix)) => Some(Rule::Exp(ExpRule::Fix)),
         Some(Terminal::Word(Word::KwIf)) => Some(Rule::Exp(ExpRule::If)),
+        Some(Terminal::Word(Word::KwCase)) => Some(Rule::Exp(ExpRule::Case)),
         _ => Some(Rule::Exp(ExpRule::Compare)),
     }
 }
@@ -380,6 +403,26 @@ fn lam(next: Option<Terminal>) -> Option<Rule>
         Some(Terminal::Mark(Mark::LeftParen)) => Some(Rule::Exp(ExpRule::LamValue)),
         Some(Terminal::Mark(Mark::LeftBracket)) => Some(Rule::Exp(ExpRule::LamType)),
         _ => None,
+    }
+}
+
+#[tactic(auto, unfolding(crate::specs::Tables::number_of, crate::specs::Tables::choose))]
+fn branches(next: Option<Terminal>) -> Option<Rule>
+    ensures { option_map rule_in result ≡ option_map any (choice the.EBranches (number_next next)) }
+{
+    match next {
+        Some(Terminal::Name) => Some(Rule::Exp(ExpRule::Branch)),
+        _ => Some(Rule::Exp(ExpRule::NoBranches)),
+    }
+}
+
+#[tactic(auto, unfolding(crate::specs::Tables::number_of, crate::specs::Tables::choose))]
+fn more_branches(next: Option<Terminal>) -> Option<Rule>
+    ensures { option_map rule_in result ≡ option_map any (choice the.MoreEBranches (number_next next)) }
+{
+    match next {
+        Some(Terminal::Mark(Mark::Comma)) => Some(Rule::Exp(ExpRule::NextBranch)),
+        _ => Some(Rule::Exp(ExpRule::LastBranch)),
     }
 }
 
@@ -448,6 +491,9 @@ fn exp_atom(next: Option<Terminal>) -> Option<Rule>
         Some(Terminal::Word(Word::KwTrue)) => Some(Rule::Atom(AtomRule::True)),
         Some(Terminal::Word(Word::KwFalse)) => Some(Rule::Atom(AtomRule::False)),
         Some(Terminal::Mark(Mark::LeftBrace)) => Some(Rule::Atom(AtomRule::Fields)),
+        Some(Terminal::Word(Word::KwInj)) => Some(Rule::Atom(AtomRule::Inj)),
+        Some(Terminal::Word(Word::KwRoll)) => Some(Rule::Atom(AtomRule::Roll)),
+        Some(Terminal::Word(Word::KwUnroll)) => Some(Rule::Atom(AtomRule::Unroll)),
         Some(Terminal::Word(Word::KwLet)) => Some(Rule::Atom(AtomRule::Let)),
         Some(Terminal::Word(Word::KwPack)) => Some(Rule::Atom(AtomRule::Pack)),
         Some(Terminal::Mark(Mark::LeftParen)) => Some(Rule::Atom(AtomRule::Paren)),
@@ -512,6 +558,8 @@ pub fn choose(class: Class, next: Option<Terminal>) -> Option<Rule>
         Class::ModAtom => mod_atom(next),
         Class::Exp => exp(next),
         Class::Lam => lam(next),
+        Class::Branches => branches(next),
+        Class::MoreBranches => more_branches(next),
         Class::Compare => compare(next),
         Class::Sum => Some(Rule::Op(OpRule::Sums)),
         Class::Sums => sums(next),

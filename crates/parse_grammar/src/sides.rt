@@ -109,6 +109,18 @@ const KW_TRUE: Symbol = Symbol::Token(Terminal::Word(Word::KwTrue));
 
 const KW_FALSE: Symbol = Symbol::Token(Terminal::Word(Word::KwFalse));
 
+const KW_CASE: Symbol = Symbol::Token(Terminal::Word(Word::KwCase));
+
+const KW_OF: Symbol = Symbol::Token(Terminal::Word(Word::KwOf));
+
+const KW_INJ: Symbol = Symbol::Token(Terminal::Word(Word::KwInj));
+
+const KW_DATA: Symbol = Symbol::Token(Terminal::Word(Word::KwData));
+
+const KW_ROLL: Symbol = Symbol::Token(Terminal::Word(Word::KwRoll));
+
+const KW_UNROLL: Symbol = Symbol::Token(Terminal::Word(Word::KwUnroll));
+
 fn unit_side(rule: UnitRule) -> &'static [Symbol]
     ensures { map symbol_in result.now ≡ side_of (unit_rule_in rule) }
 {
@@ -136,6 +148,7 @@ fn bind_side(rule: BindRule) -> &'static [Symbol]
         BindRule::MoreBinds => &[Phrase(Class::Bind), Phrase(Class::Binds)],
         BindRule::Val => &[KW_VAL, NAME, EQUAL, Phrase(Class::Exp)],
         BindRule::Type => &[KW_TYPE, NAME, EQUAL, Phrase(Class::Ty)],
+        BindRule::Data => &[KW_DATA, NAME, EQUAL, Phrase(Class::Ty)],
         BindRule::Module => &[KW_MODULE, NAME, EQUAL, Phrase(Class::Mod)],
         BindRule::Signature => &[KW_SIGNATURE, NAME, EQUAL, Phrase(Class::Sig)],
         BindRule::Include => &[KW_INCLUDE, Phrase(Class::Mod)],
@@ -150,6 +163,7 @@ fn decl_side(rule: DeclRule) -> &'static [Symbol]
         DeclRule::MoreDecls => &[Phrase(Class::Decl), Phrase(Class::Decls)],
         DeclRule::Val => &[KW_VAL, NAME, COLON, Phrase(Class::Ty)],
         DeclRule::Type => &[KW_TYPE, NAME, Phrase(Class::TypeOf)],
+        DeclRule::Data => &[KW_DATA, NAME, EQUAL, Phrase(Class::Ty)],
         DeclRule::Module => &[KW_MODULE, NAME, COLON, Phrase(Class::Sig)],
         DeclRule::Signature => &[KW_SIGNATURE, NAME, EQUAL, Phrase(Class::Sig)],
         DeclRule::Include => &[KW_INCLUDE, Phrase(Class::Sig)],
@@ -224,6 +238,7 @@ fn ty_side(rule: TyRule) -> &'static [Symbol]
         TyRule::Text => &[KW_TEXT],
         TyRule::Path => &[Phrase(Class::Path)],
         TyRule::Fields => &[LEFT_BRACE, Phrase(Class::TyFields), RIGHT_BRACE],
+        TyRule::Sum => &[KW_CASE, LEFT_BRACE, Phrase(Class::TyFields), RIGHT_BRACE],
         TyRule::Pack => &[KW_PACK, Phrase(Class::SigAtom)],
         TyRule::Paren => &[LEFT_PAREN, Phrase(Class::Ty), RIGHT_PAREN],
         TyRule::NoFields => &[],
@@ -351,6 +366,16 @@ fn exp_side(rule: ExpRule) -> &'static [Symbol]
             KW_ELSE,
             Phrase(Class::Exp),
         ],
+        ExpRule::Case => &[
+            KW_CASE,
+            Phrase(Class::Exp),
+            COLON,
+            Phrase(Class::Ty),
+            KW_OF,
+            LEFT_BRACE,
+            Phrase(Class::Branches),
+            RIGHT_BRACE,
+        ],
         ExpRule::Compare => &[Phrase(Class::Sum), Phrase(Class::Compare)],
         ExpRule::LamValue => &[
             LEFT_PAREN,
@@ -369,6 +394,27 @@ fn exp_side(rule: ExpRule) -> &'static [Symbol]
             RIGHT_BRACKET,
             DOUBLE_ARROW,
             Phrase(Class::Exp),
+        ],
+        ExpRule::NoBranches => &[],
+        ExpRule::Branch => &[
+            NAME,
+            LEFT_PAREN,
+            NAME,
+            RIGHT_PAREN,
+            DOUBLE_ARROW,
+            Phrase(Class::Exp),
+            Phrase(Class::MoreBranches),
+        ],
+        ExpRule::LastBranch => &[],
+        ExpRule::NextBranch => &[
+            COMMA,
+            NAME,
+            LEFT_PAREN,
+            NAME,
+            RIGHT_PAREN,
+            DOUBLE_ARROW,
+            Phrase(Class::Exp),
+            Phrase(Class::MoreBranches),
         ],
     }
 }
@@ -421,6 +467,20 @@ fn atom_side(rule: AtomRule) -> &'static [Symbol]
         AtomRule::False => &[KW_FALSE],
         AtomRule::Path => &[Phrase(Class::Path)],
         AtomRule::Fields => &[LEFT_BRACE, Phrase(Class::ExpFields), RIGHT_BRACE],
+        AtomRule::Inj => &[
+            KW_INJ,
+            NAME,
+            Phrase(Class::ExpAtom),
+            COLON,
+            Phrase(Class::TyAtom),
+        ],
+        AtomRule::Roll => &[
+            KW_ROLL,
+            Phrase(Class::ExpAtom),
+            COLON,
+            Phrase(Class::TyAtom),
+        ],
+        AtomRule::Unroll => &[KW_UNROLL, Phrase(Class::ExpAtom)],
         AtomRule::Let => &[
             KW_LET,
             Phrase(Class::Binds),

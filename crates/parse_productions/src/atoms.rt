@@ -10,6 +10,7 @@ use fing_syntax::{Exp, ExpWhat};
 use parse_forms::{Kept, bytes_in, let_exp, named, number_in, pack_exp, up_to};
 use parse_grammar::grammar::AtomRule;
 use parse_stack::{BuildRefusal, Part, Stack};
+use parse_sums::{injection, roll, unroll};
 use std::alloc::Global;
 
 fn number(stack: &mut Stack<'_>) -> Result<(), BuildRefusal>
@@ -174,6 +175,9 @@ pub(crate) fn atom(stack: &mut Stack<'_>, alloc: Global, rule: AtomRule) -> Resu
         AtomRule::False => false_exp(stack),
         AtomRule::Path => path(stack),
         AtomRule::Fields => fields(stack),
+        AtomRule::Inj => injection(stack, alloc),
+        AtomRule::Roll => roll(stack, alloc),
+        AtomRule::Unroll => unroll(stack, alloc),
         AtomRule::Let => let_in(stack, alloc),
         AtomRule::Pack => pack(stack, alloc),
         AtomRule::Paren => paren(stack),

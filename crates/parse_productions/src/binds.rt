@@ -10,6 +10,7 @@ use fing_syntax::{Bind, BindWhat};
 use parse_forms::{Kept, named, up_to};
 use parse_grammar::grammar::BindRule;
 use parse_stack::{BuildRefusal, Part, Stack};
+use parse_sums::data_binding;
 use std::alloc::Global;
 
 fn none(stack: &mut Stack<'_>, alloc: Global) -> Result<(), BuildRefusal>
@@ -117,6 +118,7 @@ pub(crate) fn bind(stack: &mut Stack<'_>, alloc: Global, rule: BindRule) -> Resu
         BindRule::MoreBinds => more(stack),
         BindRule::Val => val(stack, alloc),
         BindRule::Type => ty(stack, alloc),
+        BindRule::Data => data_binding(stack, alloc),
         BindRule::Module => module(stack, alloc),
         BindRule::Signature => signature(stack, alloc),
         BindRule::Include => include(stack),

@@ -10,6 +10,7 @@ use fing_syntax::{Decl, DeclWhat};
 use parse_forms::{Kept, TypeTail, declared_type, named, up_to};
 use parse_grammar::grammar::DeclRule;
 use parse_stack::{BuildRefusal, Part, Stack};
+use parse_sums::data_declaration;
 use std::alloc::Global;
 
 fn none(stack: &mut Stack<'_>, alloc: Global) -> Result<(), BuildRefusal>
@@ -137,6 +138,7 @@ pub(crate) fn decl(stack: &mut Stack<'_>, alloc: Global, rule: DeclRule) -> Resu
         DeclRule::MoreDecls => more(stack),
         DeclRule::Val => val(stack, alloc),
         DeclRule::Type => ty(stack, alloc),
+        DeclRule::Data => data_declaration(stack, alloc),
         DeclRule::Module => module(stack, alloc),
         DeclRule::Signature => signature(stack, alloc),
         DeclRule::Include => include(stack),

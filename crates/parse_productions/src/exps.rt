@@ -11,6 +11,7 @@ use fing_syntax::{Exp, ExpWhat};
 use parse_forms::{Abstraction, Kept, abstracted, named, up_to};
 use parse_grammar::grammar::ExpRule;
 use parse_stack::{BuildRefusal, Part, Stack};
+use parse_sums::{branch, case_of, if_else, next_branch, no_branches};
 use std::alloc::Global;
 
 fn fun(stack: &mut Stack<'_>, alloc: Global) -> Result<(), BuildRefusal>
@@ -51,24 +52,6 @@ fn fix(stack: &mut Stack<'_>, alloc: Global) -> Result<(), BuildRefusal>
             result: result.take(),
             body,
         },
-    }))
-}
-
-fn if_else(stack: &mut Stack<'_>, alloc: Global) -> Result<(), BuildRefusal>
-    ensures made { IfOk result (λ _. played the.exp_if (held stack.old) ≡ Some (held stack.new)) }
-    ensures misfit { IfErr result (λ e. e ≡ Misfit → played the.exp_if (held stack.old) ≡ None) }
-{
-    let word = stack.token()?;
-    let test = Box::new(alloc, stack.exp()?)?;
-    stack.token()?;
-    let yes = Box::new(alloc, stack.exp()?)?;
-    stack.token()?;
-    let no = stack.exp()?;
-    let span = up_to(word.span, no.span);
-    let no = Box::new(alloc, no)?;
-    stack.push(Part::Exp(Exp {
-        span,
-        what: ExpWhat::If(test, yes, no),
     }))
 }
 
@@ -113,8 +96,13 @@ pub(crate) fn exp(stack: &mut Stack<'_>, alloc: Global, rule: ExpRule) -> Result
         ExpRule::Fun => fun(stack, alloc),
         ExpRule::Fix => fix(stack, alloc),
         ExpRule::If => if_else(stack, alloc),
+        ExpRule::Case => case_of(stack, alloc),
         ExpRule::Compare => chain(stack, alloc),
         ExpRule::LamValue => lam_value(stack, alloc),
         ExpRule::LamType => lam_type(stack, alloc),
+        ExpRule::NoBranches => no_branches(stack, alloc),
+        ExpRule::Branch => branch(stack, alloc),
+        ExpRule::LastBranch => no_branches(stack, alloc),
+        ExpRule::NextBranch => next_branch(stack, alloc),
     }
 }

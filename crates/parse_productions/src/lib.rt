@@ -1,5 +1,5 @@
 // The productions of the grammar, played on the parser's stack.
-// Stands on parse_stack (the stack) and parse_forms (derived forms and chains).
+// Stands on parse_units and parse_sums (productions), parse_stack (the stack) and parse_forms (derived forms and chains).
 // Proved (`play`): a production takes its parts off the stack and puts the tree of the definitions there, or misfits
 // exactly where the stack does not hold its parts.
 #![tactic(auto)]
@@ -16,6 +16,5 @@ mod paths;
 mod playing;
 mod sigs;
 mod types;
-mod units;
 
 pub use playing::play;

@@ -7,62 +7,11 @@ ghost use Rattle.parse_stack.specs.Play.{played, played_any};
 ghost use Rattle.parse_stack.specs.declared.refusal.BuildRefusal.TheVariants.{Misfit};
 
 use fing_syntax::{Mod, ModWhat};
-use parse_forms::{Ascription, Kept, apply_all, ascribe_all, let_mod, named, up_to};
+use parse_forms::{Ascription, Kept, apply_all, ascribe_all, let_mod, up_to};
 use parse_grammar::grammar::ModRule;
 use parse_stack::{BuildRefusal, Part, Stack};
+use parse_units::{applicative_functor, generative_functor};
 use std::alloc::Global;
-
-fn fun(stack: &mut Stack<'_>, alloc: Global) -> Result<(), BuildRefusal>
-    ensures made { IfOk result (λ _. played the.mod_fun (held stack.old) ≡ Some (held stack.new)) }
-    ensures misfit { IfErr result (λ e. e ≡ Misfit → played the.mod_fun (held stack.old) ≡ None) }
-{
-    let word = stack.token()?;
-    stack.token()?;
-    let name = stack.token()?;
-    stack.token()?;
-    let param = Box::new(alloc, stack.sig()?)?;
-    stack.token()?;
-    stack.token()?;
-    let body = stack.module()?;
-    let span = up_to(word.span, body.span);
-    let body = Box::new(alloc, body)?;
-    let name = named(alloc, name)?;
-    stack.push(Part::Mod(Mod {
-        span,
-        what: ModWhat::Functor {
-            generative: false,
-            name,
-            param,
-            body,
-        },
-    }))
-}
-
-fn generative(stack: &mut Stack<'_>, alloc: Global) -> Result<(), BuildRefusal>
-    ensures made { IfOk result (λ _. played the.mod_gen (held stack.old) ≡ Some (held stack.new)) }
-    ensures misfit { IfErr result (λ e. e ≡ Misfit → played the.mod_gen (held stack.old) ≡ None) }
-{
-    let word = stack.token()?;
-    stack.token()?;
-    let name = stack.token()?;
-    stack.token()?;
-    let param = Box::new(alloc, stack.sig()?)?;
-    stack.token()?;
-    stack.token()?;
-    let body = stack.module()?;
-    let span = up_to(word.span, body.span);
-    let body = Box::new(alloc, body)?;
-    let name = named(alloc, name)?;
-    stack.push(Part::Mod(Mod {
-        span,
-        what: ModWhat::Functor {
-            generative: true,
-            name,
-            param,
-            body,
-        },
-    }))
-}
 
 fn unpack(stack: &mut Stack<'_>, alloc: Global) -> Result<(), BuildRefusal>
     ensures made { IfOk result (λ _. played the.mod_unpack (held stack.old) ≡ Some (held stack.new)) }
@@ -203,8 +152,8 @@ pub(crate) fn module(
     ensures misfit { IfErr result (λ e. e ≡ Misfit → played_any (mod_rule_in rule) (held stack.old) ≡ None) }
 {
     match rule {
-        ModRule::Fun => fun(stack, alloc),
-        ModRule::Gen => generative(stack, alloc),
+        ModRule::Fun => applicative_functor(stack, alloc),
+        ModRule::Gen => generative_functor(stack, alloc),
         ModRule::Unpack => unpack(stack, alloc),
         ModRule::Chain => chain(stack, alloc),
         ModRule::NoArgs => no_args(stack, alloc),

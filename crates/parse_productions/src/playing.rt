@@ -16,9 +16,9 @@ use crate::operators::operator;
 use crate::paths::path;
 use crate::sigs::sig;
 use crate::types::ty;
-use crate::units::unit;
 use parse_grammar::grammar::Rule;
 use parse_stack::{BuildRefusal, Stack};
+use parse_units::unit;
 use std::alloc::Global;
 
 /// Plays a production: its parts are taken off the stack, the first one on top, and what it gives is put there.

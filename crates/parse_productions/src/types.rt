@@ -10,6 +10,7 @@ use fing_syntax::{TyEx, TyWhat};
 use parse_forms::{Kept, arrow_chain, named, ty_chain, up_to};
 use parse_grammar::grammar::TyRule;
 use parse_stack::{BuildRefusal, Part, Stack};
+use parse_sums::sum_type;
 use std::alloc::Global;
 
 fn lam(stack: &mut Stack<'_>, alloc: Global) -> Result<(), BuildRefusal>
@@ -249,6 +250,7 @@ pub(crate) fn ty(stack: &mut Stack<'_>, alloc: Global, rule: TyRule) -> Result<(
         TyRule::Text => text(stack),
         TyRule::Path => path(stack),
         TyRule::Fields => fields(stack),
+        TyRule::Sum => sum_type(stack),
         TyRule::Pack => pack(stack, alloc),
         TyRule::Paren => paren(stack),
         TyRule::NoFields => no_fields(stack, alloc),

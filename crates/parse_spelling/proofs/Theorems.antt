@@ -14,34 +14,37 @@ use Rattle.omega_simplify_laws.proofs.Kept.{kept}
 use Rattle.elab_laws.proofs.TypedClaims.{whole_is_typed}
 use Rattle.elab_spelling.proofs.Scopes.{closed-type, closed-term}
 use Rattle.elab_spelling.proofs.Theorems.{types_are_spelled, terms_are_spelled, encodings_are_legible, programs_mean_legible}
-use Rattle.parse_spelling.specs.Claims.{TokensAreSpelled, PhrasesAreSpelled, ProgramsAreSpelled, UnitsAreSpelled, Compiles, Emits}
+use Rattle.parse_spelling.specs.Claims.{TokensAreSpelled, KeywordsAreSpelled, PhrasesAreSpelled, ProgramsAreSpelled, UnitsAreSpelled, Compiles, Emits}
 use Rattle.parse_spelling.specs.Claims.{EmittedAreTyped, EmittedInScope, EmittedHaveText, EmittedReadBack, SourcesHaveText}
 use Rattle.parse_spelling.proofs.Simplified.{emits-legible}
-use Rattle.parse_spelling.proofs.Tokens.{tokens-spelled}
+use Rattle.parse_spelling.proofs.Tokens.{tokens-spelled, keywords-spelled}
 use Rattle.parse_spelling.proofs.Trees.{phrase-spelled}
 
 pub tokens_are_spelled : TokensAreSpelled
 tokens_are_spelled bytes tokens l = tokens-spelled l
 
+pub keywords_are_spelled : KeywordsAreSpelled
+keywords_are_spelled tokens = keywords-spelled tokens
+
 pub phrases_are_spelled : PhrasesAreSpelled
-phrases_are_spelled n tokens v h p = phrase-spelled h p
+phrases_are_spelled v n tokens x h k p = phrase-spelled v h k p
 
 pub programs_are_spelled : ProgramsAreSpelled
-programs_are_spelled bytes tokens program l p = phrase-spelled (tokens-spelled l) p
+programs_are_spelled v bytes tokens program l k p = phrase-spelled v (tokens-spelled l) k p
 
 pub units_are_spelled : UnitsAreSpelled
-units_are_spelled bytes tokens units l p = phrase-spelled (tokens-spelled l) p
+units_are_spelled v bytes tokens units l k p = phrase-spelled v (tokens-spelled l) k p
 
 emits-typed : {whole e : Term} {t : Ty} → Emits whole e → HasType [] [] whole t → HasType [] [] e t
 emits-typed Emits.as_it_is h = h
 emits-typed Emits.simpler h = kept (good-none []) h
 
 pub emitted_are_typed : EmittedAreTyped
-emitted_are_typed x whole e c m = emits-typed m (whole_is_typed c.program c.effect x c.types c.term whole c.derived)
+emitted_are_typed v x whole e c m = emits-typed m (whole_is_typed c.program c.effect x c.types c.term whole c.derived)
 
 pub emitted_in_scope : EmittedInScope
-emitted_in_scope x whole e c m low shallow =
-    let typed = emitted_are_typed x whole e c m in
+emitted_in_scope v x whole e c m low shallow =
+    let typed = emitted_are_typed v x whole e c m in
     (closed-type (type-kind (good-none []) typed) low, closed-term typed shallow)
 
 pub emitted_have_text : EmittedHaveText
@@ -59,7 +62,7 @@ emitted_read_back v x whole e c m t n shallow =
 
 pub sources_have_text : SourcesHaveText
 sources_have_text bytes tokens program f x ts d whole e l p q m low shallow =
-    let s = programs_are_spelled bytes tokens program l p in
-    let c : Compiles x whole = record { program = program; spelled = s; effect = f; types = ts; term = d; derived = q } in
-    let scope = emitted_in_scope x whole e c m low shallow in
+    let s = programs_are_spelled Second bytes tokens program l (keywords-spelled tokens) p in
+    let c : Compiles Second x whole = record { program = program; spelled = s; effect = f; types = ts; term = d; derived = q } in
+    let scope = emitted_in_scope Second x whole e c m low shallow in
     (Second, emitted_have_text Second x whole e c m scope.0 scope.1)

@@ -20,11 +20,12 @@ use Rattle.fing_lexer.specs.Lexeme.{meaning, lexeme}
 use Rattle.fing_lexer.specs.Nest.{Nest, counted, total}
 use Rattle.fing_lexer.specs.Tokens.{is_in_range, Front, End, Skip, Found, NoText, NoByte, Stands, Outcome, Good, Bad, Step, Done, Go, step, prepend, Lexes}
 use Rattle.fing_lexer.specs.Tokens.{done, go, TokensOf}
+use Rattle.omega_terms.specs.declared.version.Version.TheVariants.{Second}
 use Rattle.omega_spelling.specs.Reading.{passes, begins_name, in_name, is_one_of, is_keyword, all_in_name, is_name}
 use Rattle.omega_spelling.specs.Spelled.{is_hidden}
 use Rattle.omega_spelling.specs.TermReading.{SignedFits, is_printed, all_spelled}
 use Rattle.elab_spelling.specs.Signatures.{NameSpelled}
-use Rattle.parse_spelling.specs.Tokens.{WhatSpelled, TokensSpelled}
+use Rattle.parse_spelling.specs.Tokens.{WhatSpelled, TokensSpelled, WordSpelled, KeywordSpelled, KeywordsSpelled}
 
 -- what holds of each branch holds of a choice
 if-holds : {A : Type 0} (P : A → Type 0) (c : Bool) {x y : A} → (c ≡ true → P x) → (c ≡ false → P y) → P (if c then x else y)
@@ -207,3 +208,24 @@ lexes-spelled {at} {nest} {bytes} (go f n add deeper rest s e l q) =
 
 pub tokens-spelled : {bytes : List ℕ} {ts : List Token} → TokensOf bytes ts → TokensSpelled ts
 tokens-spelled l = lexes-spelled l
+
+-- the phrases of each keyword have a spelling in the second version
+
+word-spelled : (w : Word) → WordSpelled Second w
+word-spelled Word.KwCase = refl
+word-spelled Word.KwInj = refl
+word-spelled Word.KwData = refl
+word-spelled Word.KwRoll = refl
+word-spelled Word.KwUnroll = refl
+word-spelled w = tt
+
+keyword-spelled : (w : What) → KeywordSpelled Second w
+keyword-spelled (what.Word w) = word-spelled w
+keyword-spelled (what.Mark m) = tt
+keyword-spelled (what.Ident bytes) = tt
+keyword-spelled (what.Int z) = tt
+keyword-spelled (what.Text bytes) = tt
+
+pub keywords-spelled : (ts : List Token) → KeywordsSpelled Second ts
+keywords-spelled [] = tt
+keywords-spelled (t ∷ ts) = (keyword-spelled t.what, keywords-spelled ts)

@@ -4,6 +4,7 @@ use Rattle.omega_kinds.specs.declared.effect.Effect.{Effect}
 use Rattle.omega_types.specs.Ty.{Ty}
 use Rattle.omega_types.specs.Height.{height}
 use Rattle.omega_terms.specs.declared.version.Version.{Version}
+use Rattle.omega_terms.specs.declared.version.Version.TheVariants.{Second}
 use Rattle.omega_terms.specs.Term.{Term}
 use Rattle.omega_terms.specs.Height.{term_height}
 use Rattle.omega_terms.specs.Typing.{HasType}
@@ -23,28 +24,35 @@ use Rattle.parse_grammar.specs.Meaning.{Value}
 use Rattle.parse_grammar.specs.Tree.{Phrase}
 use Rattle.elab_judgments.specs.Judgments.Program.{ProgramMeans}
 use Rattle.elab_spelling.specs.Phrases.{BindsSpelled}
-use Rattle.parse_spelling.specs.Tokens.{TokensSpelled}
+use Rattle.parse_spelling.specs.Tokens.{TokensSpelled, KeywordsSpelled}
 use Rattle.parse_spelling.specs.Values.{ValueSpelled, UnitsSpelled}
 
 -- the names, numbers and texts of the tokens of bytes have a spelling
 abbrev pub TokensAreSpelled : Type 0
 TokensAreSpelled = (bytes : List ℕ) (tokens : List Token) → TokensOf bytes tokens → TokensSpelled tokens
 
--- what a phrase of such tokens gives has names, numbers and texts that have one
+-- in the second version so have the phrases of all keywords
+abbrev pub KeywordsAreSpelled : Type 0
+KeywordsAreSpelled = (tokens : List Token) → KeywordsSpelled Second tokens
+
+-- what a phrase of such tokens gives has names, numbers and texts that have one, in a version that has the phrases of its keywords
 abbrev pub PhrasesAreSpelled : Type 0
-PhrasesAreSpelled = (n : Class) (tokens : List Token) (v : Value n) → TokensSpelled tokens → Phrase n tokens v → ValueSpelled n v
+PhrasesAreSpelled = (v : Version) (n : Class) (tokens : List Token) (x : Value n) → TokensSpelled tokens → KeywordsSpelled v tokens → Phrase n tokens x
+    → ValueSpelled v n x
 
 -- so has a program, and so have units
 abbrev pub ProgramsAreSpelled : Type 0
-ProgramsAreSpelled = (bytes : List ℕ) (tokens : List Token) (program : Program) → TokensOf bytes tokens → Phrase Binds tokens program → BindsSpelled program
+ProgramsAreSpelled = (v : Version) (bytes : List ℕ) (tokens : List Token) (program : Program) → TokensOf bytes tokens → KeywordsSpelled v tokens
+    → Phrase Binds tokens program → BindsSpelled v program
 
 abbrev pub UnitsAreSpelled : Type 0
-UnitsAreSpelled = (bytes : List ℕ) (tokens : List Token) (units : List UnitTree) → TokensOf bytes tokens → Phrase Units tokens units → UnitsSpelled units
+UnitsAreSpelled = (v : Version) (bytes : List ℕ) (tokens : List Token) (units : List UnitTree) → TokensOf bytes tokens → KeywordsSpelled v tokens
+    → Phrase Units tokens units → UnitsSpelled v units
 
--- a program whose names, numbers and texts have a spelling means a module of this signature, with this whole term
-pub record Compiles (x : Abs) (whole : Term) : Type 0 where
+-- a program whose names, numbers and texts have a spelling in a version means a module of this signature, with this whole term
+pub record Compiles (v : Version) (x : Abs) (whole : Term) : Type 0 where
   pub program : Program
-  pub spelled : BindsSpelled program
+  pub spelled : BindsSpelled v program
   pub effect : Effect
   pub types : List Ty
   pub term : Term
@@ -57,21 +65,21 @@ pub data Emits (whole : Term) : Term → Type 0 where
 
 -- what is emitted has the encoding of the signature as its type
 abbrev pub EmittedAreTyped : Type 0
-EmittedAreTyped = (x : Abs) (whole e : Term) → Compiles x whole → Emits whole e → HasType [] [] e (enc_abs x)
+EmittedAreTyped = (v : Version) (x : Abs) (whole e : Term) → Compiles v x whole → Emits whole e → HasType [] [] e (enc_abs x)
 
 -- both have their variables in scope where they are not too high
 abbrev pub EmittedInScope : Type 0
-EmittedInScope = (x : Abs) (whole e : Term) → Compiles x whole → Emits whole e → height (enc_abs x) ≤ 2 ^ 64 → term_height e ≤ 2 ^ 63
-    → TyInScope 0 (enc_abs x) × TermInScope 0 0 e
+EmittedInScope = (v : Version) (x : Abs) (whole e : Term) → Compiles v x whole → Emits whole e → height (enc_abs x) ≤ 2 ^ 64
+    → term_height e ≤ 2 ^ 63 → TyInScope 0 (enc_abs x) × TermInScope 0 0 e
 
--- in scope they have a text in each version
+-- in scope they have a text in each version in which the program is spelled
 abbrev pub EmittedHaveText : Type 0
-EmittedHaveText = (v : Version) (x : Abs) (whole e : Term) → Compiles x whole → Emits whole e → TyInScope 0 (enc_abs x) → TermInScope 0 0 e
+EmittedHaveText = (v : Version) (x : Abs) (whole e : Term) → Compiles v x whole → Emits whole e → TyInScope 0 (enc_abs x) → TermInScope 0 0 e
     → TextIn v (version_text v (enc_abs x) e) (enc_abs x) e
 
 -- which gives them again where no more than 4,000 parentheses are open
 abbrev pub EmittedReadBack : Type 0
-EmittedReadBack = (v : Version) (x : Abs) (whole e : Term) → Compiles x whole → Emits whole e → TyInScope 0 (enc_abs x) → TermInScope 0 0 e
+EmittedReadBack = (v : Version) (x : Abs) (whole e : Term) → Compiles v x whole → Emits whole e → TyInScope 0 (enc_abs x) → TermInScope 0 0 e
     → is_too_deep (version_text v (enc_abs x) e) ≡ false → omega_at (version_text v (enc_abs x) e) ≡ Some (enc_abs x, e)
 
 -- from the bytes of a source to the text that is written: what is emitted for the program that the bytes spell has a text

@@ -2,10 +2,10 @@
 use Rattle.std.specs.Prelude.{Bool, List, Option, None, Some}
 use Rattle.fing_lexer.specs.declared.token.Token.{Token}
 use Rattle.fing_syntax.specs.Phrase as tree
-use Rattle.fing_syntax.specs.Phrase.{SpanName, Mod, SigEx, TyEx, TyExs, FieldTyExs, Exp, OpExps, FieldExps}
+use Rattle.fing_syntax.specs.Phrase.{SpanName, Mod, SigEx, TyEx, TyExs, FieldTyExs, Exp, OpExps, FieldExps, Branches}
 use Rattle.fing_syntax.specs.Units.{UnitTree}
 use Rattle.parse_grammar.specs.Parts.{Kinded, TypeTail, Where, Ascription, Abstraction}
-use Rattle.parse_grammar.specs.Grammar.{Class, Units, OneUnit, Binds, Bind, Decls, Decl, TypeOf, K, KArrow, KA, P, Dots, T, TArrow, TC, TArgs, TA, TFields, MoreTFields, S, SArrow, Wheres, SA, M, MArgs, Seals, MA, E, Lam, Compare, ES, Sums, EM, Products, EP, Args, EA, Gets, EB, EFields, MoreEFields}
+use Rattle.parse_grammar.specs.Grammar.{Class, Units, OneUnit, Binds, Bind, Decls, Decl, TypeOf, K, KArrow, KA, P, Dots, T, TArrow, TC, TArgs, TA, TFields, MoreTFields, S, SArrow, Wheres, SA, M, MArgs, Seals, MA, E, Lam, EBranches, MoreEBranches, Compare, ES, Sums, EM, Products, EP, Args, EA, Gets, EB, EFields, MoreEFields}
 use Rattle.parse_grammar.specs.Meaning.{Value}
 
 pub data Item : Type 0 where
@@ -35,6 +35,7 @@ pub data Item : Type 0 where
   OpsItem : OpExps → Item
   ArgsItem : tree.Args → Item
   FieldExpsItem : FieldExps → Item
+  BranchesItem : Branches → Item
 
 -- what a phrase gives, as an item
 abbrev pub item : (n : Class) → Value n → Item
@@ -67,6 +68,8 @@ item Seals v = AscriptionsItem v
 item MA v = ModItem v
 item E v = ExpItem v
 item Lam v = AbstractionItem v
+item EBranches v = BranchesItem v
+item MoreEBranches v = BranchesItem v
 item Compare v = OpsItem v
 item ES v = ExpItem v
 item Sums v = OpsItem v
@@ -185,6 +188,10 @@ abbrev pub as_field_exps : Item → Option FieldExps
 as_field_exps (FieldExpsItem v) = Some v
 as_field_exps _ = None
 
+abbrev pub as_branches : Item → Option Branches
+as_branches (BranchesItem v) = Some v
+as_branches _ = None
+
 abbrev pub as_value : (n : Class) → Item → Option (Value n)
 as_value Units i = as_units i
 as_value OneUnit i = as_one_unit i
@@ -215,6 +222,8 @@ as_value Seals i = as_ascriptions i
 as_value MA i = as_mod i
 as_value E i = as_exp i
 as_value Lam i = as_abstraction i
+as_value EBranches i = as_branches i
+as_value MoreEBranches i = as_branches i
 as_value Compare i = as_ops i
 as_value ES i = as_exp i
 as_value Sums i = as_ops i

@@ -1,12 +1,12 @@
 -- What the code's parts stand for. A list that grows has its first item last.
 use Rattle.std.specs.Prelude.{List, reverse, map, option_map}
 use Rattle.fing_syntax.specs.Leaves.{spelled}
-use Rattle.fing_syntax.specs.View.{binds, decls, tys, field_tys, ops, args, field_exps}
+use Rattle.fing_syntax.specs.View.{binds, decls, tys, field_tys, ops, args, field_exps, branches}
 use Rattle.parse_forms.specs.Part.{kind_in, tail_in, where_in, ascription_in, abstraction_in}
 use Rattle.parse_stack.specs.declared.part.Part.{Part}
 use Rattle.parse_stack.specs.declared.part.Part.TheVariants as a_part
 use Rattle.parse_stack.specs.declared.stack.Stack.{Stack}
-use Rattle.parse_stack.specs.Item.{Item, TokenItem, UnitsItem, OneUnitItem, BindsItem, BindItem, DeclsItem, DeclItem, TailItem, KindItem, KindArrowItem, ModItem, NamesItem, TyItem, TyArrowItem, TysItem, FieldTysItem, SigItem, PureItem, WheresItem, ModsItem, AscriptionsItem, ExpItem, AbstractionItem, OpsItem, ArgsItem, FieldExpsItem}
+use Rattle.parse_stack.specs.Item.{Item, TokenItem, UnitsItem, OneUnitItem, BindsItem, BindItem, DeclsItem, DeclItem, TailItem, KindItem, KindArrowItem, ModItem, NamesItem, TyItem, TyArrowItem, TysItem, FieldTysItem, SigItem, PureItem, WheresItem, ModsItem, AscriptionsItem, ExpItem, AbstractionItem, OpsItem, ArgsItem, FieldExpsItem, BranchesItem}
 
 abbrev pub part_in : Part → Item
 part_in (a_part.Token t) = TokenItem t.now
@@ -35,6 +35,7 @@ part_in (a_part.Abstraction v) = AbstractionItem (abstraction_in v)
 part_in (a_part.Ops v) = OpsItem (ops (reverse v.items))
 part_in (a_part.Args v) = ArgsItem (args (reverse v.items))
 part_in (a_part.FieldExps v) = FieldExpsItem (field_exps (reverse v.items))
+part_in (a_part.Branches v) = BranchesItem (branches (reverse v.items))
 
 -- the items of a stack, the top one first
 abbrev pub items : List Part → List Item

@@ -1,6 +1,6 @@
 // What stands on the parser's stack. A list that grows is kept with its first item last.
 use fing_lexer::Token;
-use fing_syntax::{Arg, Bind, Decl, Exp, Mod, Op, SigEx, SpanName, TyEx, UnitTree};
+use fing_syntax::{Arg, Bind, Branch, Decl, Exp, Mod, Op, SigEx, SpanName, TyEx, UnitTree};
 use parse_forms::{Abstraction, Ascription, KindPart, TypeTail, Where};
 
 /// A token, or what a phrase of some class gives.
@@ -33,4 +33,5 @@ pub enum Part<'a> {
     Ops(Vec<(Op, Exp)>),
     Args(Vec<Arg>),
     FieldExps(Vec<(SpanName, Exp)>),
+    Branches(Vec<Branch>),
 }

@@ -1,8 +1,8 @@
 // The parser's stack. Each call takes the top part as what its name says, or finds that it is something else.
 ghost use Rattle.std.specs.Prelude.{◌≡◌, [], ◌∷◌, Some, None, reverse, map, option_map, IfOk, IfErr, OnOk, OnErr};
 ghost use Rattle.fing_syntax.specs.Leaves.{spelled};
-ghost use Rattle.fing_syntax.specs.View.{binds as binds_of, decls as decls_of, tys as tys_of, field_tys as field_tys_of, ops as ops_of, args as args_of, field_exps as field_exps_of};
-ghost use Rattle.parse_stack.specs.Item.{as_token, as_units, as_one_unit, as_binds, as_bind, as_decls, as_decl, as_tail, as_kind, as_kind_arrow, as_mod, as_names, as_ty, as_ty_arrow, as_tys, as_field_tys, as_sig, as_pure, as_wheres, as_mods, as_ascriptions, as_exp, as_abstraction, as_ops, as_args, as_field_exps};
+ghost use Rattle.fing_syntax.specs.View.{binds as binds_of, decls as decls_of, tys as tys_of, field_tys as field_tys_of, ops as ops_of, args as args_of, field_exps as field_exps_of, branches as branches_of};
+ghost use Rattle.parse_stack.specs.Item.{as_token, as_units, as_one_unit, as_binds, as_bind, as_decls, as_decl, as_tail, as_kind, as_kind_arrow, as_mod, as_names, as_ty, as_ty_arrow, as_tys, as_field_tys, as_sig, as_pure, as_wheres, as_mods, as_ascriptions, as_exp, as_abstraction, as_ops, as_args, as_field_exps, as_branches};
 ghost use Rattle.parse_forms.specs.Part.{kind_in, tail_in, where_in, ascription_in, abstraction_in};
 ghost use Rattle.parse_stack.specs.Part.{part_in, held};
 ghost use Rattle.parse_stack.specs.Play.{uncons, top};
@@ -11,7 +11,7 @@ ghost use Rattle.parse_stack.specs.declared.refusal.BuildRefusal.TheVariants.{Me
 use crate::part::Part;
 use crate::refusal::{BuildRefusal, Misfit};
 use fing_lexer::Token;
-use fing_syntax::{Arg, Bind, Decl, Exp, Mod, Op, SigEx, SpanName, TyEx, UnitTree};
+use fing_syntax::{Arg, Bind, Branch, Decl, Exp, Mod, Op, SigEx, SpanName, TyEx, UnitTree};
 use parse_forms::{Abstraction, Ascription, KindPart, TypeTail, Where};
 use std::alloc::Global;
 
@@ -339,6 +339,17 @@ impl<'a> Stack<'a> {
     {
         match self.pop() {
             Some(Part::FieldExps(found)) => Ok(found),
+            other => Err(misfit(other)),
+        }
+    }
+
+    /// The top part as branches of a case, the first one last.
+    pub fn branches(&mut self) -> Result<Vec<Branch>, Misfit>
+        ensures part { IfOk result (λ v. top as_branches (held self.old) ≡ Some (branches_of (reverse v.items), held self.new)) }
+        ensures misfit { IfErr result (λ e. top as_branches (held self.old) ≡ None) }
+    {
+        match self.pop() {
+            Some(Part::Branches(found)) => Ok(found),
             other => Err(misfit(other)),
         }
     }

@@ -9,7 +9,7 @@ use std::process::Abort;
 use std::test::Fail;
 
 // Bindings and paths.
-const BINDINGS: [(&str, &str); 10] = [
+const BINDINGS: [(&str, &str); 13] = [
     ("", ""),
     ("val x = 1", " (val x@4-5 (1)@8-9)@0-9"),
     ("type t = Int", " (type t@5-6 (int)@9-12)@0-12"),
@@ -35,10 +35,22 @@ const BINDINGS: [(&str, &str); 10] = [
         "module M = from (N).x.y.z",
         " (module M@7-8 (project z@24-25 (project y@22-23 (project x@20-21 (N@17-18)@17-18)@11-21)@11-23)@11-25)@0-25",
     ),
+    (
+        "data t = t",
+        " (type t@5-6 (mu t@5-6 (path (t@9-10)@9-10)@9-10)@0-10)@0-10",
+    ),
+    (
+        "val x = 1 data t = Int",
+        " (val x@4-5 (1)@8-9)@0-9 (type t@15-16 (mu t@15-16 (int)@19-22)@10-22)@10-22",
+    ),
+    (
+        "data list = case {cons : {head : Int, tail : list}, nil : {}}",
+        " (type list@5-9 (mu list@5-9 (sum cons@18-22 (rec head@26-30 (int)@33-36 tail@38-42 (path (list@45-49)@45-49)@45-49)@25-50 nil@52-55 (rec)@58-60)@12-61)@0-61)@0-61",
+    ),
 ];
 
 // Declarations and signatures.
-const DECLARATIONS: [(&str, &str); 10] = [
+const DECLARATIONS: [(&str, &str); 11] = [
     (
         "signature S = sig end",
         " (signature S@10-11 (sig)@14-21)@0-21",
@@ -79,10 +91,14 @@ const DECLARATIONS: [(&str, &str); 10] = [
         "signature S = from (M).x",
         " (signature S@10-11 (path (project x@23-24 (M@20-21)@20-21)@14-24)@14-24)@0-24",
     ),
+    (
+        "signature S = sig data t = case {a : t} val x : t end",
+        " (signature S@10-11 (sig (type t@23-24 (mu t@23-24 (sum a@33-34 (path (t@37-38)@37-38)@37-38)@27-39)@18-39)@18-39 (val x@44-45 (path (t@48-49)@48-49)@48-49)@40-49)@14-53)@0-53",
+    ),
 ];
 
 // Types.
-const TYPES: [(&str, &str); 12] = [
+const TYPES: [(&str, &str); 15] = [
     (
         "type t = Int -> Bool -> Text",
         " (type t@5-6 (-> (int)@9-12 (-> (bool)@16-20 (text)@24-28)@16-28)@9-28)@0-28",
@@ -127,6 +143,15 @@ const TYPES: [(&str, &str); 12] = [
     (
         "type t = from (M).u",
         " (type t@5-6 (path (project u@18-19 (M@15-16)@15-16)@9-19)@9-19)@0-19",
+    ),
+    ("type t = case {}", " (type t@5-6 (sum)@9-16)@0-16"),
+    (
+        "type t = case {none : {}, some : Int}",
+        " (type t@5-6 (sum none@15-19 (rec)@22-24 some@26-30 (int)@33-36)@9-37)@0-37",
+    ),
+    (
+        "type t = f case {a : Int} -> Int",
+        " (type t@5-6 (-> (@ (path (f@9-10)@9-10)@9-10 (sum a@17-18 (int)@21-24)@11-25)@9-25 (int)@29-32)@9-32)@0-32",
     ),
 ];
 
@@ -208,7 +233,7 @@ const MODULES: [(&str, &str); 19] = [
 ];
 
 // Expressions and their derived forms.
-const EXPRESSIONS: [(&str, &str); 35] = [
+const EXPRESSIONS: [(&str, &str); 51] = [
     ("val x = 0", " (val x@4-5 (0)@8-9)@0-9"),
     ("val x = ~7", " (val x@4-5 (-7)@8-10)@0-10"),
     (
@@ -331,10 +356,74 @@ const EXPRESSIONS: [(&str, &str); 35] = [
         "val x = f (fun (y : Int) => y) 1",
         " (val x@4-5 (call (path (f@8-9)@8-9)@8-9 (fn y@16-17 (int)@20-23 (path (y@28-29)@28-29)@28-29)@10-30 (1)@31-32)@8-32)@0-32",
     ),
+    (
+        "val x = inj a 1 : t",
+        " (val x@4-5 (inj a@12-13 (1)@14-15 (path (t@18-19)@18-19)@18-19)@8-19)@0-19",
+    ),
+    (
+        "val o = inj some 3 : case {none : {}, some : Int}",
+        " (val o@4-5 (inj some@12-16 (3)@17-18 (sum none@27-31 (rec)@34-36 some@38-42 (int)@45-48)@21-49)@8-49)@0-49",
+    ),
+    (
+        "val x = f inj a 1 : t 2",
+        " (val x@4-5 (call (path (f@8-9)@8-9)@8-9 (inj a@14-15 (1)@16-17 (path (t@20-21)@20-21)@20-21)@10-21 (2)@22-23)@8-23)@0-23",
+    ),
+    (
+        "val x = inj a inj b 1 : u : t",
+        " (val x@4-5 (inj a@12-13 (inj b@18-19 (1)@20-21 (path (u@24-25)@24-25)@24-25)@14-25 (path (t@28-29)@28-29)@28-29)@8-29)@0-29",
+    ),
+    (
+        "val x = inj a 1 : t#b",
+        " (val x@4-5 (get b@20-21 (inj a@12-13 (1)@14-15 (path (t@18-19)@18-19)@18-19)@8-19)@8-21)@0-21",
+    ),
+    (
+        "val x = roll 1 : t",
+        " (val x@4-5 (roll (1)@13-14 (path (t@17-18)@17-18)@17-18)@8-18)@0-18",
+    ),
+    (
+        "val empty = roll (inj nil {} : cell) : list",
+        " (val empty@4-9 (roll (inj nil@22-25 (rec)@26-28 (path (cell@31-35)@31-35)@31-35)@17-36 (path (list@39-43)@39-43)@39-43)@12-43)@0-43",
+    ),
+    (
+        "val x = unroll 1",
+        " (val x@4-5 (unroll (1)@15-16)@8-16)@0-16",
+    ),
+    (
+        "val x = unroll y#a",
+        " (val x@4-5 (get a@17-18 (unroll (path (y@15-16)@15-16)@15-16)@8-16)@8-18)@0-18",
+    ),
+    (
+        "val x = unroll roll 1 : t",
+        " (val x@4-5 (unroll (roll (1)@20-21 (path (t@24-25)@24-25)@24-25)@15-25)@8-25)@0-25",
+    ),
+    (
+        "val x = case y : Int of {}",
+        " (val x@4-5 (case (path (y@13-14)@13-14)@13-14 (int)@17-20)@8-26)@0-26",
+    ),
+    (
+        "val y = case o : Int of {none (u) => 0, some (n) => n + 1}",
+        " (val y@4-5 (case (path (o@13-14)@13-14)@13-14 (int)@17-20 none@25-29 u@31-32 (0)@37-38 some@40-44 n@46-47 (ops (path (n@52-53)@52-53)@52-53 + (1)@56-57)@52-57)@8-58)@0-58",
+    ),
+    (
+        "val x = case 1 + 2 : Int -> Int of {a (b) => b, c (d) => 4}",
+        " (val x@4-5 (case (ops (1)@13-14 + (2)@17-18)@13-18 (-> (int)@21-24 (int)@28-31)@21-31 a@36-37 b@39-40 (path (b@45-46)@45-46)@45-46 c@48-49 d@51-52 (4)@57-58)@8-59)@0-59",
+    ),
+    (
+        "val x = case inj a 1 : t : Int of {}",
+        " (val x@4-5 (case (inj a@17-18 (1)@19-20 (path (t@23-24)@23-24)@23-24)@13-24 (int)@27-30)@8-36)@0-36",
+    ),
+    (
+        "val x = case y : Int of {a (b) => case b : Int of {c (d) => d}}",
+        " (val x@4-5 (case (path (y@13-14)@13-14)@13-14 (int)@17-20 a@25-26 b@28-29 (case (path (b@39-40)@39-40)@39-40 (int)@43-46 c@51-52 d@54-55 (path (d@60-61)@60-61)@60-61)@34-62)@8-63)@0-63",
+    ),
+    (
+        "val x = (case y : Int of {}) z",
+        " (val x@4-5 (call (case (path (y@14-15)@14-15)@14-15 (int)@18-21)@8-28 (path (z@29-30)@29-30)@29-30)@8-30)@0-30",
+    ),
 ];
 
 // How many tokens of each begin some program.
-const REFUSED: [(&str, u32); 26] = [
+const REFUSED: [(&str, u32); 42] = [
     ("val", 1),
     ("val x", 2),
     ("val x = )", 3),
@@ -353,7 +442,6 @@ const REFUSED: [(&str, u32); 26] = [
     ("val x = 1 )", 4),
     ("val x = pack M", 5),
     ("signature S = fun (X : A) B", 9),
-    ("val x = case", 3),
     ("end", 0),
     ("= 1", 0),
     ("val x = fix f y", 5),
@@ -361,6 +449,43 @@ const REFUSED: [(&str, u32); 26] = [
     ("type t = [a] -> a", 5),
     ("val x = r#1", 5),
     ("module A : S = struct end", 2),
+    ("val x = case", 4),
+    ("val x = case y of {}", 5),
+    ("val x = case y : Int {}", 9),
+    ("val x = case y : Int of {a => 1}", 10),
+    ("val x = case y : Int of {a (b) -> 1}", 13),
+    ("val x = case y : Int of {a (b) => 1,}", 16),
+    ("val x = f case y : Int of {}", 4),
+    ("val x = inj 3 : t", 4),
+    ("val x = inj a f 3 : t", 6),
+    ("val x = inj a 3 : t -> u", 8),
+    ("val x = roll 1", 5),
+    ("val x = unroll [Int]", 4),
+    ("val data = 1", 1),
+    ("data t : Type", 2),
+    ("signature S = sig data t end", 6),
+    ("type t = case Int", 4),
+    ("type t = case {a}", 6),
+];
+
+// Sources with their numbers of tokens, and how many tokens the fronts have that are programs.
+const FRONTS: [(&str, u32, &[u32]); 8] = [
+    (
+        "val o = inj some 3 : case {none : {}, some : Int} val y = case o : Int of {none (u) => 0, some (n) => n + 1}",
+        43,
+        &[0, 18, 43],
+    ),
+    ("data t = t val f = fun (x : t) => x", 15, &[0, 4, 15]),
+    (
+        "signature S = sig data list = case {cons : list, nil : {}} val empty : list end",
+        23,
+        &[0, 23],
+    ),
+    ("val empty = roll (inj nil {} : cell) : list", 14, &[0, 14]),
+    ("val x = unroll 1", 5, &[0, 5]),
+    ("val x = case y : Int of {}", 10, &[0, 10]),
+    ("val x = inj a 1 : case {}", 10, &[0, 10]),
+    ("type t = case {}", 6, &[0, 6]),
 ];
 
 // What the parser makes of a source.
@@ -414,6 +539,30 @@ fn refused(rt: HostRuntime) -> Result<(), Fail> {
     for (source, at) in REFUSED {
         let refusal = parsed(&rt, rt.alloc(), source.as_bytes())?.err();
         assert_eq!(rt; refusal, Some(ParseRefusal::Syntax { at }), "at {source}");
+    }
+    Ok(())
+}
+
+// Each front of a source that is no program begins one.
+#[test]
+fn fronts(rt: HostRuntime) -> Result<(), Fail> {
+    for (source, count, programs) in FRONTS {
+        let bytes = source.as_bytes();
+        assert!(rt; bytes.len() <= SOURCE_LIMIT);
+        let found = tokens(rt.alloc(), bytes)?;
+        assert_eq!(rt; found.len(), count as usize, "at {source}");
+        for at in 0..=count {
+            assert!(rt; at as usize <= found.len());
+            let front = &found[..at as usize];
+            assert!(rt; front.len() <= SOURCE_LIMIT);
+            let refusal = program(rt.alloc(), front).err();
+            let wanted = if programs.contains(&at) {
+                None
+            } else {
+                Some(ParseRefusal::Syntax { at })
+            };
+            assert_eq!(rt; refusal, wanted, "in front of token {at} of {source}");
+        }
     }
     Ok(())
 }

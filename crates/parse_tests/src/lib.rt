@@ -1,4 +1,5 @@
-// Tests of the parser: sources and the trees that they have, written out by hand, and refusals.
+// Tests of the lexer and the parser: sources with their tokens and the trees that they have, written out by hand, and
+// refusals.
 // Stands on fing_lexer (tokens), fing_parser (trees) and fing_syntax (phrases).
 // Nothing is promised here: `show` compares a tree, written out, with a text.
 #![tactic(auto)]
@@ -7,5 +8,7 @@
 mod cases;
 #[cfg(test)]
 mod show;
+#[cfg(test)]
+mod tokens;
 #[cfg(test)]
 mod units;

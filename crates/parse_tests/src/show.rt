@@ -1,7 +1,7 @@
 // Trees written out: each node as `(what parts)@from-to`, a name as `x@from-to`.
 use fing_syntax::{
-    Arg, Bind, BindWhat, Decl, DeclWhat, Exp, ExpWhat, Mod, ModWhat, Op, SigEx, SigWhat, SpanName,
-    TyEx, TyWhat, UnitTree,
+    Arg, Bind, BindWhat, Branch, Decl, DeclWhat, Exp, ExpWhat, Mod, ModWhat, Op, SigEx, SigWhat,
+    SpanName, TyEx, TyWhat, UnitTree,
 };
 use fing_text::Span;
 use omega_kinds::Kind;
@@ -294,6 +294,14 @@ fn ty(want: &mut Expected<'_>, node: &TyEx) {
             text(want, b"(pack ");
             sig(want, by);
         }
+        TyWhat::Sum(all) => {
+            text(want, b"(sum");
+            field_tys(want, all);
+        }
+        TyWhat::Mu(found, body) => {
+            begin(want, b"(mu ", found);
+            ty(want, body);
+        }
     }
     end(want, node.span)
 }
@@ -387,6 +395,33 @@ fn exp(want: &mut Expected<'_>, node: &Exp) {
             begin(want, b"(pack ", found);
             sig(want, by);
         }
+        ExpWhat::Inj(found, value, by) => {
+            begin(want, b"(inj ", found);
+            exp(want, value);
+            text(want, b" ");
+            ty(want, by);
+        }
+        ExpWhat::Case {
+            whole,
+            result,
+            branches: all,
+        } => {
+            text(want, b"(case ");
+            exp(want, whole);
+            text(want, b" ");
+            ty(want, result);
+            branches(want, all);
+        }
+        ExpWhat::Roll(value, by) => {
+            text(want, b"(roll ");
+            exp(want, value);
+            text(want, b" ");
+            ty(want, by);
+        }
+        ExpWhat::Unroll(value) => {
+            text(want, b"(unroll ");
+            exp(want, value);
+        }
     }
     end(want, node.span)
 }
@@ -434,5 +469,15 @@ fn field_exps(want: &mut Expected<'_>, all: &[(SpanName, Exp)]) {
     for item in all {
         begin(want, b" ", &item.0);
         exp(want, &item.1);
+    }
+}
+
+// Writes branches out, each behind a space: the label, the name and the body.
+#[cycle(show)]
+fn branches(want: &mut Expected<'_>, all: &[Branch]) {
+    for item in all {
+        begin(want, b" ", &item.label);
+        begin(want, b"", &item.name);
+        exp(want, &item.body);
     }
 }

@@ -12,8 +12,12 @@ use std::test::Fail;
 const TWO_UNITS: &str =
     "module A : sig type t val x : t end = struct type t = Int val x = 5 end module B : sig val y : A.t end = struct val y = A.x end";
 
+// One unit, with a recursive type.
+const A_DATA_UNIT: &str =
+    "module A : sig data t = case {a : {}} val x : t end = struct data t = case {a : {}} val x = roll (inj a {} : case {a : {}}) : t end";
+
 // Texts and their units.
-const UNITS: [(&str, &str); 9] = [
+const UNITS: [(&str, &str); 10] = [
     ("", ""),
     (
         "module A : S = struct end",
@@ -47,10 +51,15 @@ const UNITS: [(&str, &str); 9] = [
         TWO_UNITS,
         " (unit A@7-8 (sig (type t@20-21 *)@15-21 (val x@26-27 (path (t@30-31)@30-31)@30-31)@22-31)@11-35 (struct (type t@50-51 (int)@54-57)@45-57 (val x@62-63 (5)@66-67)@58-67)@38-71)@0-71 (unit B@79-80 (sig (val y@91-92 (path (project t@97-98 (A@95-96)@95-96)@95-98)@95-98)@87-98)@83-102 (struct (val y@116-117 (path (project x@122-123 (A@120-121)@120-121)@120-123)@120-123)@112-123)@105-127)@72-127",
     ),
+    (
+        A_DATA_UNIT,
+        " (unit A@7-8 (sig (type t@20-21 (mu t@20-21 (sum a@30-31 (rec)@34-36)@24-37)@15-37)@15-37 (val x@42-43 (path (t@46-47)@46-47)@46-47)@38-47)@11-51 (struct (type t@66-67 (mu t@66-67 (sum a@76-77 (rec)@80-82)@70-83)@61-83)@61-83 (val x@88-89 (roll (inj a@102-103 (rec)@104-106 (sum a@115-116 (rec)@119-121)@109-122)@97-123 (path (t@126-127)@126-127)@126-127)@92-127)@84-127)@54-131)@0-131",
+    ),
 ];
 
 // How many tokens of each begin some list of units.
-const REFUSED: [(&str, u32); 18] = [
+const REFUSED: [(&str, u32); 19] = [
+    ("data t = Int", 0),
     ("val x = 1", 0),
     ("struct end", 0),
     ("module M = N", 2),
@@ -111,20 +120,28 @@ fn refused(rt: HostRuntime) -> Result<(), Fail> {
     Ok(())
 }
 
-// Nothing and the first unit are lists of units. Each other front of the two units begins one and is none.
+// Texts with their numbers of tokens, and how many tokens the fronts have that are lists of units.
+const FRONTS: [(&str, u32, &[u32]); 2] = [
+    (TWO_UNITS, 42, &[0, 22, 42]),
+    (A_DATA_UNIT, 52, &[0, 52]),
+];
+
+// Each front of a text that is no list of units begins one.
 #[test]
-fn each_front_of_two_units(rt: HostRuntime) -> Result<(), Fail> {
-    let tokens = tokens_of(&rt, rt.alloc(), TWO_UNITS)?;
-    assert_eq!(rt; tokens.len(), 42);
-    for at in 0..42 {
-        assert!(rt; at as usize <= tokens.len());
-        let refusal = parsed(&rt, rt.alloc(), &tokens[..at as usize])?.err();
-        let wanted = if at == 0 || at == 22 {
-            None
-        } else {
-            Some(ParseRefusal::Syntax { at })
-        };
-        assert_eq!(rt; refusal, wanted, "in front of token {at}");
+fn fronts(rt: HostRuntime) -> Result<(), Fail> {
+    for (text, count, lists) in FRONTS {
+        let tokens = tokens_of(&rt, rt.alloc(), text)?;
+        assert_eq!(rt; tokens.len(), count as usize);
+        for at in 0..=count {
+            assert!(rt; at as usize <= tokens.len());
+            let refusal = parsed(&rt, rt.alloc(), &tokens[..at as usize])?.err();
+            let wanted = if lists.contains(&at) {
+                None
+            } else {
+                Some(ParseRefusal::Syntax { at })
+            };
+            assert_eq!(rt; refusal, wanted, "in front of token {at} of {text}");
+        }
     }
     Ok(())
 }

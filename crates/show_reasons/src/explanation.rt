@@ -16,6 +16,10 @@ pub struct Explanation {
 pub(crate) const NEXT_LINE: &str =
     "The end of a line ends nothing. Is `val`, `type` or `module` missing after this phrase?";
 
+// A recursive type where a type that it unfolds to is needed, or the other way round.
+pub(crate) const ROLLED: &str =
+    "`roll` makes a value of a recursive type, and `unroll` gives back what was rolled: is one missing here?";
+
 // What is said where memory ran out.
 pub(crate) const NO_MEMORY: Explanation = Explanation {
     title: "out of memory",

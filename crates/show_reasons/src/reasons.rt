@@ -1,6 +1,7 @@
 // What is said of the reasons why a program means nothing.
-use crate::explanation::{Explanation, NEXT_LINE, NO_MEMORY, explained};
+use crate::explanation::{Explanation, NEXT_LINE, NO_MEMORY, ROLLED, explained};
 use fing_refusals::ElabWhy;
+use omega_types::TyNode;
 use semantic_sigs::Why;
 use type_normal::{NormalTy, plain};
 
@@ -134,9 +135,9 @@ fn of_form(why: &ElabWhy) -> Explanation {
             "notrecord-t-nofield-x",
         ),
         _ => explained(
-            "no such field",
-            "The record has no field #.",
-            "A record has exactly the fields that its type shows.",
+            "no such field or label",
+            "There is no field or label #.",
+            "A record has exactly the fields that its type shows, and a sum exactly the labels.",
             "notrecord-t-nofield-x",
         ),
     }
@@ -145,10 +146,10 @@ fn of_form(why: &ElabWhy) -> Explanation {
 // What is said of sums and of recursive types.
 fn of_sum(why: &ElabWhy) -> Explanation {
     match why {
-        ElabWhy::NotSum(_) => explained(
+        ElabWhy::NotSum(found) => explained(
             "not a sum",
             "A sum type is needed here, and # is not one.",
-            "A sum type lists the labels of its values, each with a type.",
+            sum_hint(found),
             "notsum-t-notdata-t-nobranch-x",
         ),
         ElabWhy::NotData(_) => explained(
@@ -164,6 +165,19 @@ fn of_sum(why: &ElabWhy) -> Explanation {
             "notsum-t-notdata-t-nobranch-x",
         ),
     }
+}
+
+// Whether the type is a recursive one.
+fn is_recursive(ty: &NormalTy) -> bool {
+    matches!(plain(ty).node(), TyNode::Mu(_))
+}
+
+// A hint for a type that is no sum: a recursive type is often one whose values were not unrolled.
+fn sum_hint(found: &NormalTy) -> &'static str {
+    if is_recursive(found) {
+        return ROLLED;
+    }
+    "A sum type lists the labels of its values, each with a type."
 }
 
 // What is said of types, kinds and names that do not fit.
@@ -188,9 +202,9 @@ fn of_type(why: &ElabWhy) -> Explanation {
             "kinddiffer-k-k-notoperator",
         ),
         ElabWhy::DuplicateField(_) => explained(
-            "a field twice",
-            "The record has the field # twice.",
-            "Rename one of the two fields.",
+            "a field or label twice",
+            "The field or label # is here twice.",
+            "Rename one of the two, or leave it out.",
             "duplicatefield-x-duplicate-x",
         ),
         ElabWhy::Duplicate(_) => explained(
@@ -203,8 +217,12 @@ fn of_type(why: &ElabWhy) -> Explanation {
     }
 }
 
-// A hint for two types that differ: about hidden types, where one of the two mentions a type variable in scope.
+// A hint for two types that differ: about recursive types, where one of the two is one, and about hidden types, where one
+// of the two mentions a type variable in scope.
 fn differ_hint(found: &NormalTy, needed: &NormalTy) -> &'static str {
+    if is_recursive(found) != is_recursive(needed) {
+        return ROLLED;
+    }
     if plain(found).bound() == 0 && plain(needed).bound() == 0 {
         return "Nothing is converted: the two types must be the same, record types with the same fields.";
     }

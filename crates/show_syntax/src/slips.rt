@@ -34,7 +34,7 @@ fn mark_slip(mark: Mark, before: Option<Terminal>, expected: &[Terminal]) -> Opt
         }
         Mark::Dot if before == Some(Terminal::Number) => Some("There are no fractions."),
         Mark::Arrow if can(Terminal::Mark(Mark::DoubleArrow)) => {
-            Some("A function is written with `=>`; `->` is for types.")
+            Some("A function is written with `=>`, and so is a branch; `->` is for types.")
         }
         Mark::Colon if can(EQUAL) => Some(
             "A binding has no type of its own: give types to parameters, or seal the module by a signature.",
@@ -66,8 +66,9 @@ fn declared_slip(tokens: &[Token], at: usize) -> Option<&'static str> {
 // A slip at a word.
 fn word_slip(word: Word, expected: &[Terminal]) -> Option<&'static str> {
     match word {
-        Word::KwCase | Word::KwOf | Word::KwInj | Word::KwData | Word::KwRoll | Word::KwUnroll =>
-            Some("This word is reserved for later: choose another name."),
+        Word::KwOf if expected.contains(&COLON) => Some(
+            "A `case` says the type of its result, as `case x : Int of {some (n) => n}`.",
+        ),
         _ if matches!(expected, [Terminal::Name]) => Some(
             "This is a keyword, so it cannot be a name.",
         ),

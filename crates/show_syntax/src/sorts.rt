@@ -85,11 +85,15 @@ impl Sort {
         match word {
             Word::KwFrom => self.has_names(),
             Word::KwFun => self.has_names(),
-            Word::KwPack => matches!(self, Sort::Expression | Sort::Type),
+            Word::KwPack | Word::KwCase => matches!(self, Sort::Expression | Sort::Type),
             Word::KwLet => matches!(self, Sort::Expression | Sort::Module),
-            Word::KwTrue | Word::KwFalse | Word::KwFix | Word::KwIf => {
-                matches!(self, Sort::Expression)
-            }
+            Word::KwTrue
+            | Word::KwFalse
+            | Word::KwFix
+            | Word::KwIf
+            | Word::KwInj
+            | Word::KwRoll
+            | Word::KwUnroll => matches!(self, Sort::Expression),
             Word::KwInt | Word::KwBool | Word::KwText => matches!(self, Sort::Type),
             Word::KwStruct | Word::KwGen | Word::KwUnpack => matches!(self, Sort::Module),
             Word::KwSig => matches!(self, Sort::Signature),

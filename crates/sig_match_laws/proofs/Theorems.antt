@@ -2,7 +2,7 @@
 use Rattle.std.specs.Prelude.{ℕ, ◌+◌, List, ◌≡◌, ◌⊎◌}
 use Rattle.std.proofs.Math.Logic.{inl, inr}
 use Rattle.std.proofs.Common.{arith}
-use Rattle.std.proofs.Math.Path.{ap, ap₂, subst}
+use Rattle.std.proofs.Math.Path.{ap, ap₂, subst, sym}
 use Rattle.omega_kinds.specs.Kind.{Kind}
 use Rattle.omega_types.specs.Ty.{Ty}
 use Rattle.omega_terms.specs.Term.{Term}
@@ -11,7 +11,7 @@ use Rattle.sig_definitions.specs.Signatures.SigSize.{size, size_abs}
 use Rattle.sig_definitions.specs.Matching.Subtyping.{Sub, SubAbs, Match}
 use Rattle.sig_definitions.specs.Matching.MatchRefusal.{MatchRefusal, RefusesMatch, RefusesSub, RefusesSubAbs}
 use Rattle.sig_match_laws.specs.MatchFunction.{Outcome, MatchOutcome, match_sig, sub_sig, sub_abs}
-use Rattle.sig_match_laws.specs.MatchClaims.{OneMatch, OneSub, OneSubAbs, SearchGives, MatchIsLookedUp, OneFound, MatchOrRefusal, SubOrRefusal, SubAbsOrRefusal, NotBoth, OneRefusal, SubNotBoth, SubAbsNotBoth, OneSubRefusal, OneSubAbsRefusal, MatchSigGives, SubSigGives, SubAbsGives, MatchSigStep, SubSigStep, SubAbsStep, IsRightSig}
+use Rattle.sig_match_laws.specs.MatchClaims.{OneMatch, OneSub, OneSubAbs, SearchGives, MatchIsLookedUp, OneFound, MatchOrRefusal, SubOrRefusal, SubAbsOrRefusal, NotBoth, OneMatchOrRefusal, OneRefusal, SubNotBoth, SubAbsNotBoth, OneSubRefusal, OneSubAbsRefusal, MatchSigGives, SubSigGives, SubAbsGives, MatchSigStep, SubSigStep, SubAbsStep, IsRightSig}
 use Rattle.sig_match_laws.proofs.OneMatch.Unique.{sub-unique, abs-unique, match-unique}
 use Rattle.sig_match_laws.proofs.LookUp.Roots.{least_root-gives}
 use Rattle.sig_match_laws.proofs.LookUp.LookUpLaws.{match-looked, found_at-unique}
@@ -20,6 +20,7 @@ use Rattle.sig_match_laws.proofs.LookUp.OneRefusal.{sub-refusal, abs-one, match-
 use Rattle.sig_match_laws.proofs.Function.LookSound.{MatchOk, match_ok, refusal_ok}
 use Rattle.sig_match_laws.proofs.Function.FunctionSound.{SubOk, sub_ok, sub_no, AbsOk, abs_ok, abs_no, FnsSound, sub_sig-ok, sub_abs-ok, match_sig-ok, sub_step-ok, abs_step-ok, match_step-ok}
 use Rattle.sig_laws.specs.Good.{OkSig, OkAbs, OkRight}
+use Rattle.sig_definitions.specs.Verdict.{Verdict, holds, refuses}
 
 pub one_match : OneMatch
 one_match ctx s x ts us f g w v m n = match-unique m w v us g n
@@ -155,3 +156,11 @@ sub_sig_step ctx s r w v = let n = size s + size r in sub-back w v (sub_sig-ok c
 
 pub sub_abs_step : SubAbsStep
 sub_abs_step ctx x y w v = let n = size_abs x + size_abs y in abs-back w v (sub_abs-ok ctx x y w v) (abs_step-ok (sub_sig, sub_abs, match_sig) n (whole n) ctx x y (omega arith) w v)
+
+-- exactly one match or exactly one refusal
+pub match-verdict : OneMatchOrRefusal
+match-verdict ctx s x h w = go (match_or_refusal ctx s x h w)
+  where
+    go : ((ts : List Ty) × (f : Term) × Match ctx s x ts f) ⊎ ((r : MatchRefusal) × RefusesMatch ctx s x r) → Verdict (λ (o : List Ty × Term). Match ctx s x o.0 o.1) (RefusesMatch ctx s x)
+    go (inl m) = holds (m.0, m.1) m.2 (λ o n. let e = match-unique n h.0 w.0 m.0 m.1 m.2 in (λ i. (e.0 i, e.1 i))) (λ r q. not_both ctx s x m.0 m.1 r h w m.2 q)
+    go (inr r) = refuses r.0 r.1 (λ q n. sym (one_refusal ctx s x r.0 q h w r.1 n)) (λ o m. not_both ctx s x o.0 o.1 r.0 h w m r.1)

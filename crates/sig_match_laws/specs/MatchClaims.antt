@@ -17,6 +17,7 @@ use Rattle.sig_definitions.specs.Matching.MatchRefusal.{MatchRefusal, RefusesMat
 use Rattle.sig_match_laws.specs.RootSearch.{least_root}
 use Rattle.sig_match_laws.specs.MatchFunction.{Outcome, MatchOutcome, match_step, MatchFn, look, sub_step, abs_step, match_sig, sub_sig, sub_abs}
 use Rattle.sig_laws.specs.Good.{OkSig, OkAbs, OkRight}
+use Rattle.sig_definitions.specs.Verdict.{Verdict}
 
 -- a right side is a well formed signature of normal types, in which the results of impure functors are ordered explicit too
 abbrev pub IsRightSig : List Kind → Sig → Type 0
@@ -52,6 +53,11 @@ SubOrRefusal = (ctx : List Kind) (s r : Sig) → OkSig ctx s → IsRightSig ctx 
 
 abbrev pub SubAbsOrRefusal : Type 0
 SubAbsOrRefusal = (ctx : List Kind) (x y : Abs) → OkAbs ctx x → OkRight ctx y → ((f : Term) × SubAbs ctx x y f) ⊎ ((q : MatchRefusal) × RefusesSubAbs ctx x y q)
+
+-- so exactly one match or exactly one refusal
+abbrev pub OneMatchOrRefusal : Type 0
+OneMatchOrRefusal = (ctx : List Kind) (s : Sig) (x : Abs) → OkSig ctx s → OkRight ctx x
+    → Verdict (λ (o : List Ty × Term). Match ctx s x o.0 o.1) (RefusesMatch ctx s x)
 
 abbrev pub NotBoth : Type 0
 NotBoth = (ctx : List Kind) (s : Sig) (x : Abs) (ts : List Ty) (f : Term) (q : MatchRefusal) → OkSig ctx s → OkRight ctx x → Match ctx s x ts f → RefusesMatch ctx s x q → ⊥

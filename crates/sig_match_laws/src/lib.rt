@@ -5,7 +5,7 @@
 // types, by conversion (`any_types`).
 #![tactic(auto)]
 
-ghost use Rattle.sig_match_laws.specs.MatchClaims.{OneMatch, OneSub, OneSubAbs, SearchGives, MatchIsLookedUp, OneFound, MatchOrRefusal, SubOrRefusal, SubAbsOrRefusal, NotBoth, OneRefusal, SubNotBoth, SubAbsNotBoth, OneSubRefusal, OneSubAbsRefusal, MatchSigGives, SubSigGives, SubAbsGives, MatchSigStep, SubSigStep, SubAbsStep, LookGives, LaterTypesDoNotMatter};
+ghost use Rattle.sig_match_laws.specs.MatchClaims.{OneMatch, OneSub, OneSubAbs, SearchGives, MatchIsLookedUp, OneFound, MatchOrRefusal, OneMatchOrRefusal, SubOrRefusal, SubAbsOrRefusal, NotBoth, OneRefusal, SubNotBoth, SubAbsNotBoth, OneSubRefusal, OneSubAbsRefusal, MatchSigGives, SubSigGives, SubAbsGives, MatchSigStep, SubSigStep, SubAbsStep, LookGives, LaterTypesDoNotMatter};
 ghost use Rattle.sig_match_laws.specs.AnyTypes.{MatchesExactly, MatchSigFinds, MatchSigMatches, MatchesSubstitute, SubSubstitute, SubAbsSubstitute, MatchSigRefuses, SubAbsFinds};
 ghost use Rattle.sig_match_laws.specs.Examples.{IntIsFound, NothingIsFound};
 
@@ -39,6 +39,7 @@ pub fn decided()
     ensures abs { SubAbsOrRefusal }
     ensures exclude { NotBoth }
     ensures one { OneRefusal }
+    ensures verdict { OneMatchOrRefusal }
     ensures sub_exclude { SubNotBoth }
     ensures abs_exclude { SubAbsNotBoth }
     ensures one_sub { OneSubRefusal }

@@ -1,6 +1,6 @@
 -- Orders and norms, as the contract says it.
 use Rattle.std.specs.Prelude.{◌⊎◌}
-use Rattle.std.proofs.Math.Path.{refl}
+use Rattle.std.proofs.Math.Path.{refl, sym}
 use Rattle.sig_definitions.specs.Signatures.Sig.{Abs}
 use Rattle.sig_definitions.specs.QuantifierOrder.{Norm}
 use Rattle.sig_definitions.specs.Explicit.WellFormed.{explicit}
@@ -13,7 +13,7 @@ use Rattle.sig_norm_laws.proofs.Orders.Roots.{Roots, roots}
 use Rattle.sig_norm_laws.proofs.Norm.NormUnique.{norm_abs_unique}
 use Rattle.sig_norm_laws.proofs.Norm.NormKeeps.{norm_abs-explicit}
 use Rattle.sig_norm_laws.proofs.Norm.NormAgain.{norm_abs-again}
-use Rattle.sig_norm_laws.specs.Norms.{RootsFound, OneLeastRoot, OrderExists, OrderUnique, NormExists, NormUnique, NormKeeps, NormOfNorm}
+use Rattle.sig_norm_laws.specs.Norms.{RootsFound, OneLeastRoot, OrderExists, OrderUnique, NormExists, NormUnique, OneNorm, NormKeeps, NormOfNorm}
 use Rattle.sig_laws.proofs.Algebra.Paths.{one_least}
 
 pub roots_found : RootsFound
@@ -40,6 +40,9 @@ norm_found ctx x e = go (norm_abs_exists e)
 
 pub norm_one : NormUnique
 norm_one ctx x y z a b = norm_abs_unique a b
+
+pub norm-one : OneNorm
+norm-one ctx x h = let y = norm_found ctx x h.0 in (y.0, y.1, λ z n. sym (norm_one ctx x y.0 z y.1 n))
 
 pub norm_keeps : NormKeeps
 norm_keeps ctx x y n e = norm_abs-explicit n e

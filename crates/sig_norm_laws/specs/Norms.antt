@@ -7,6 +7,8 @@ use Rattle.sig_definitions.specs.QuantifierOrder.{NewOrder, Norm}
 use Rattle.sig_definitions.specs.Explicit.SigPath.{SigPath}
 use Rattle.sig_definitions.specs.Explicit.RootPath.{RootPath, LeastRoot}
 use Rattle.sig_definitions.specs.Explicit.WellFormed.{WellFormed, Explicit}
+use Rattle.sig_definitions.specs.Verdict.{One}
+use Rattle.sig_laws.specs.Good.{OkRight}
 
 -- each variable has a least root path, or no root path at all, and one least one at most
 abbrev pub RootsFound : Type 0
@@ -27,6 +29,9 @@ NormExists = (ctx : List Kind) (x : Abs) → Explicit ctx x → (y : Abs) × Nor
 
 abbrev pub NormUnique : Type 0
 NormUnique = (ctx : List Kind) (x y z : Abs) → Norm ctx x y → Norm ctx x z → y ≡ z
+
+abbrev pub OneNorm : Type 0
+OneNorm = (ctx : List Kind) (x : Abs) → OkRight ctx x → One (Norm ctx x)
 
 -- norm is ordered explicit, and its own norm
 abbrev pub NormKeeps : Type 0

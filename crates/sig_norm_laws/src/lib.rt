@@ -4,7 +4,7 @@
 // one norm, which is ordered explicit and its own norm.
 #![tactic(auto)]
 
-ghost use Rattle.sig_norm_laws.specs.Norms.{RootsFound, OneLeastRoot, OrderExists, OrderUnique, NormExists, NormUnique, NormKeeps, NormOfNorm};
+ghost use Rattle.sig_norm_laws.specs.Norms.{RootsFound, OneLeastRoot, OrderExists, OrderUnique, NormExists, NormUnique, OneNorm, NormKeeps, NormOfNorm};
 
 /// Each variable has a least root path or no root path, and one least one at most; each ordered explicit signature has
 /// exactly one order of its quantifiers and exactly one norm; the norm is ordered explicit, and its own norm.
@@ -15,6 +15,7 @@ pub fn norms()
     ensures one_order { OrderUnique }
     ensures exists { NormExists }
     ensures unique { NormUnique }
+    ensures one_norm { OneNorm }
     ensures keeps { NormKeeps }
     ensures again { NormOfNorm }
 {}

@@ -1,6 +1,5 @@
 -- What premises determine: it exists, and there is only one.
-use Rattle.std.specs.Prelude.{ℕ, List, ◌≡◌, ◌⊎◌}
-use Rattle.std.proofs.Common.{inl, inr}
+use Rattle.std.specs.Prelude.{ℕ, List, ◌≡◌}
 use Rattle.std.proofs.Math.Path.{refl, sym, subst}
 use Rattle.omega_kinds.specs.Kind.{Kind}
 use Rattle.omega_kinds.specs.declared.effect.Effect.TheVariants.{Pure, Impure}
@@ -17,20 +16,14 @@ use Rattle.sig_definitions.specs.Signatures.Alike.{ConvSig, ConvAbs, AlikeSig, A
 use Rattle.sig_laws.specs.NormalSig.{normal_sig, normal_abs}
 use Rattle.sig_definitions.specs.Signatures.Encoding.{enc, enc_abs}
 use Rattle.sig_definitions.specs.Lifting.{Lift, lifted, lifted_kinds, lifting}
-use Rattle.sig_definitions.specs.QuantifierOrder.{Norm}
 use Rattle.sig_definitions.specs.Packing.{Packed}
-use Rattle.sig_definitions.specs.Matching.Subtyping.{Match}
 use Rattle.sig_laws.proofs.Algebra.AlikeLaws.{conv_sig-gives, conv_abs-gives, conv_sig-substitute, conv_abs-substitute, substitutes-convertible, form-conv_sig, form-conv_abs, normal_sig-form, normal_abs-form, normal_sig-rename, form_sig-same, form_abs-same}
 use Rattle.sig_laws.proofs.LiftLaws.{lifting_maps, lifting_kinds}
 use Rattle.sig_laws.proofs.Encoded.EncodingTyping.{distinct_abs-normal}
 use Rattle.sig_laws.proofs.Formed.WellFormedShape.{kinded}
 use Rattle.sig_laws.proofs.Algebra.Instances.{at-substitutes}
-use Rattle.sig_definitions.specs.Matching.MatchRefusal.{MatchRefusal, RefusesMatch}
-use Rattle.sig_match_laws.proofs.OneMatch.Unique.{match-unique}
-use Rattle.sig_definitions.specs.Verdict.{Verdict, holds, refuses, One}
-use Rattle.sig_laws.specs.Good.{OkSig, OkRight, NormalTerm, OkModule, KindedModule}
-use Rattle.sig_match_laws.proofs.Theorems.{match_or_refusal, not_both, one_refusal}
-use Rattle.sig_norm_laws.proofs.NormClaims as norms
+use Rattle.sig_definitions.specs.Verdict.{One}
+use Rattle.sig_laws.specs.Good.{NormalTerm, OkModule, KindedModule}
 use Rattle.sig_premise_laws.proofs.Terms.{packs-one, instance-total}
 use Rattle.omega_types.proofs.BinderPuts.{forms-kinds}
 
@@ -68,17 +61,6 @@ lifted-conv ctx ks s (Abs.Ex bs r) n w =
 
 pub lift-one : (ctx ks : List Kind) (s : Sig) (y : Abs) → NormalAbs ctx (Abs.Ex ks s) → NormalAbs (extend ctx ks) y → One (Lift ctx ks s y)
 lift-one ctx ks s y n w = let f = form_abs-one (lifted-conv ctx ks s y n w) in (f.0, Lift.lift f.1, λ z l. f.2 z (lift-form l))
-
--- matching and the order of quantifiers
-pub match-verdict : (ctx : List Kind) (s : Sig) (x : Abs) → OkSig ctx s → OkRight ctx x → Verdict (λ (o : List Ty × Term). Match ctx s x o.0 o.1) (RefusesMatch ctx s x)
-match-verdict ctx s x h w = go (match_or_refusal ctx s x h w)
-  where
-    go : ((ts : List Ty) × (f : Term) × Match ctx s x ts f) ⊎ ((r : MatchRefusal) × RefusesMatch ctx s x r) → Verdict (λ (o : List Ty × Term). Match ctx s x o.0 o.1) (RefusesMatch ctx s x)
-    go (inl m) = holds (m.0, m.1) m.2 (λ o n. let e = match-unique n h.0 w.0 m.0 m.1 m.2 in (λ i. (e.0 i, e.1 i))) (λ r q. not_both ctx s x m.0 m.1 r h w m.2 q)
-    go (inr r) = refuses r.0 r.1 (λ q n. sym (one_refusal ctx s x r.0 q h w r.1 n)) (λ o m. not_both ctx s x o.0 o.1 r.0 h w m r.1)
-
-pub norm-one : (ctx : List Kind) (x : Abs) → OkRight ctx x → One (Norm ctx x)
-norm-one ctx x h = let y = norms.norm_found ctx x h.0 in (y.0, y.1, λ z n. sym (norms.norm_one ctx x y.0 z y.1 n))
 
 -- modules packed
 packed-pure : {ctx : List Kind} {x : Abs} {ts : List Ty} {e c : Term} → Packed ctx (made Pure x ts e) c → Packs ctx ts e (enc_abs x) c

@@ -9,17 +9,8 @@ use Rattle.sig_definitions.specs.Signatures.Sig.{Sig, Abs, Module}
 use Rattle.sig_definitions.specs.Signatures.Alike.{NormalAbs}
 use Rattle.sig_definitions.specs.Lifting.{Lift}
 use Rattle.sig_definitions.specs.Packing.{Packed}
-use Rattle.sig_definitions.specs.QuantifierOrder.{Norm}
-use Rattle.sig_definitions.specs.Matching.Subtyping.{Match}
-use Rattle.sig_definitions.specs.Matching.MatchRefusal.{RefusesMatch}
-use Rattle.sig_definitions.specs.Verdict.{Verdict, One}
-use Rattle.sig_laws.specs.Good.{OkSig, OkRight, NormalTerm, KindedModule}
-
-abbrev pub OneMatchOrRefusal : Type 0
-OneMatchOrRefusal = (ctx : List Kind) (s : Sig) (x : Abs) → OkSig ctx s → OkRight ctx x → Verdict (λ (o : List Ty × Term). Match ctx s x o.0 o.1) (RefusesMatch ctx s x)
-
-abbrev pub OneNorm : Type 0
-OneNorm = (ctx : List Kind) (x : Abs) → OkRight ctx x → One (Norm ctx x)
+use Rattle.sig_definitions.specs.Verdict.{One}
+use Rattle.sig_laws.specs.Good.{NormalTerm, KindedModule}
 
 abbrev pub OneLift : Type 0
 OneLift = (ctx ks : List Kind) (s : Sig) (y : Abs) → NormalAbs ctx (Abs.Ex ks s) → NormalAbs (extend ctx ks) y → One (Lift ctx ks s y)

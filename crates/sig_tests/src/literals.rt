@@ -98,7 +98,8 @@ pub fn closed(alloc: Global, text: &str) -> Result<Ty, Fail> {
     Ok(ty)
 }
 
-fn kind(alloc: Global, literal: KindLit) -> Result<Kind, Mem> {
+/// The kind of a literal.
+pub fn kind(alloc: Global, literal: KindLit) -> Result<Kind, Mem> {
     match literal {
         KindLit::Star => Ok(Kind::Star),
         KindLit::Op => arrow(alloc, Kind::Star, Kind::Star),

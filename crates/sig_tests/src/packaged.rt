@@ -1,26 +1,27 @@
-// Package types of worked signatures, by `pack_type` itself. The two of each pair match each other: they differ in the order
-// in which types are hidden, or in which of two types is the one that is hidden.
+// Encodings and package types of worked signatures, by hand from the rules. The two of each pair match each other: they
+// differ in the order in which types are hidden, or in which of two types is the one that is hidden.
 use crate::literals::KindLit::{Star, Two};
 use crate::literals::SigLit::{Fun, Str, Typ, Val};
 use crate::literals::TyLit::{Apply, Lam, Var};
 use crate::literals::{Ex, SigLit, abs};
+use crate::term_texts::type_has_text;
 use omega_kinds::Effect::Pure;
 use packages::pack_type;
 use semantic_sigs::encode;
 use std::alloc::Global;
 use std::test::Fail;
-use type_normal::{as_normal, same};
+use type_normal::plain;
 
-fn one_package_type(alloc: Global, left: &Ex<'_>, right: &Ex<'_>) -> Result<bool, Fail> {
-    let left = pack_type(alloc, &abs(alloc, left)?)?;
-    let right = pack_type(alloc, &abs(alloc, right)?)?;
-    Ok(same(&left.ty, &right.ty))
+// Whether the encoding of the signature has this text.
+fn is_encoded(alloc: Global, literal: &Ex<'_>, text: &str) -> Result<bool, Fail> {
+    let found = encode(alloc, &abs(alloc, literal)?)?;
+    type_has_text(alloc, &found, text)
 }
 
-fn one_encoding(alloc: Global, left: &Ex<'_>, right: &Ex<'_>) -> Result<bool, Fail> {
-    let left = encode(alloc, &abs(alloc, left)?)?;
-    let right = encode(alloc, &abs(alloc, right)?)?;
-    Ok(same(&as_normal(left), &as_normal(right)))
+// Whether the package type of the signature has this text.
+fn is_packaged(alloc: Global, literal: &Ex<'_>, text: &str) -> Result<bool, Fail> {
+    let found = pack_type(alloc, &abs(alloc, literal)?)?;
+    type_has_text(alloc, plain(&found.ty), text)
 }
 
 // sig type t  type u  val x : t  val y : u end
@@ -45,13 +46,6 @@ const U_FIRST: Ex<'static> = Ex(
     ]),
 );
 
-#[test]
-fn the_order_of_declaration_makes_no_other_type(rt: HostRuntime) -> Result<(), Fail> {
-    assert!(rt; !one_encoding(rt.alloc(), &T_FIRST, &U_FIRST)?);
-    assert!(rt; one_package_type(rt.alloc(), &T_FIRST, &U_FIRST)?);
-    Ok(())
-}
-
 // the hidden operator as a type part, and its flip, which takes its arguments the other way round
 const SAME: SigLit<'static> = SigLit::Two(Lam(&Lam(&Apply(&Apply(&Var(2), &Var(1)), &Var(0)))));
 
@@ -62,12 +56,6 @@ const HIDES_F: Ex<'static> = Ex(&[Two], Str(&[("f", SAME), ("g", FLIPPED)]));
 
 // sig type g : Type -> Type -> Type  type f = fun (a : Type) => fun (b : Type) => g b a end
 const HIDES_G: Ex<'static> = Ex(&[Two], Str(&[("f", FLIPPED), ("g", SAME)]));
-
-#[test]
-fn an_operator_and_its_flip(rt: HostRuntime) -> Result<(), Fail> {
-    assert!(rt; !one_package_type(rt.alloc(), &HIDES_F, &HIDES_G)?);
-    Ok(())
-}
 
 // the type of a functor's result: the hidden operator at the first type of the parameter, and at the second
 const RESULT: Ex<'static> = Ex(
@@ -103,8 +91,47 @@ const B_FIRST: Ex<'static> = Ex(
     )]),
 );
 
+// The text of the encoding of `T_FIRST`, and of the package types of `T_FIRST` and of `U_FIRST`.
+const HIDES_T_AND_U: &str =
+    "(some * (some * (rec (t (rec (.typ (all (> * *) (-> (@ a2 a0) (@ a2 a0)))))) (u (rec (.typ (all (> * *) (-> (@ a2 a1) (@ a2 a1)))))) (x (rec (.val a0))) (y (rec (.val a1))))))";
+
+// Signatures, and the texts of their encodings and of their package types.
+const PACKAGED: [(Ex<'static>, &str, &str); 6] = [
+    // the order of declaration makes no other type
+    (T_FIRST, HIDES_T_AND_U, HIDES_T_AND_U),
+    (
+        U_FIRST,
+        "(some * (some * (rec (t (rec (.typ (all (> * *) (-> (@ a2 a1) (@ a2 a1)))))) (u (rec (.typ (all (> * *) (-> (@ a2 a0) (@ a2 a0)))))) (x (rec (.val a1))) (y (rec (.val a0))))))",
+        HIDES_T_AND_U,
+    ),
+    // an operator and its flip have two
+    (HIDES_F, HIDDEN_F, HIDDEN_F),
+    (HIDES_G, HIDDEN_G, HIDDEN_G),
+    // and so have parameters that hide their types in two orders
+    (A_FIRST, HIDDEN_A_FIRST, HIDDEN_A_FIRST),
+    (B_FIRST, HIDDEN_B_FIRST, HIDDEN_B_FIRST),
+];
+
+const HIDDEN_F: &str =
+    "(some (> * (> * *)) (rec (f (rec (.typ (all (> (> * (> * *)) *) (-> (@ a1 (lam * (lam * (@ (@ a0 a2) a3)))) (@ a1 (lam * (lam * (@ (@ a0 a2) a3))))))))) (g (rec (.typ (all (> (> * (> * *)) *) (-> (@ a1 (lam * (lam * (@ (@ a0 a3) a2)))) (@ a1 (lam * (lam * (@ (@ a0 a3) a2)))))))))))";
+
+const HIDDEN_G: &str =
+    "(some (> * (> * *)) (rec (f (rec (.typ (all (> (> * (> * *)) *) (-> (@ a1 (lam * (lam * (@ (@ a0 a3) a2)))) (@ a1 (lam * (lam * (@ (@ a0 a3) a2))))))))) (g (rec (.typ (all (> (> * (> * *)) *) (-> (@ a1 (lam * (lam * (@ (@ a0 a2) a3)))) (@ a1 (lam * (lam * (@ (@ a0 a2) a3)))))))))))";
+
+const HIDDEN_A_FIRST: &str =
+    "(some (> * (> * *)) (rec (F (all * (all * (-> (rec (a (rec (.typ (all (> * *) (-> (@ a3 a1) (@ a3 a1)))))) (b (rec (.typ (all (> * *) (-> (@ a3 a2) (@ a3 a2))))))) (rec (.app (rec (t (rec (.typ (all (> * *) (-> (@ a3 (@ (@ a0 a1) a2)) (@ a3 (@ (@ a0 a1) a2))))))))))))))))";
+
+const HIDDEN_B_FIRST: &str =
+    "(some (> * (> * *)) (rec (F (all * (all * (-> (rec (a (rec (.typ (all (> * *) (-> (@ a3 a2) (@ a3 a2)))))) (b (rec (.typ (all (> * *) (-> (@ a3 a1) (@ a3 a1))))))) (rec (.app (rec (t (rec (.typ (all (> * *) (-> (@ a3 (@ (@ a0 a1) a2)) (@ a3 (@ (@ a0 a1) a2))))))))))))))))";
+
 #[test]
-fn a_parameter_that_hides_its_types_in_another_order(rt: HostRuntime) -> Result<(), Fail> {
-    assert!(rt; !one_package_type(rt.alloc(), &A_FIRST, &B_FIRST)?);
+fn package_types(rt: HostRuntime) -> Result<(), Fail> {
+    for (literal, encoded, packaged) in &PACKAGED {
+        assert!(rt; is_encoded(rt.alloc(), literal, encoded)?, "at {encoded}");
+        assert!(rt;
+            is_packaged(rt.alloc(), literal, packaged)?,
+            "at {packaged}"
+        );
+    }
     Ok(())
 }

@@ -7,8 +7,6 @@
 
 mod node;
 mod store;
-#[cfg(test)]
-mod tests;
 
 pub use node::{Form, Node};
 pub use store::Store;

@@ -7,14 +7,12 @@ syntax case match
 " Of two matches at one place the later one wins.
 syntax match fingBadByte "[^[:blank:]\r]"
 syntax match fingName "[A-Za-z_][A-Za-z0-9_']*"
-syntax match fingBinding "\%(val\|type\|module\|signature\|include\)[A-Za-z0-9_']\@!"
+syntax match fingBinding "\%(val\|type\|data\|module\|signature\|include\)[A-Za-z0-9_']\@!"
 syntax match fingBlock "\%(struct\|sig\|end\|let\|in\)[A-Za-z0-9_']\@!"
-syntax match fingKeyword "\%(fun\|gen\|fix\|pack\|unpack\|from\|where\)[A-Za-z0-9_']\@!"
-syntax match fingConditional "\%(if\|then\|else\)[A-Za-z0-9_']\@!"
+syntax match fingKeyword "\%(fun\|gen\|fix\|pack\|unpack\|from\|where\|inj\|roll\|unroll\)[A-Za-z0-9_']\@!"
+syntax match fingConditional "\%(if\|then\|else\|case\|of\)[A-Za-z0-9_']\@!"
 syntax match fingBoolean "\%(true\|false\)[A-Za-z0-9_']\@!"
 syntax match fingType "\%(Int\|Bool\|Text\|Type\)[A-Za-z0-9_']\@!"
-" kept for later, and no names
-syntax match fingReserved "\%(case\|of\|inj\|data\|roll\|unroll\)[A-Za-z0-9_']\@!"
 syntax match fingMark "[][(){}.,]"
 syntax match fingOperator ":>\|=>\|->\|==\|[-+*/%<=#:]"
 syntax match fingNumber "\~\=[0-9]\+"
@@ -28,7 +26,6 @@ highlight default link fingKeyword Keyword
 highlight default link fingConditional Conditional
 highlight default link fingBoolean Boolean
 highlight default link fingType Type
-highlight default link fingReserved Error
 highlight default link fingBadByte Error
 highlight default link fingOperator Operator
 highlight default link fingNumber Number

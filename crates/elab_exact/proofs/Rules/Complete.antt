@@ -8,13 +8,14 @@ use Rattle.omega_types.specs.Ty.{Ty}
 use Rattle.omega_terms.specs.Term.{Term}
 use Rattle.sig_definitions.specs.Signatures.Sig.{Abs, Module}
 use Rattle.sig_definitions.specs.Env.{Env}
-use Rattle.fing_syntax.specs.Phrase.{Span, Mod, Bind, BindAt, BindInclude, Binds, SigEx, Decl, Decls, TyEx, TyExs, FieldTyExs, Exp, OpExps, Args, FieldExps}
+use Rattle.fing_syntax.specs.Phrase.{Span, Mod, Bind, BindAt, BindInclude, Binds, SigEx, Decl, Decls, TyEx, TyExs, FieldTyExs, Exp, OpExps, Args, FieldExps, Branches}
 use Rattle.core_judgments.specs.TypeRules.{FieldTy, ArrowGives, AppliedGives}
-use Rattle.core_judgments.specs.ExpRules.{FieldExp, FunctionGives, CallGives, InstanceGives, GetGives, IfGives, OperationGives, FixGives}
-use Rattle.elab_judgments.specs.Judgments.Meaning.{TyMeans, ArgTysMean, FieldTysMean, ExpMeans, OpsMean, ArgsMean, FieldExpsMean, SigMeans, DeclMeans, DeclsMean, ModMeans, BindMeans, BindsMean}
-use Rattle.elab_judgments.specs.Refusals.Task.{Task, Result, Means, a_type, type_args, type_fields, an_exp, operands, args, fields, a_sig, a_decl, decls, a_mod, a_bind, binds}
+use Rattle.core_judgments.specs.ExpRules.{FieldExp, FunctionGives, CallGives, InstanceGives, GetGives, IfGives, OperationGives, FixGives, SumGives, LabelGives, InjectionGives, CaseGives}
+use Rattle.core_judgments.specs.DataRules.{RollGives}
+use Rattle.elab_judgments.specs.Judgments.Meaning.{TyMeans, ArgTysMean, FieldTysMean, ExpMeans, OpsMean, ArgsMean, FieldExpsMean, BranchesMean, SigMeans, DeclMeans, DeclsMean, ModMeans, BindMeans, BindsMean}
+use Rattle.elab_judgments.specs.Refusals.Task.{Task, Result, Means, a_type, type_args, type_fields, an_exp, operands, args, fields, branches, a_sig, a_decl, decls, a_mod, a_bind, binds}
 use Rattle.elab_judgments.specs.Refusals.Rule.{Runs}
-use Rattle.elab_judgments.specs.Refusals.Steps.{steps, type_steps, type_args_steps, type_fields_steps, exp_steps, operands_steps, args_steps, fields_steps, sig_steps, decl_steps, decls_steps, mod_steps, bind_steps, binds_steps}
+use Rattle.elab_judgments.specs.Refusals.Steps.{steps, type_steps, type_args_steps, type_fields_steps, exp_steps, operands_steps, args_steps, fields_steps, branches_steps, sig_steps, decl_steps, decls_steps, mod_steps, bind_steps, binds_steps}
 
 type-runs : {g : Env} {a : TyEx} {t : Ty} {k : Kind} → TyMeans g a t k → Runs (type_steps g a) (t, k)
 type-runs (TyMeans.ty_path p r) = (_, p, (_, r, refl))
@@ -27,6 +28,8 @@ type-runs (TyMeans.ty_fields p r) = (_, p, (_, r, refl))
 type-runs (TyMeans.ty_all p r) = (_, p, (_, r, refl))
 type-runs (TyMeans.ty_lam p r) = (_, p, (_, r, refl))
 type-runs (TyMeans.ty_pack p n) = (_, p, (_, n, refl))
+type-runs (TyMeans.ty_sum p r) = (_, p, (_, r, refl))
+type-runs (TyMeans.ty_mu p r) = (_, p, (_, r, refl))
 
 type_args-runs : {g : Env} {t u : Ty} {k j : Kind} {rest : TyExs} (at : Span) → ArgTysMean g t k rest u j → Runs (type_args_steps g at t k rest) (u, j)
 type_args-runs at ArgTysMean.no_args = refl
@@ -50,6 +53,11 @@ exp-runs (ExpMeans.exp_apply p q) = (_, p, (_, q, refl))
 exp-runs (ExpMeans.exp_fields p r) = (_, p, (_, r, refl))
 exp-runs (ExpMeans.exp_get p (GetGives.get h)) = (_, p, (_, refl, (_, GetGives.get h, refl)))
 exp-runs (ExpMeans.exp_pack f p n m k) = (_, f, (_, p, (_, n, (_, m, (_, k, refl)))))
+exp-runs (ExpMeans.exp_inj p q (InjectionGives.injection h)) =
+    (_, p, (_, q, (tt, refl, (_, SumGives.sum, (_, LabelGives.label h, (_, InjectionGives.injection h, refl))))))
+exp-runs (ExpMeans.exp_case p q r (CaseGives.case_ b o)) = (_, p, (_, SumGives.sum, (_, q, (tt, refl, (_, r, (_, CaseGives.case_ b o, refl))))))
+exp-runs (ExpMeans.exp_roll p q (RollGives.roll n)) = (_, p, (_, q, (tt, refl, (_, refl, (_, RollGives.roll n, refl)))))
+exp-runs (ExpMeans.exp_unroll p r) = (_, p, (_, r, refl))
 
 operands-runs : {g : Env} {t u : Ty} {d e : Term} {rest : OpExps} (at : Span) → OpsMean g t d rest u e → Runs (operands_steps g at t d rest) (u, e)
 operands-runs at OpsMean.no_ops = refl
@@ -63,6 +71,12 @@ args-runs at (ArgsMean.next_type p (InstanceGives.instance n) q) = (_, refl, (_,
 fields-runs : {g : Env} {before : List Name} {rest : FieldExps} {parts : List FieldExp} → FieldExpsMean g before rest parts → Runs (fields_steps g before rest) parts
 fields-runs FieldExpsMean.no_field_exps = refl
 fields-runs (FieldExpsMean.next_field_exp n p q) = (tt, n, (_, p, (_, q, refl)))
+
+branches-runs : {g : Env} {w t : Ty} {before : List Name} {rest : Branches} {parts : List FieldExp}
+    → BranchesMean g w t before rest parts
+    → Runs (branches_steps g w t before rest) parts
+branches-runs BranchesMean.no_branches = refl
+branches-runs (BranchesMean.next_branch n l p q) = (tt, n, (_, l, (_, p, (tt, refl, (_, q, refl)))))
 
 sig-runs : {g : Env} {a : SigEx} {x : Abs} → SigMeans g a x → Runs (sig_steps g a) x
 sig-runs (SigMeans.sig_path p r) = (_, p, (_, r, refl))
@@ -118,6 +132,7 @@ means-runs g (an_exp a) o p = exp-runs p
 means-runs g (operands at t e rest) o p = operands-runs at p
 means-runs g (args at t e rest) o p = args-runs at p
 means-runs g (fields before rest) o p = fields-runs p
+means-runs g (branches w t before rest) o p = branches-runs p
 means-runs g (a_sig a) o p = sig-runs p
 means-runs g (a_decl d) o p = decl-runs p
 means-runs g (decls before ds) o p = decls-runs p

@@ -8,14 +8,15 @@ use Rattle.omega_kinds.specs.Name.{Name}
 use Rattle.omega_types.specs.Ty.{Ty}
 use Rattle.omega_terms.specs.Term.{Term}
 use Rattle.sig_definitions.specs.Signatures.Sig.{Sig, Abs, Module, made}
-use Rattle.sig_definitions.specs.Env.{Env, with_module}
-use Rattle.fing_syntax.specs.Phrase.{Span, SpanName, Mod, ModAt, ModName, ModStruct, ModProject, ModFunctor, ModApply, ModSeal, ModUnpack, Bind, BindAt, BindVal, BindTy, BindModule, BindSignature, BindInclude, Binds, NoBinds, MoreBinds, SigEx, SigAt, PathSig, SigDecls, SigFun, SigRefine, Decl, DeclAt, DeclVal, DeclTyIs, DeclTyOf, DeclModule, DeclSignature, DeclInclude, Decls, NoDecls, MoreDecls, TyEx, TyAt, PathTy, TyInt, TyBool, TyText, TyArrow, TyApply, TyFields, TyAll, TyLam, TyPack, TyExs, NoTys, MoreTys, FieldTyExs, NoFieldTys, MoreFieldTys, Exp, ExpAt, PathExp, ExpInt, ExpBool, ExpText, ExpLam, ExpTyLam, ExpFix, ExpIf, ExpOps, ExpApply, ExpFields, ExpGet, ExpPack, OpExps, NoOps, MoreOps, ArgExp, ArgTy, Args, NoArgs, MoreArgs, FieldExps, NoFieldExps, MoreFieldExps}
+use Rattle.sig_definitions.specs.Env.{Env, Value, with_module}
+use Rattle.fing_syntax.specs.Phrase.{Span, SpanName, Mod, ModAt, ModName, ModStruct, ModProject, ModFunctor, ModApply, ModSeal, ModUnpack, Bind, BindAt, BindVal, BindTy, BindModule, BindSignature, BindInclude, Binds, NoBinds, MoreBinds, SigEx, SigAt, PathSig, SigDecls, SigFun, SigRefine, Decl, DeclAt, DeclVal, DeclTyIs, DeclTyOf, DeclModule, DeclSignature, DeclInclude, Decls, NoDecls, MoreDecls, TyEx, TyAt, PathTy, TyInt, TyBool, TyText, TyArrow, TyApply, TyFields, TyAll, TyLam, TyPack, TySum, TyMu, TyExs, NoTys, MoreTys, FieldTyExs, NoFieldTys, MoreFieldTys, Exp, ExpAt, PathExp, ExpInt, ExpBool, ExpText, ExpLam, ExpTyLam, ExpFix, ExpIf, ExpOps, ExpApply, ExpFields, ExpGet, ExpPack, ExpInj, ExpCase, ExpRoll, ExpUnroll, OpExps, NoOps, MoreOps, ArgExp, ArgTy, Args, NoArgs, MoreArgs, FieldExps, NoFieldExps, MoreFieldExps, Branches, NoBranches, MoreBranches}
 use Rattle.fing_syntax.specs.Place.{name_of}
 use Rattle.core_judgments.specs.TypeRules.{FieldTy}
+use Rattle.core_judgments.specs.ExpRules.{FieldExp}
 use Rattle.elab_judgments.specs.Operators.{functor_effect}
-use Rattle.elab_judgments.specs.Judgments.Meaning.{TyMeans, ArgTysMean, FieldTysMean, ExpMeans, OpsMean, ArgsMean, FieldExpsMean, SigMeans, DeclMeans, DeclsMean, ModMeans, BindMeans, BindsMean}
-use Rattle.elab_judgments.specs.Refusals.Task.{Task, Means, a_type, type_args, type_fields, an_exp, operands, args, fields, a_sig, a_decl, decls, a_mod, a_bind, binds}
-use Rattle.elab_judgments.specs.Refusals.Steps.{steps, type_steps, type_args_steps, type_fields_steps, exp_steps, operands_steps, args_steps, fields_steps, functor_sig, refined, sig_steps, decl_steps, decls_from, decls_steps, generative, functor_of, functor_body, mod_steps, bind_steps, after_bind, after_include, binds_steps}
+use Rattle.elab_judgments.specs.Judgments.Meaning.{TyMeans, ArgTysMean, FieldTysMean, ExpMeans, OpsMean, ArgsMean, FieldExpsMean, BranchesMean, SigMeans, DeclMeans, DeclsMean, ModMeans, BindMeans, BindsMean}
+use Rattle.elab_judgments.specs.Refusals.Task.{Task, Means, a_type, type_args, type_fields, an_exp, operands, args, fields, branches, a_sig, a_decl, decls, a_mod, a_bind, binds}
+use Rattle.elab_judgments.specs.Refusals.Steps.{steps, type_steps, type_args_steps, type_fields_steps, exp_steps, operands_steps, args_steps, fields_steps, branches_steps, functor_sig, refined, sig_steps, decl_steps, decls_from, decls_steps, generative, functor_of, functor_body, mod_steps, bind_steps, after_bind, after_include, binds_steps}
 use Rattle.elab_exact.proofs.Rules.Generic.{Sound}
 
 pub at-kind : {g : Env} {a : TyEx} {t : Ty} {k j : Kind} → k ≡ j → TyMeans g a t k → TyMeans g a t j
@@ -35,6 +36,8 @@ type-sound g (TyAt at (TyFields rest)) = λ parts p row r. TyMeans.ty_fields p r
 type-sound g (TyAt at (TyAll x k b)) = λ t p o r. TyMeans.ty_all p r
 type-sound g (TyAt at (TyLam x k b)) = λ t p o r. TyMeans.ty_lam p r
 type-sound g (TyAt at (TyPack a)) = λ x p y n. TyMeans.ty_pack p n
+type-sound g (TyAt at (TySum rest)) = λ parts p row r. TyMeans.ty_sum p r
+type-sound g (TyAt at (TyMu x b)) = λ t p o r. TyMeans.ty_mu p r
 
 type_args-sound : (g : Env) (at : Span) (t : Ty) (k : Kind) (rest : TyExs) → Sound (type_args_steps g at t k rest) (λ o. ArgTysMean g t k rest o.0 o.1)
 type_args-sound g at t k NoTys = ArgTysMean.no_args
@@ -58,6 +61,10 @@ exp-sound g (ExpAt at (ExpApply a rest)) = λ t p u q. ExpMeans.exp_apply p q
 exp-sound g (ExpAt at (ExpFields rest)) = λ parts p o r. ExpMeans.exp_fields p r
 exp-sound g (ExpAt at (ExpGet a x)) = λ t p row e o h. ExpMeans.exp_get p h
 exp-sound g (ExpAt at (ExpPack x a)) = λ o f y p z n m k d j. ExpMeans.exp_pack f p n k j
+exp-sound g (ExpAt at (ExpInj x a b)) = λ t p u q h e row s v l o r. ExpMeans.exp_inj p q r
+exp-sound g (ExpAt at (ExpCase a b rest)) = λ t p row s u q h e parts r o k. ExpMeans.exp_case p q r k
+exp-sound g (ExpAt at (ExpRoll a b)) = λ t p u q h e body s o r. ExpMeans.exp_roll p q r
+exp-sound g (ExpAt at (ExpUnroll a)) = λ t p o r. ExpMeans.exp_unroll p r
 
 operands-sound : (g : Env) (at : Span) (t : Ty) (e : Term) (rest : OpExps) → Sound (operands_steps g at t e rest) (λ o. OpsMean g t e rest o.0 o.1)
 operands-sound g at t e NoOps = OpsMean.no_ops
@@ -71,6 +78,12 @@ args-sound g at t e (MoreArgs (ArgTy a place) rest) = λ p i u q o f w r. ArgsMe
 fields-sound : (g : Env) (before : List Name) (rest : FieldExps) → Sound (fields_steps g before rest) (FieldExpsMean g before rest)
 fields-sound g before NoFieldExps = FieldExpsMean.no_field_exps
 fields-sound g before (MoreFieldExps x a rest) = λ h n t p parts q. FieldExpsMean.next_field_exp n p q
+
+branches-sound : (g : Env) (w t : Ty) (before : List Name) (rest : Branches) → Sound (branches_steps g w t before rest) (BranchesMean g w t before rest)
+branches-sound g w t before NoBranches = BranchesMean.no_branches
+branches-sound g w t before (MoreBranches x y a rest) =
+    λ h n u l v p i e parts q. subst (λ z. BranchesMean g w t before (MoreBranches x y a rest) (FieldExp.field (name_of x) z v.1 ∷ parts)) (sym e)
+    (BranchesMean.next_branch n l (subst (λ z. ExpMeans (Value (name_of y) u ∷ g) a z v.1) e p) q)
 
 functor_sig-sound : (g : Env) (at : Span) (x : SpanName) (a b : SigEx) (pure : Bool) (y : Abs) → SigMeans g a y → Sound (functor_sig g pure x b y) (SigMeans g (SigAt at (SigFun pure x a b)))
 functor_sig-sound g at x a b false (Abs.Ex ks s) p = λ y q z r. SigMeans.sig_generative p q r
@@ -146,6 +159,7 @@ steps-sound g (an_exp a) = exp-sound g a
 steps-sound g (operands at t e rest) = operands-sound g at t e rest
 steps-sound g (args at t e rest) = args-sound g at t e rest
 steps-sound g (fields before rest) = fields-sound g before rest
+steps-sound g (branches w t before rest) = branches-sound g w t before rest
 steps-sound g (a_sig a) = sig-sound g a
 steps-sound g (a_decl d) = decl-sound g d
 steps-sound g (decls before ds) = decls-sound g before ds

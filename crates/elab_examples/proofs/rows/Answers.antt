@@ -9,6 +9,7 @@ use Rattle.elab_examples.proofs.Functors.{generative_means}
 use Rattle.elab_examples.proofs.FromOutside.{outside_project, outside_seq}
 use Rattle.elab_examples.proofs.Refusals.{hidden_sum_refused, unmatched_refused, missing_refused, other_type_refused}
 use Rattle.elab_examples.proofs.Sharing.{generative_refused, applicative_shares}
+use Rattle.elab_examples.proofs.Sums.{case_program, data_program}
 
 pub returns-clause-empty : goal.returns-clause-empty
 returns-clause-empty c = empty_program
@@ -66,3 +67,9 @@ returns-clause-twice_generative c = generative_refused
 
 pub returns-clause-twice_applicative : goal.returns-clause-twice_applicative
 returns-clause-twice_applicative c = applicative_shares
+
+pub returns-clause-case_of : goal.returns-clause-case_of
+returns-clause-case_of c = case_program
+
+pub returns-clause-data : goal.returns-clause-data
+returns-clause-data c = data_program

@@ -14,11 +14,12 @@ use Rattle.sig_definitions.specs.Matching.Subtyping.{Match}
 use Rattle.sig_definitions.specs.Lifting.{Lift}
 use Rattle.sig_definitions.specs.QuantifierOrder.{Norm}
 use Rattle.sig_definitions.specs.Signatures.FieldOrder.{with_name, with_names}
-use Rattle.fing_syntax.specs.Phrase.{Span, SpanName, Mod, ModAt, ModName, ModStruct, ModProject, ModFunctor, ModApply, ModSeal, ModUnpack, Bind, BindAt, BindVal, BindTy, BindModule, BindSignature, BindInclude, Binds, NoBinds, MoreBinds, SigEx, SigAt, PathSig, SigDecls, SigFun, SigRefine, Decl, DeclAt, DeclVal, DeclTyIs, DeclTyOf, DeclModule, DeclSignature, DeclInclude, Decls, NoDecls, MoreDecls, TyEx, TyAt, PathTy, TyInt, TyBool, TyText, TyArrow, TyApply, TyFields, TyAll, TyLam, TyPack, TyExs, NoTys, MoreTys, FieldTyExs, NoFieldTys, MoreFieldTys, Exp, ExpAt, PathExp, ExpInt, ExpBool, ExpText, ExpLam, ExpTyLam, ExpFix, ExpIf, ExpOps, ExpApply, ExpFields, ExpGet, ExpPack, Op, OpExps, NoOps, MoreOps, ArgExp, ArgTy, Args, NoArgs, MoreArgs, FieldExps, NoFieldExps, MoreFieldExps}
+use Rattle.fing_syntax.specs.Phrase.{Span, SpanName, Mod, ModAt, ModName, ModStruct, ModProject, ModFunctor, ModApply, ModSeal, ModUnpack, Bind, BindAt, BindVal, BindTy, BindModule, BindSignature, BindInclude, Binds, NoBinds, MoreBinds, SigEx, SigAt, PathSig, SigDecls, SigFun, SigRefine, Decl, DeclAt, DeclVal, DeclTyIs, DeclTyOf, DeclModule, DeclSignature, DeclInclude, Decls, NoDecls, MoreDecls, TyEx, TyAt, PathTy, TyInt, TyBool, TyText, TyArrow, TyApply, TyFields, TyAll, TyLam, TyPack, TySum, TyMu, TyExs, NoTys, MoreTys, FieldTyExs, NoFieldTys, MoreFieldTys, Exp, ExpAt, PathExp, ExpInt, ExpBool, ExpText, ExpLam, ExpTyLam, ExpFix, ExpIf, ExpOps, ExpApply, ExpFields, ExpGet, ExpPack, ExpInj, ExpCase, ExpRoll, ExpUnroll, Op, OpExps, NoOps, MoreOps, ArgExp, ArgTy, Args, NoArgs, MoreArgs, FieldExps, NoFieldExps, MoreFieldExps, Branches, NoBranches, MoreBranches}
 use Rattle.fing_syntax.specs.Place.{name_of}
 use Rattle.sig_definitions.specs.Signatures.RecordOrder.{IsNew, AreNew}
 use Rattle.core_judgments.specs.TypeRules.{Base, BaseGives, FieldTy, RecordTypeGives, ArrowGives, AllGives, OperatorGives, AppliedGives}
-use Rattle.core_judgments.specs.ExpRules.{Literal, LiteralGives, FieldExp, RecordGives, FunctionGives, TypeFunctionGives, CallGives, InstanceGives, GetGives, IfGives, OperationGives, FixGives}
+use Rattle.core_judgments.specs.ExpRules.{Literal, LiteralGives, FieldExp, RecordGives, FunctionGives, TypeFunctionGives, CallGives, InstanceGives, GetGives, IfGives, OperationGives, FixGives, LabelGives, InjectionGives, CaseGives}
+use Rattle.core_judgments.specs.DataRules.{MuGives, RollGives, UnrollGives}
 use Rattle.sig_judgments.specs.SigRules.{ValueGives, TypeGives, AbstractGives, ModuleGives, SignatureGives, IncludeGives, DeclarationsGive, GenerativeGives as GenerativeSigGives}
 use Rattle.module_judgments.specs.ModRules.{NamedGives, GenerativeGives, PartsGive, ApplyGives, IncludeGives as IncludeModule, SealGives, ValueGives as ValueModule, TypeGives as TypeModule, SignatureGives as SignatureModule}
 use Rattle.functor_judgments.specs.PureFunctor.{PureFunctorGives}
@@ -65,6 +66,15 @@ mutual
         → SigMeans g s x
         → PackTypeGives (kinds g) x t
         → TyMeans g (TyAt at (TyPack s)) t Kind.Star
+    ty_sum : {g : Env} {at : Span} {labels : FieldTyExs} {parts : List FieldTy} {row : Row}
+        → FieldTysMean g [] labels parts
+        → RecordTypeGives [] parts row
+        → TyMeans g (TyAt at (TySum labels)) (Ty.Sum row) Kind.Star
+    -- the name stands for the recursive type in its body
+    ty_mu : {g : Env} {at : Span} {x : SpanName} {b : TyEx} {t v : Ty} {k l : Kind}
+        → TyMeans (with_type g Kind.Star (name_of x)) b t k
+        → MuGives t k v l
+        → TyMeans g (TyAt at (TyMu x b)) v l
 
   -- an operator of kind k applied to type phrases one after the other
   pub data ArgTysMean : Env → Ty → Kind → TyExs → Ty → Kind → Type 0 where
@@ -75,7 +85,7 @@ mutual
         → ArgTysMean g v i rest w l
         → ArgTysMean g t k (MoreTys a rest) w l
 
-  -- the fields of a record type, after those of the names before
+  -- the fields of a record type, or the labels of a sum, after those of the names before
   pub data FieldTysMean : Env → List Name → FieldTyExs → List FieldTy → Type 0 where
     no_field_tys : {g : Env} {before : List Name} → FieldTysMean g before NoFieldTys []
     next_field_ty : {g : Env} {before : List Name} {x : SpanName} {a : TyEx} {rest : FieldTyExs} {t : Ty} {parts : List FieldTy}
@@ -137,6 +147,26 @@ mutual
         → Match (kinds g) s z ts f
         → PackGives (kinds g) e z ts f t d
         → ExpMeans g (ExpAt at (ExpPack x a)) t d
+    exp_inj : {g : Env} {at : Span} {x : SpanName} {a : Exp} {b : TyEx} {t u v : Ty} {k : Kind} {d e : Term}
+        → ExpMeans g a t d
+        → TyMeans g b u k
+        → InjectionGives (name_of x) t d u k v e
+        → ExpMeans g (ExpAt at (ExpInj x a b)) v e
+    exp_case : {g : Env} {at : Span} {a : Exp} {b : TyEx} {rest : Branches} {parts : List FieldExp} {w t u : Ty} {k : Kind} {d e : Term}
+        → ExpMeans g a w d
+        → TyMeans g b t k
+        → BranchesMean g w t [] rest parts
+        → CaseGives w d t k parts u e
+        → ExpMeans g (ExpAt at (ExpCase a b rest)) u e
+    exp_roll : {g : Env} {at : Span} {a : Exp} {b : TyEx} {t u v : Ty} {k : Kind} {d e : Term}
+        → ExpMeans g a t d
+        → TyMeans g b u k
+        → RollGives (kinds g) t d u k v e
+        → ExpMeans g (ExpAt at (ExpRoll a b)) v e
+    exp_unroll : {g : Env} {at : Span} {a : Exp} {t v : Ty} {d e : Term}
+        → ExpMeans g a t d
+        → UnrollGives (kinds g) t d v e
+        → ExpMeans g (ExpAt at (ExpUnroll a)) v e
 
   -- a chain of operators after a first operand
   pub data OpsMean : Env → Ty → Term → OpExps → Ty → Term → Type 0 where
@@ -169,6 +199,17 @@ mutual
         → ExpMeans g a t e
         → FieldExpsMean g (name_of x ∷ before) rest parts
         → FieldExpsMean g before (MoreFieldExps x a rest) (FieldExp.field (name_of x) t e ∷ parts)
+
+  -- the branches of a case on the sum w, after those of the names before: each is an expression of type t, under a value
+  -- of the type of its label
+  pub data BranchesMean : Env → (w t : Ty) → List Name → Branches → List FieldExp → Type 0 where
+    no_branches : {g : Env} {w t : Ty} {before : List Name} → BranchesMean g w t before NoBranches []
+    next_branch : {g : Env} {w t u : Ty} {before : List Name} {x y : SpanName} {a : Exp} {rest : Branches} {e : Term} {parts : List FieldExp}
+        → IsNew (name_of x) before
+        → LabelGives w (name_of x) u
+        → ExpMeans (Value (name_of y) u ∷ g) a t e
+        → BranchesMean g w t (name_of x ∷ before) rest parts
+        → BranchesMean g w t before (MoreBranches x y a rest) (FieldExp.field (name_of x) t e ∷ parts)
 
   -- SigMeans g S x: the signature phrase S means x
   pub data SigMeans : Env → SigEx → Abs → Type 0 where

@@ -4,6 +4,7 @@ use Rattle.sig_definitions.specs.Env.{Env, kinds}
 use Rattle.sig_definitions.specs.Matching.MatchRefusal.{MatchRefusal}
 use Rattle.fing_syntax.specs.Phrase.{Span}
 use Rattle.core_judgments.specs.CoreWhy.{CoreWhy}
+use Rattle.core_judgments.specs.DataRules.{DataWhy}
 use Rattle.sig_judgments.specs.SigWhy.{SigWhy}
 use Rattle.module_judgments.specs.ModWhy.{ModWhy}
 use Rattle.package_judgments.specs.Package.{UnpackWhy}
@@ -30,6 +31,12 @@ of_core (CoreWhy.Differ t u) = ElabWhy.Differ t u
 of_core (CoreWhy.KindDiffer k j) = ElabWhy.KindDiffer k j
 of_core CoreWhy.NotOperator = ElabWhy.NotOperator
 of_core (CoreWhy.DuplicateField l) = ElabWhy.DuplicateField l
+
+-- why a rule of recursive types is refused
+abbrev pub of_data : DataWhy → ElabWhy
+of_data (DataWhy.NotData t) = ElabWhy.NotData t
+of_data (DataWhy.Differ t u) = ElabWhy.Differ t u
+of_data (DataWhy.KindDiffer k j) = ElabWhy.KindDiffer k j
 
 -- why a rule of signatures or declarations is refused
 abbrev pub of_sig : SigWhy → ElabWhy

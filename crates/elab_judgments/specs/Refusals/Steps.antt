@@ -13,25 +13,26 @@ use Rattle.sig_definitions.specs.Env.{Env, Value, kinds, find, type_vars, with_m
 use Rattle.sig_definitions.specs.Lifting.{Lift}
 use Rattle.sig_definitions.specs.QuantifierOrder.{Norm}
 use Rattle.sig_definitions.specs.Signatures.FieldOrder.{with_name, with_names}
-use Rattle.fing_syntax.specs.Phrase.{Span, SpanName, Mod, ModAt, ModName, ModStruct, ModProject, ModFunctor, ModApply, ModSeal, ModUnpack, Bind, BindAt, BindVal, BindTy, BindModule, BindSignature, BindInclude, Binds, NoBinds, MoreBinds, SigEx, SigAt, PathSig, SigDecls, SigFun, SigRefine, Decl, DeclAt, DeclVal, DeclTyIs, DeclTyOf, DeclModule, DeclSignature, DeclInclude, Decls, NoDecls, MoreDecls, TyEx, TyAt, PathTy, TyInt, TyBool, TyText, TyArrow, TyApply, TyFields, TyAll, TyLam, TyPack, TyExs, NoTys, MoreTys, FieldTyExs, NoFieldTys, MoreFieldTys, Exp, ExpAt, PathExp, ExpInt, ExpBool, ExpText, ExpLam, ExpTyLam, ExpFix, ExpIf, ExpOps, ExpApply, ExpFields, ExpGet, ExpPack, OpExps, NoOps, MoreOps, ArgExp, ArgTy, Args, NoArgs, MoreArgs, FieldExps, NoFieldExps, MoreFieldExps}
+use Rattle.fing_syntax.specs.Phrase.{Span, SpanName, Mod, ModAt, ModName, ModStruct, ModProject, ModFunctor, ModApply, ModSeal, ModUnpack, Bind, BindAt, BindVal, BindTy, BindModule, BindSignature, BindInclude, Binds, NoBinds, MoreBinds, SigEx, SigAt, PathSig, SigDecls, SigFun, SigRefine, Decl, DeclAt, DeclVal, DeclTyIs, DeclTyOf, DeclModule, DeclSignature, DeclInclude, Decls, NoDecls, MoreDecls, TyEx, TyAt, PathTy, TyInt, TyBool, TyText, TyArrow, TyApply, TyFields, TyAll, TyLam, TyPack, TySum, TyMu, TyExs, NoTys, MoreTys, FieldTyExs, NoFieldTys, MoreFieldTys, Exp, ExpAt, PathExp, ExpInt, ExpBool, ExpText, ExpLam, ExpTyLam, ExpFix, ExpIf, ExpOps, ExpApply, ExpFields, ExpGet, ExpPack, ExpInj, ExpCase, ExpRoll, ExpUnroll, OpExps, NoOps, MoreOps, ArgExp, ArgTy, Args, NoArgs, MoreArgs, FieldExps, NoFieldExps, MoreFieldExps, Branches, NoBranches, MoreBranches}
 use Rattle.fing_syntax.specs.Place.{name_of, name_span, mod_span, sig_span, ty_span, exp_span, path_span, decl_span, up_to}
 use Rattle.sig_definitions.specs.Signatures.RecordOrder.{IsNew, AreNew}
 use Rattle.core_judgments.specs.TypeRules.{Base, BaseGives, FieldTy, RecordTypeGives, RecordTypeRefuses, ArrowGives, ArrowRefuses, AllGives, AllRefuses, OperatorGives, AppliedGives, AppliedRefuses}
-use Rattle.core_judgments.specs.ExpRules.{Literal, LiteralGives, FieldExp, RecordGives, RecordRefuses, FunctionGives, FunctionRefuses, TypeFunctionGives, CallGives, CallRefuses, InstanceGives, InstanceRefuses, GetGives, GetRefuses, IfGives, IfRefuses, OperationGives, OperationRefuses, FixGives, FixRefuses}
+use Rattle.core_judgments.specs.ExpRules.{Literal, LiteralGives, FieldExp, RecordGives, RecordRefuses, FunctionGives, FunctionRefuses, TypeFunctionGives, CallGives, CallRefuses, InstanceGives, InstanceRefuses, GetGives, GetRefuses, IfGives, IfRefuses, OperationGives, OperationRefuses, FixGives, FixRefuses, SumGives, SumRefuses, LabelGives, LabelRefuses, InjectionGives, InjectionRefuses, CaseGives, CaseRefuses}
+use Rattle.core_judgments.specs.DataRules.{MuGives, MuRefuses, RollGives, RollRefuses, UnrollGives, UnrollRefuses}
 use Rattle.sig_judgments.specs.SigRules.{ValueGives, ValueRefuses, TypeGives, AbstractGives, ModuleGives, SignatureGives, IncludeGives, IncludeRefuses, DistinctRefuses, DeclarationsGive, WhereRefuses, GenerativeGives as GenerativeSigGives}
 use Rattle.module_judgments.specs.ModRules.{NamedGives, NamedRefuses, ProjectRefuses, TypePathRefuses, ValuePathRefuses, SigPathRefuses, GenerativeGives, PartsGive, FunctorRefuses, ApplyGives, IncludeGives as IncludeModule, IncludeRefuses as IncludeModuleRefuses, SealGives, ValueGives as ValueModule, TypeGives as TypeModule, SignatureGives as SignatureModule}
 use Rattle.functor_judgments.specs.PureFunctor.{PureFunctorGives}
 use Rattle.package_judgments.specs.Package.{PackTypeGives, PackGives, UnpackGives, UnpackRefuses}
-use Rattle.elab_judgments.specs.Refusals.Refusal.{of_core, of_sig, of_mod, of_unpack}
+use Rattle.elab_judgments.specs.Refusals.Refusal.{of_core, of_data, of_sig, of_mod, of_unpack}
 use Rattle.module_judgments.specs.PathUse.{TypeOfPath, ValueOfPath, SigOfPath}
 use Rattle.module_judgments.specs.Projection.{Projected}
 use Rattle.module_judgments.specs.Sequence.{Seq, Collected}
 use Rattle.sig_judgments.specs.SigWhy.{SigWhy}
 use Rattle.sig_judgments.specs.Refinement.{Refined, LeavesAt}
 use Rattle.elab_judgments.specs.Operators.{omega_op, names_of, include_name, with_type}
-use Rattle.refusal_reasons.specs.Refusal.{NotOperator, KindDiffer, Differ, DuplicateField, NotArrow, NotAll, NotRecord, NotStructure}
+use Rattle.refusal_reasons.specs.Refusal.{NotOperator, KindDiffer, Differ, DuplicateField, NotArrow, NotAll, NotRecord, NotData, NotStructure}
 use Rattle.elab_judgments.specs.Refusals.Refusal.{refuse}
-use Rattle.elab_judgments.specs.Refusals.Task.{Task, Result, a_type, type_args, type_fields, an_exp, operands, args, fields, a_sig, a_decl, decls, a_mod, a_bind, binds}
+use Rattle.elab_judgments.specs.Refusals.Task.{Task, Result, a_type, type_args, type_fields, an_exp, operands, args, fields, branches, a_sig, a_decl, decls, a_mod, a_bind, binds}
 use Rattle.elab_judgments.specs.Refusals.Rule.{Rule, some, test, the, stop, by_rule, matched}
 
 -- where the refusal of a fixed type stands: at the name that leads nowhere, at the path to a part that is no hidden type,
@@ -93,6 +94,14 @@ type_steps g (TyAt at (TyPack a)) =
     Rule.need g (a_sig a) λ x.
     the (PackTypeGives (kinds g) x) λ t.
     Rule.gives (t, Kind.Star)
+type_steps g (TyAt at (TySum rest)) =
+    Rule.need g (type_fields [] rest) λ parts.
+    by_rule of_core g at (RecordTypeGives [] parts) (RecordTypeRefuses [] parts) λ row.
+    Rule.gives (Ty.Sum row, Kind.Star)
+type_steps g (TyAt at (TyMu x b)) =
+    Rule.need (with_type g Kind.Star (name_of x)) (a_type b) λ t.
+    by_rule of_data g (ty_span b) (λ (o : Ty × Kind). MuGives t.0 t.1 o.0 o.1) (MuRefuses t.0 t.1) λ o.
+    Rule.gives o
 
 abbrev pub type_args_steps : Env → Span → Ty → Kind → TyExs → Rule (Ty × Kind)
 type_args_steps g at t k NoTys = Rule.gives (t, k)
@@ -177,6 +186,33 @@ exp_steps g (ExpAt at (ExpPack x a)) =
     matched g (sig_span a) o.0 z λ m.
     the (λ (p : Ty × Term). PackGives (kinds g) o.1 z m.0 m.1 p.0 p.1) λ p.
     Rule.gives p
+exp_steps g (ExpAt at (ExpInj x a b)) =
+    Rule.need g (an_exp a) λ t.
+    Rule.need g (a_type b) λ u.
+    star g b u.1 λ h.
+    by_rule of_core g (ty_span b) (SumGives u.0) (SumRefuses u.0) λ row.
+    by_rule of_core g (name_span x) (LabelGives u.0 (name_of x)) (LabelRefuses u.0 (name_of x)) λ v.
+    by_rule of_core g (exp_span a) (λ (o : Ty × Term). InjectionGives (name_of x) t.0 t.1 u.0 u.1 o.0 o.1) (InjectionRefuses (name_of x) t.0 u.0 u.1) λ o.
+    Rule.gives o
+exp_steps g (ExpAt at (ExpCase a b rest)) =
+    Rule.need g (an_exp a) λ t.
+    by_rule of_core g (exp_span a) (SumGives t.0) (SumRefuses t.0) λ row.
+    Rule.need g (a_type b) λ u.
+    star g b u.1 λ h.
+    Rule.need g (branches t.0 u.0 [] rest) λ parts.
+    by_rule of_core g at (λ (o : Ty × Term). CaseGives t.0 t.1 u.0 u.1 parts o.0 o.1) (CaseRefuses t.0 u.0 u.1 parts) λ o.
+    Rule.gives o
+exp_steps g (ExpAt at (ExpRoll a b)) =
+    Rule.need g (an_exp a) λ t.
+    Rule.need g (a_type b) λ u.
+    star g b u.1 λ h.
+    some (λ body. u.0 ≡ Ty.Mu body) (refuse g (ty_span b) (NotData u.0)) λ body.
+    by_rule of_data g (exp_span a) (λ (o : Ty × Term). RollGives (kinds g) t.0 t.1 u.0 u.1 o.0 o.1) (RollRefuses (kinds g) t.0 u.0 u.1) λ o.
+    Rule.gives o
+exp_steps g (ExpAt at (ExpUnroll a)) =
+    Rule.need g (an_exp a) λ t.
+    by_rule of_data g (exp_span a) (λ (o : Ty × Term). UnrollGives (kinds g) t.0 t.1 o.0 o.1) (UnrollRefuses t.0) λ o.
+    Rule.gives o
 
 abbrev pub operands_steps : Env → Span → Ty → Term → OpExps → Rule (Ty × Term)
 operands_steps g at t e NoOps = Rule.gives (t, e)
@@ -209,6 +245,16 @@ fields_steps g before (MoreFieldExps x a rest) =
     Rule.need g (an_exp a) λ t.
     Rule.need g (fields (name_of x ∷ before) rest) λ parts.
     Rule.gives (FieldExp.field (name_of x) t.0 t.1 ∷ parts)
+
+abbrev pub branches_steps : Env → Ty → Ty → List Name → Branches → Rule (List FieldExp)
+branches_steps g w t before NoBranches = Rule.gives []
+branches_steps g w t before (MoreBranches x y a rest) =
+    test (IsNew (name_of x) before) (refuse g (name_span x) (DuplicateField (name_of x))) λ n.
+    by_rule of_core g (name_span x) (LabelGives w (name_of x)) (LabelRefuses w (name_of x)) λ u.
+    Rule.need (Value (name_of y) u ∷ g) (an_exp a) λ v.
+    test (v.0 ≡ t) (refuse g (exp_span a) (Differ v.0 t)) λ h.
+    Rule.need g (branches w t (name_of x ∷ before) rest) λ parts.
+    Rule.gives (FieldExp.field (name_of x) v.0 v.1 ∷ parts)
 
 -- signatures and declarations
 
@@ -376,6 +422,7 @@ steps g (an_exp a) = exp_steps g a
 steps g (operands at t e rest) = operands_steps g at t e rest
 steps g (args at t e rest) = args_steps g at t e rest
 steps g (fields before rest) = fields_steps g before rest
+steps g (branches w t before rest) = branches_steps g w t before rest
 steps g (a_sig a) = sig_steps g a
 steps g (a_decl d) = decl_steps g d
 steps g (decls before ds) = decls_steps g before ds

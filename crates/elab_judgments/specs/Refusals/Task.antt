@@ -6,10 +6,10 @@ use Rattle.omega_types.specs.Ty.{Ty}
 use Rattle.omega_terms.specs.Term.{Term}
 use Rattle.sig_definitions.specs.Signatures.Sig.{Abs, Module}
 use Rattle.sig_definitions.specs.Env.{Env}
-use Rattle.fing_syntax.specs.Phrase.{Span, TyEx, TyExs, FieldTyExs, Exp, OpExps, Args, FieldExps, SigEx, Decl, Decls, Mod, Bind, Binds}
+use Rattle.fing_syntax.specs.Phrase.{Span, TyEx, TyExs, FieldTyExs, Exp, OpExps, Args, FieldExps, Branches, SigEx, Decl, Decls, Mod, Bind, Binds}
 use Rattle.core_judgments.specs.TypeRules.{FieldTy}
 use Rattle.core_judgments.specs.ExpRules.{FieldExp}
-use Rattle.elab_judgments.specs.Judgments.Meaning.{TyMeans, ArgTysMean, FieldTysMean, ExpMeans, OpsMean, ArgsMean, FieldExpsMean, SigMeans, DeclMeans, DeclsMean, ModMeans, BindMeans, BindsMean}
+use Rattle.elab_judgments.specs.Judgments.Meaning.{TyMeans, ArgTysMean, FieldTysMean, ExpMeans, OpsMean, ArgsMean, FieldExpsMean, BranchesMean, SigMeans, DeclMeans, DeclsMean, ModMeans, BindMeans, BindsMean}
 
 pub data Task : Type 0 where
   a_type : TyEx → Task
@@ -21,6 +21,8 @@ pub data Task : Type 0 where
   operands : (before : Span) (left : Ty) (term : Term) (rest : OpExps) → Task
   args : (before : Span) (function : Ty) (term : Term) (rest : Args) → Task
   fields : (before : List Name) (rest : FieldExps) → Task
+  -- branches of a case on a sum, whose result has the type that is written
+  branches : (whole result : Ty) (before : List Name) (rest : Branches) → Task
   a_sig : SigEx → Task
   a_decl : Decl → Task
   decls : (before : List Name) (rest : Decls) → Task
@@ -37,6 +39,7 @@ Result (an_exp a) = Ty × Term
 Result (operands at t e rest) = Ty × Term
 Result (args at t e rest) = Ty × Term
 Result (fields before rest) = List FieldExp
+Result (branches w t before rest) = List FieldExp
 Result (a_sig a) = Abs
 Result (a_decl d) = Abs
 Result (decls before ds) = Abs
@@ -53,6 +56,7 @@ Means g (an_exp a) o = ExpMeans g a o.0 o.1
 Means g (operands at t e rest) o = OpsMean g t e rest o.0 o.1
 Means g (args at t e rest) o = ArgsMean g t e rest o.0 o.1
 Means g (fields before rest) o = FieldExpsMean g before rest o
+Means g (branches w t before rest) o = BranchesMean g w t before rest o
 Means g (a_sig a) o = SigMeans g a o
 Means g (a_decl d) o = DeclMeans g d o
 Means g (decls before ds) o = DeclsMean g before ds o

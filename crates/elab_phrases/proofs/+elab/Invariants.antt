@@ -1,6 +1,6 @@
 use Rattle.std.proofs.Common.{◌*◌, ◌+◌}
-use Rattle.fing_syntax.specs.Size.{mod_size, bind_size, binds_size, sig_size, decl_size, decls_size, ty_size, tys_size, field_tys_size, exp_size, ops_size, args_size, field_exps_size}
-use Rattle.fing_syntax.specs.View.{args, binds, decls, field_exps, field_tys, ops, tys}
+use Rattle.fing_syntax.specs.Size.{mod_size, bind_size, binds_size, sig_size, decl_size, decls_size, ty_size, tys_size, field_tys_size, exp_size, ops_size, args_size, field_exps_size, branches_size}
+use Rattle.fing_syntax.specs.View.{args, binds, branches, decls, field_exps, field_tys, ops, tys}
 use Rattle.elab_phrases.proofs.+elab.Given as goal
 
 abbrev pub decreases-types::ty : goal.decreases-types::ty
@@ -185,3 +185,27 @@ decreases-bindings::binds_from l = 4 * (bind_size l.first.now + binds_size (bind
 
 abbrev pub decreases-bindings::bound : goal.decreases-bindings::bound
 decreases-bindings::bound l = 4 * (bind_size l.first.now + binds_size (binds l.rest.now)) + 4
+
+abbrev pub decreases-types::ty_sum : goal.decreases-types::ty_sum
+decreases-types::ty_sum l = 4 * field_tys_size (field_tys l.labels.now) + 3
+
+abbrev pub decreases-types::ty_mu : goal.decreases-types::ty_mu
+decreases-types::ty_mu l = 4 * ty_size l.body.now + 2
+
+abbrev pub decreases-sums::exp_inj : goal.decreases-sums::exp_inj
+decreases-sums::exp_inj l = 4 * (exp_size l.value.now + ty_size l.target.now) + 2
+
+abbrev pub decreases-sums::exp_case : goal.decreases-sums::exp_case
+decreases-sums::exp_case l = 4 * (exp_size l.whole.now + ty_size l.target.now + branches_size (branches l.branches.now)) + 3
+
+abbrev pub decreases-sums::case_branches : goal.decreases-sums::case_branches
+decreases-sums::case_branches l = 4 * branches_size (branches l.branches.now) + 2
+
+abbrev pub decreases-sums::case_branch : goal.decreases-sums::case_branch
+decreases-sums::case_branch l = 4 * (exp_size l.first.now.body + branches_size (branches l.rest.now)) + 3
+
+abbrev pub decreases-sums::exp_roll : goal.decreases-sums::exp_roll
+decreases-sums::exp_roll l = 4 * (exp_size l.value.now + ty_size l.target.now) + 2
+
+abbrev pub decreases-sums::exp_unroll : goal.decreases-sums::exp_unroll
+decreases-sums::exp_unroll l = 4 * exp_size l.whole.now + 2

@@ -1,5 +1,5 @@
 use Rattle.sig_match_laws.proofs.decided.Goals as goal
-use Rattle.sig_match_laws.proofs.Theorems.{match_or_refusal, sub_or_refusal, sub_abs_or_refusal, not_both, one_refusal, sub_not_both, sub_abs_not_both, one_sub_refusal, one_sub_abs_refusal}
+use Rattle.sig_match_laws.proofs.Theorems.{match_or_refusal, match-verdict, sub_or_refusal, sub_abs_or_refusal, not_both, one_refusal, sub_not_both, sub_abs_not_both, one_sub_refusal, one_sub_abs_refusal}
 
 pub returns-clause-matching : goal.returns-clause-matching
 returns-clause-matching c = match_or_refusal
@@ -27,3 +27,6 @@ returns-clause-one_sub c = one_sub_refusal
 
 pub returns-clause-one_abs : goal.returns-clause-one_abs
 returns-clause-one_abs c = one_sub_abs_refusal
+
+pub returns-clause-verdict : goal.returns-clause-verdict
+returns-clause-verdict c = match-verdict

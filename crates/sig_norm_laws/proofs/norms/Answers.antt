@@ -1,5 +1,5 @@
 use Rattle.sig_norm_laws.proofs.norms.Goals as goal
-use Rattle.sig_norm_laws.proofs.NormClaims.{roots_found, one_least_root, order_found, order_one, norm_found, norm_one, norm_keeps, norm_of_norm}
+use Rattle.sig_norm_laws.proofs.NormClaims.{roots_found, one_least_root, order_found, order_one, norm_found, norm_one, norm-one, norm_keeps, norm_of_norm}
 
 pub returns-clause-roots : goal.returns-clause-roots
 returns-clause-roots c = roots_found
@@ -24,3 +24,6 @@ returns-clause-keeps c = norm_keeps
 
 pub returns-clause-again : goal.returns-clause-again
 returns-clause-again c = norm_of_norm
+
+pub returns-clause-one_norm : goal.returns-clause-one_norm
+returns-clause-one_norm c = norm-one

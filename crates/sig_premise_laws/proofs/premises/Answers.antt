@@ -1,11 +1,5 @@
 use Rattle.sig_premise_laws.proofs.premises.Goals as goal
-use Rattle.sig_premise_laws.proofs.Determined.{match-verdict, norm-one, lift-one, packed-kinded, instance-one}
-
-pub returns-clause-matching : goal.returns-clause-matching
-returns-clause-matching c = match-verdict
-
-pub returns-clause-norm : goal.returns-clause-norm
-returns-clause-norm c = norm-one
+use Rattle.sig_premise_laws.proofs.Determined.{lift-one, packed-kinded, instance-one}
 
 pub returns-clause-lift : goal.returns-clause-lift
 returns-clause-lift c = lift-one

@@ -3,8 +3,8 @@ use Rattle.sig_laws.proofs.Formed.WellFormedShape.{kinded}
 use Rattle.module_judgments.specs.ModRules.{ProjectRefuses}
 use Rattle.module_judgments.specs.Projection.{Projected}
 use Rattle.module_rules.specs.Plain.{plain_why}
-use Rattle.elab_phrases.proofs.Given.{err-map, ok-at}
-use Rattle.elab_phrases.proofs.Placing.{if_some-map}
+use Rattle.elab_rules.proofs.Given.{err-map, ok-at}
+use Rattle.elab_rules.proofs.Placing.{if_some-map}
 use Rattle.fing_elab.proofs.Separate.{both-joined}
 use Rattle.fing_elab.proofs.units.part_of.Goals as goal
 

@@ -1,5 +1,5 @@
 use Rattle.fing_syntax.specs.Leaves.{place}
-use Rattle.elab_phrases.proofs.Given.{err-map, ok-map}
+use Rattle.elab_rules.proofs.Given.{err-map, ok-map}
 use Rattle.fing_elab.proofs.units.sealed_name.Goals as goal
 
 pub returns-clause-given : goal.returns-clause-given

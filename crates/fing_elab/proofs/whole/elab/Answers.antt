@@ -4,8 +4,8 @@ use Rattle.fing_syntax.specs.View.{binds as binds_of}
 use Rattle.elab_judgments.specs.Judgments.Meaning.{BindsMean}
 use Rattle.elab_judgments.specs.Refusals.Task.{binds}
 use Rattle.fing_refusals.specs.Plain.{Says}
-use Rattle.elab_phrases.specs.Answered.{RefusedAs}
-use Rattle.elab_phrases.proofs.Given.{exit}
+use Rattle.elab_rules.specs.Answered.{RefusedAs}
+use Rattle.elab_rules.proofs.Given.{exit}
 use Rattle.fing_elab.specs.Exactly.{IsRefused}
 use Rattle.fing_elab.proofs.Programs.{entered, good, legible, meaning, typed, refused}
 use Rattle.fing_elab.proofs.whole.elab.Goals as goal

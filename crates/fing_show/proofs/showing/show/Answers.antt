@@ -1,5 +1,5 @@
 use Rattle.std.proofs.Common.{List, sym, subst}
-use Rattle.elab_phrases.proofs.Given.{ok-map}
+use Rattle.elab_rules.proofs.Given.{ok-map}
 use Rattle.fing_lexer.specs.declared.token.Token.{Token}
 use Rattle.fing_lexer.specs.Tokens.{TokensOf}
 use Rattle.fing_show.specs.Judged.{Judges}

@@ -1,4 +1,4 @@
-use Rattle.elab_phrases.proofs.Given.{ok-map}
+use Rattle.elab_rules.proofs.Given.{ok-map}
 use Rattle.fing_show.specs.Judged.{JudgesProgram}
 use Rattle.fing_show.proofs.Verdicts.{no-meaning}
 use Rattle.fing_show.proofs.showing.show_program.Goals as goal

@@ -1,5 +1,5 @@
 use Rattle.std.proofs.Common.{subst}
-use Rattle.elab_phrases.proofs.Given.{ok-map}
+use Rattle.elab_rules.proofs.Given.{ok-map}
 use Rattle.parse_grammar.specs.Grammar as the
 use Rattle.parse_grammar.specs.Refusal.{Refuses}
 use Rattle.fing_show.specs.Judged.{JudgesTokens}

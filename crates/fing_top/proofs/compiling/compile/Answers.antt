@@ -2,7 +2,7 @@ use Rattle.fing_top.specs.Compiled.{IsRefused}
 use Rattle.fing_top.specs.Meaning.{one_program}
 use Rattle.fing_top.proofs.Answering.{is_compiled, program_refused}
 use Rattle.fing_top.proofs.compiling.compile.Goals as goal
-use Rattle.elab_phrases.proofs.Given.{exit}
+use Rattle.elab_rules.proofs.Given.{exit}
 
 pub returns-in_err-found-clause-refused : goal.returns-in_err-found-clause-refused
 returns-in_err-found-clause-refused c =

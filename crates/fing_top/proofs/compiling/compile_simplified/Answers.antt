@@ -1,4 +1,4 @@
-use Rattle.elab_phrases.proofs.Given.{exit}
+use Rattle.elab_rules.proofs.Given.{exit}
 use Rattle.fing_top.specs.Compiled.{IsRefused}
 use Rattle.fing_top.specs.Meaning.{one_program}
 use Rattle.fing_top.proofs.Answering.{program_refused}

@@ -1,5 +1,5 @@
 use Rattle.std.proofs.Common.{◌+◌, ◌∙◌, List, [], map, rules, take, sym, ap, subst}
-use Rattle.elab_phrases.proofs.Given.{exit}
+use Rattle.elab_rules.proofs.Given.{exit}
 use Rattle.fing_refusals.specs.Plain.{Says}
 use Rattle.unit_judgments.specs.Link.{UnitModule, interface_of}
 use Rattle.unit_laws.specs.Derived.{UnitsMean, FirstRefused}

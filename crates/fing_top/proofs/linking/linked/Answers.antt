@@ -1,5 +1,5 @@
 use Rattle.std.proofs.Common.{[], arith, rules}
-use Rattle.elab_phrases.proofs.Given.{exit}
+use Rattle.elab_rules.proofs.Given.{exit}
 use Rattle.semantic_sigs.specs.Made.{module_of}
 use Rattle.unit_laws.specs.Derived.{FirstRefused}
 use Rattle.unit_laws.specs.Units.{program_of}

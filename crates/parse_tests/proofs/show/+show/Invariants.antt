@@ -1,6 +1,6 @@
 use Rattle.std.proofs.Common.{◌≤◌, drop}
-use Rattle.fing_syntax.specs.Size.{mod_size, bind_size, binds_size, sig_size, decl_size, decls_size, ty_size, tys_size, field_tys_size, exp_size, ops_size, args_size, field_exps_size}
-use Rattle.fing_syntax.specs.View.{binds, decls, tys, field_tys, ops, args, field_exps}
+use Rattle.fing_syntax.specs.Size.{mod_size, bind_size, binds_size, sig_size, decl_size, decls_size, ty_size, tys_size, field_tys_size, exp_size, ops_size, args_size, field_exps_size, branches_size}
+use Rattle.fing_syntax.specs.View.{binds, decls, tys, field_tys, ops, args, field_exps, branches}
 use Rattle.parse_tests.proofs.show.+show.Given as goal
 
 abbrev pub decreases-module : goal.decreases-module
@@ -42,6 +42,9 @@ decreases-args l = args_size (args l.all.now)
 abbrev pub decreases-field_exps : goal.decreases-field_exps
 decreases-field_exps l = field_exps_size (field_exps l.all.now)
 
+abbrev pub decreases-branches : goal.decreases-branches
+decreases-branches l = branches_size (branches l.all.now)
+
 abbrev pub invariant-binds-loop-item : goal.invariant-binds-loop-item
 invariant-binds-loop-item l = binds_size (binds (drop l.item-index l.all)) ≤ binds_size (binds l.all)
 
@@ -62,3 +65,6 @@ invariant-args-loop-item l = args_size (args (drop l.item-index l.all)) ≤ args
 
 abbrev pub invariant-field_exps-loop-item : goal.invariant-field_exps-loop-item
 invariant-field_exps-loop-item l = field_exps_size (field_exps (drop l.item-index l.all)) ≤ field_exps_size (field_exps l.all)
+
+abbrev pub invariant-branches-loop-item : goal.invariant-branches-loop-item
+invariant-branches-loop-item l = branches_size (branches (drop l.item-index l.all)) ≤ branches_size (branches l.all)

@@ -1,4 +1,0 @@
-pub mod Expressions
-pub mod Modules
-pub mod Signatures
-pub mod Types

@@ -1,5 +1,0 @@
-use Rattle.elab_phrases.proofs.Ruled.{apply-forms}
-use Rattle.elab_phrases.proofs.mod_rules.apply_rule.Goals as goal
-
-pub returns-in-Ok : goal.returns-in-Ok
-returns-in-Ok c = λ ctx f param target left w p q. c.in-Ok.ensures.given ctx w.1 (apply-forms p q)

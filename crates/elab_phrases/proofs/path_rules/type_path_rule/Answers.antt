@@ -1,9 +1,0 @@
-use Rattle.std.proofs.Common.{rules}
-use Rattle.sig_definitions.specs.Env.{kinds}
-use Rattle.module_rules.specs.Plain.{plain_why}
-use Rattle.elab_judgments.specs.Refusals.Refusal.{of_mod}
-use Rattle.elab_phrases.proofs.Placing.{mapped-by}
-use Rattle.elab_phrases.proofs.path_rules.type_path_rule.Goals as goal
-
-pub returns-clause-refused : goal.returns-clause-refused
-returns-clause-refused c = mapped-by of_mod plain_why _ c.path_type.result c.map_err.result c.map_err.ensures.cases c.path_type.ensures.refused (λ w r. r (kinds c.args.env.now) c.requires) (λ w e p. search rules)

@@ -1,5 +1,0 @@
-use Rattle.std.proofs.Common.{length}
-use Rattle.elab_phrases.proofs.places.+name_place.Given as goal
-
-abbrev pub decreases-name_place : goal.decreases-name_place
-decreases-name_place l = length l.rest.now

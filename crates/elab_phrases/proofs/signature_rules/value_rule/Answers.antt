@@ -1,8 +1,0 @@
-use Rattle.std.proofs.Common.{rules}
-use Rattle.sig_rules.specs.Plain.{plain_why}
-use Rattle.elab_judgments.specs.Refusals.Refusal.{of_sig}
-use Rattle.elab_phrases.proofs.Placing.{mapped}
-use Rattle.elab_phrases.proofs.signature_rules.value_rule.Goals as goal
-
-pub returns-clause-refused : goal.returns-clause-refused
-returns-clause-refused c = mapped of_sig plain_why _ c.decl_val.result c.map_err.result c.map_err.ensures.cases c.decl_val.ensures.refused (λ w e p. search rules)

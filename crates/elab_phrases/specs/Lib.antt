@@ -1,4 +1,0 @@
-pub mod Answered
-pub mod Fields
-pub mod Leaving
-pub mod Modules

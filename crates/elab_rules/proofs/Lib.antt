@@ -1,0 +1,12 @@
+pub mod Counting
+pub mod Entering
+pub mod Given
+pub mod Injected
+pub mod LeftPaths
+pub mod Newness
+pub mod Placing
+pub mod Refuse
+pub mod Ruled
+pub mod Slices
+pub mod Standing
+pub mod Stars

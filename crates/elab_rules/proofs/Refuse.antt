@@ -1,0 +1,5 @@
+pub mod Expressions
+pub mod Modules
+pub mod Signatures
+pub mod Sums
+pub mod Types

@@ -1,0 +1,8 @@
+use Rattle.std.proofs.Common.{rules}
+use Rattle.module_rules.specs.Plain.{plain_why}
+use Rattle.elab_judgments.specs.Refusals.Refusal.{of_mod}
+use Rattle.elab_rules.proofs.Placing.{mapped}
+use Rattle.elab_rules.proofs.mod_rules.project_rule.Goals as goal
+
+pub returns-clause-refused : goal.returns-clause-refused
+returns-clause-refused c = mapped of_mod plain_why _ c.project.result c.map_err.result c.map_err.ensures.cases c.project.ensures.refused (λ w e p. search rules)

@@ -1,0 +1,8 @@
+use Rattle.std.proofs.Common.{rules}
+use Rattle.core_rules.specs.Plain.{plain_why}
+use Rattle.elab_judgments.specs.Refusals.Refusal.{of_core}
+use Rattle.elab_rules.proofs.Placing.{mapped}
+use Rattle.elab_rules.proofs.sum_rules.sum_rule.Goals as goal
+
+pub returns-clause-refused : goal.returns-clause-refused
+returns-clause-refused c = mapped of_core plain_why _ c.sum_ty.result c.map_err.result c.map_err.ensures.cases c.sum_ty.ensures.refused (λ w e p. search rules)
