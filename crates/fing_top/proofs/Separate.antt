@@ -1,8 +1,8 @@
 -- Separate units that are elaborated apart and linked.
-use Rattle.std.proofs.Common.{◌≡◌, ◌∙◌, ℕ, suc, ◌+◌, ◌<◌, ◌≤◌, false, Option, Some, None, List, [], ◌∷◌, ◌++◌, length, take, drop, get_or, map, refl, sym, ap, subst, add-one, drop-cons}
+use Rattle.std.proofs.Common.{◌≡◌, ◌∙◌, ℕ, suc, ◌+◌, ◌<◌, ◌≤◌, ◌^◌, false, Option, Some, None, List, [], ◌∷◌, ◌++◌, length, take, drop, get_or, map, arith, refl, sym, ap, subst, add-one, drop-cons}
 use Rattle.std.specs.Prelude.{MatchOption}
 use Rattle.std.proofs.Math.Seq.{take-suc}
-use Rattle.std.proofs.lemmas.List.{map-append, take-append-drop, take_all}
+use Rattle.std.proofs.lemmas.List.{length-map, map-append, take-append-drop, take_all}
 use Rattle.omega_kinds.specs.Name.{Name}
 use Rattle.omega_kinds.specs.declared.effect.Effect.{Effect}
 use Rattle.omega_types.specs.Ty.{Ty}
@@ -20,10 +20,10 @@ use Rattle.elab_laws.proofs.TypedClaims.{whole_is_typed}
 use Rattle.refusal_reasons.specs.Refusal.{Refusal as PlainRefusal}
 use Rattle.elab_judgments.specs.Judgments.Program.{ProgramRefused}
 use Rattle.unit_judgments.specs.Interfaces.{Interface, env_of, sig_in, with_interface}
-use Rattle.unit_judgments.specs.Link.{Differs, Links, OkUnits, UnitModule, UnitUnder, interface_of, links}
+use Rattle.unit_judgments.specs.Link.{Differs, Foreign, Links, OkUnits, UnitModule, UnitUnder, interface_of, links}
 use Rattle.unit_judgments.proofs.Scopes.{env-more}
 use Rattle.unit_judgments.proofs.Walks.{link-is-good}
-use Rattle.unit_laws.specs.Derived.{UnitMeans, UnitRefused, DerivedUnder, UnitsMean, FirstRefused}
+use Rattle.unit_laws.specs.Derived.{UnitMeans, UnitRefused, DerivedUnder, UnitsMean, FirstRefused, DerivesUnits, RefusesUnits}
 use Rattle.unit_laws.specs.Units.{unit_name, program_of}
 use Rattle.unit_laws.proofs.InOrder.{so-far, one-more, first-stop}
 use Rattle.unit_laws.proofs.Apart.{derived-under-is-good, first-is-refused, linked-is-derived, linked-means}
@@ -145,3 +145,30 @@ is_linked {us} {ms} bytes f x ts d e j s h k p q = record {
 -- the refusal of the first unit that is refused is that of the program
 pub first_refused : (us : List UnitTree) (r : PlainRefusal) → FirstRefused [] us r → ProgramRefused (program_of us) r
 first_refused us r h = (first-is-refused us r h).0
+
+-- ---- the same by the three calls, with an environment for each unit
+
+-- no unit is elaborated yet
+pub none_apart : (units : List UnitTree) (done : List CodeUnit) (under : List Interface) → done ≡ [] → under ≡ [] → UnitsMean [] (take 0 units) (units_of done) × (under ≡ map interface_of (units_of done))
+none_apart units done under p q = rw (p, q) (UnitsMean.none, refl)
+
+-- there are as many modules as units
+same_length : {under : List Interface} {us : List UnitTree} {ms : List UnitModule} → UnitsMean under us ms → length ms ≡ length us
+same_length UnitsMean.none = refl
+same_length (UnitsMean.next p rest) = ap suc (same_length rest)
+
+pub few_made : (units : List UnitTree) (done : List CodeUnit) → length units < 2 ^ 32 → UnitsMean [] units (units_of done) → length done < 2 ^ 32
+few_made units done h m = omega (arith, h, same_length m, length-map done unit_of)
+
+pub no_foreign : {us : List UnitTree} {ms : List UnitModule} → UnitsMean [] us ms → (n : ℕ) → Foreign ms n → ⊥
+no_foreign h n f = none_differs h n f.0
+
+-- their link is what the program of the units means
+pub link_means : {us : List UnitTree} {ms : List UnitModule} (m : Module) → UnitsMean [] us ms → Links ms m → (e : Term) × DerivesUnits us m e
+link_means {us} {ms} m h k =
+    let l = linked-is-derived us ms h in
+    (l.packed, subst (λ (n : Module). DerivesUnits us n l.packed) (sym (l.only_link m k)) l.means)
+
+-- and the first refusal is that of the program
+pub refuses_units : (us : List UnitTree) (e : Refusal) → Says e (FirstRefused [] us) → Says e (RefusesUnits us)
+refuses_units us e s = says (e ≡ want_of_memory) (FirstRefused [] us) (RefusesUnits us) (plain_refusal e) (first_refused us) s

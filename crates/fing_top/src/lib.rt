@@ -10,6 +10,7 @@
 // its exit status.
 #![tactic(auto)]
 
+mod apart;
 mod checking;
 mod compiling;
 mod counting;
@@ -22,5 +23,6 @@ mod status;
 mod top;
 mod verifying;
 
+pub use apart::link_apart;
 pub use status::{Status, exit_code};
 pub use top::{emitted_is_verified, fing, one_meaning, one_reply, reply};

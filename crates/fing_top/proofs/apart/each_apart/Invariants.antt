@@ -1,0 +1,9 @@
+use Rattle.std.proofs.Common.{◌≡◌, [], take, map}
+use Rattle.unit_judgments.specs.Link.{interface_of}
+use Rattle.unit_laws.specs.Derived.{UnitsMean}
+use Rattle.fing_units.specs.Units.{units_of}
+use Rattle.fing_top.proofs.apart.each_apart.Given as goal
+
+-- the units so far are elaborated, each under the interfaces of those before it
+abbrev pub invariant-loop-unit : goal.invariant-loop-unit
+invariant-loop-unit l = UnitsMean [] (take l.unit-index l.units) (units_of l.made.items) × (l.under ≡ map interface_of (units_of l.made.items))
