@@ -468,14 +468,24 @@ const REFUSED: [(&str, u32); 42] = [
     ("type t = case {a}", 6),
 ];
 
+const SUM_OF_A_LIST: &str =
+    "data list = case {cons : {head : Int, tail : list}, nil : {}} type cell = case {cons : {head : Int, tail : list}, nil : {}} val empty = roll (inj nil {} : cell) : list val one = roll (inj cons {head = 7, tail = empty} : cell) : list val sum = fix go (l : list) : Int => case unroll l : Int of {cons (c) => c#head + go c#tail, nil (u) => 0} val y = sum one";
+
 // Sources with their numbers of tokens, and how many tokens the fronts have that are programs.
-const FRONTS: [(&str, u32, &[u32]); 8] = [
+const FRONTS: [(&str, u32, &[u32]); 11] = [
     (
         "val o = inj some 3 : case {none : {}, some : Int} val y = case o : Int of {none (u) => 0, some (n) => n + 1}",
         43,
         &[0, 18, 43],
     ),
+    (
+        "val o = inj some 3 : case {none : {}, some : Int} val y = case o : Int of {none (u) => 0}",
+        34,
+        &[0, 18, 34],
+    ),
+    ("val o = inj a 1 : Int", 8, &[0, 8]),
     ("data t = t val f = fun (x : t) => x", 15, &[0, 4, 15]),
+    (SUM_OF_A_LIST, 125, &[0, 22, 44, 58, 79, 120, 124, 125]),
     (
         "signature S = sig data list = case {cons : list, nil : {}} val empty : list end",
         23,

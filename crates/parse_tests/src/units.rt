@@ -121,9 +121,19 @@ fn refused(rt: HostRuntime) -> Result<(), Fail> {
 }
 
 // Texts with their numbers of tokens, and how many tokens the fronts have that are lists of units.
-const FRONTS: [(&str, u32, &[u32]); 2] = [
+const FRONTS: [(&str, u32, &[u32]); 4] = [
     (TWO_UNITS, 42, &[0, 22, 42]),
     (A_DATA_UNIT, 52, &[0, 52]),
+    (
+        "module A : sig val x : Int end = struct val x = true end",
+        16,
+        &[0, 16],
+    ),
+    (
+        "module A : sig type t val x : t end = struct type t = Int val x = 5 end module B : sig val y : Int end = struct val y = A.x + 1 end",
+        42,
+        &[0, 22, 42],
+    ),
 ];
 
 // Each front of a text that is no list of units begins one.

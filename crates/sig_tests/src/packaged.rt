@@ -10,7 +10,7 @@ use packages::pack_type;
 use semantic_sigs::encode;
 use std::alloc::Global;
 use std::test::Fail;
-use type_normal::plain;
+use type_normal::{plain, same};
 
 // Whether the encoding of the signature has this text.
 fn is_encoded(alloc: Global, literal: &Ex<'_>, text: &str) -> Result<bool, Fail> {
@@ -22,6 +22,13 @@ fn is_encoded(alloc: Global, literal: &Ex<'_>, text: &str) -> Result<bool, Fail>
 fn is_packaged(alloc: Global, literal: &Ex<'_>, text: &str) -> Result<bool, Fail> {
     let found = pack_type(alloc, &abs(alloc, literal)?)?;
     type_has_text(alloc, plain(&found.ty), text)
+}
+
+// Whether the package types of two signatures are the same.
+fn are_packaged_alike(alloc: Global, left: &Ex<'_>, right: &Ex<'_>) -> Result<bool, Fail> {
+    let left = pack_type(alloc, &abs(alloc, left)?)?;
+    let right = pack_type(alloc, &abs(alloc, right)?)?;
+    Ok(same(&left.ty, &right.ty))
 }
 
 // sig type t  type u  val x : t  val y : u end
@@ -44,6 +51,18 @@ const U_FIRST: Ex<'static> = Ex(
         ("x", Val(Var(0))),
         ("y", Val(Var(1))),
     ]),
+);
+
+// sig type t  type u  val x : t end
+const T_THEN_U: Ex<'static> = Ex(
+    &[Star, Star],
+    Str(&[("t", Typ(Var(1))), ("u", Typ(Var(0))), ("x", Val(Var(1)))]),
+);
+
+// sig type u  type t  val x : t end
+const U_THEN_T: Ex<'static> = Ex(
+    &[Star, Star],
+    Str(&[("t", Typ(Var(0))), ("u", Typ(Var(1))), ("x", Val(Var(0)))]),
 );
 
 // the hidden operator as a type part, and its flip, which takes its arguments the other way round
@@ -133,5 +152,17 @@ fn package_types(rt: HostRuntime) -> Result<(), Fail> {
             "at {packaged}"
         );
     }
+    Ok(())
+}
+
+#[test]
+fn the_order_of_declaration_makes_no_other_package_type(rt: HostRuntime) -> Result<(), Fail> {
+    assert!(rt; are_packaged_alike(rt.alloc(), &T_THEN_U, &U_THEN_T)?);
+    Ok(())
+}
+
+#[test]
+fn an_operator_and_its_flip_have_two_package_types(rt: HostRuntime) -> Result<(), Fail> {
+    assert!(rt; !are_packaged_alike(rt.alloc(), &HIDES_F, &HIDES_G)?);
     Ok(())
 }
