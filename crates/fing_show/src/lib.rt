@@ -1,4 +1,4 @@
-// What is shown to people of a source: the page of its refusal, or the page of its signature, and the verdict.
+// What is shown to people of a source: the page of its refusal, or of its signature or its term, and the verdict.
 // Stands on fing_lexer, fing_parser and fing_elab (from bytes to a meaning or a refusal), and on the crates show_text
 // to show_syntax (pages).
 // Proved: the verdict is the one of the rules, with the place of a refusal; making the page ends. No clause speaks of
@@ -6,10 +6,16 @@
 #![tactic(auto)]
 
 mod pages;
+#[cfg(test)]
+mod paper_tests;
 mod showing;
 #[cfg(test)]
 mod syntax_tests;
 #[cfg(test)]
+mod term_tests;
+#[cfg(test)]
 mod tests;
+mod view;
 
 pub use showing::{Shown, Verdict, show};
+pub use view::View;

@@ -1,15 +1,19 @@
 // The pages of refusals and of programs.
+use crate::view::View;
+use fing_elab::Elaborated;
 use fing_lexer::{LexRefusal, Token};
 use fing_refusals::Refusal;
 use fing_text::Span;
 use omega_kinds::{Effect, Mem};
 use semantic_sigs::Abs;
+use show_paper::{LATEX, UNICODE, put_program as put_paper};
 use show_reasons::{
     Explanation, explanation_of, lexical_explanation, lexical_place, put_end, put_sentence,
     syntax_explanation,
 };
 use show_sigs::put_program;
 use show_syntax::{followers, put_expected, slip};
+use show_terms::put_term;
 use show_text::{Page, put_excerpt, put_shown};
 use std::alloc::Global;
 
@@ -105,12 +109,24 @@ pub(crate) fn refused_page(
     end_page(page, explanation)
 }
 
-/// The page of a program that means something: its effect and its signature.
-pub(crate) fn accepted_page(alloc: Global, effect: Effect, sig: &Abs) -> Result<Vec<u8>, Mem> {
+/// The page of a program that means something: what the view shows of it.
+pub(crate) fn accepted_page(alloc: Global, view: View, found: &Elaborated) -> Result<Vec<u8>, Mem> {
+    let page = match view {
+        View::Source => source_page(alloc, found.effect, &found.sig)?,
+        View::Paper => put_paper(alloc, &UNICODE, found.effect, &found.sig)?,
+        View::Latex => put_paper(alloc, &LATEX, found.effect, &found.sig)?,
+        View::Term => put_term(alloc, &UNICODE, &found.whole)?,
+        View::TermLatex => put_term(alloc, &LATEX, &found.whole)?,
+    };
+    Ok(page.into_bytes())
+}
+
+// The page of a program in the syntax of a source: its effect and its signature.
+fn source_page(alloc: Global, effect: Effect, sig: &Abs) -> Result<Page, Mem> {
     let mut page = Page::new(alloc);
     page.put(match effect {
         Effect::Pure => b"pure\n".as_slice(),
         Effect::Impure => b"impure\n",
     })?;
-    Ok(put_program(page, sig)?.into_bytes())
+    put_program(page, sig)
 }

@@ -5,6 +5,7 @@ ghost use Rattle.fing_lexer.specs.Tokens.{RefusalOf};
 ghost use Rattle.fing_show.specs.Judged.{IsReported, Judges, JudgesProgram, JudgesTokens};
 
 use crate::pages::{accepted_page, lexical_page, refused_page, syntax_page};
+use crate::view::View;
 use fing_elab::elab;
 use fing_lexer::{LexRefusal, Token, tokens};
 use fing_parser::{ParseRefusal, program};
@@ -36,15 +37,15 @@ pub struct Shown {
 
 /// What is shown of a source of at most 1,048,576 bytes, which a page calls by the name. The verdict is the one that
 /// the rules give. For a refusal the page has the place, an excerpt, a sentence, a hint and where docs/errors.md
-/// explains it, and for a program its effect and its signature. `Err` is out of memory.
+/// explains it, and for a program what the view shows of it. `Err` is out of memory.
 ///
 /// Rossberg, Russo and Dreyer, "F-ing modules", sections 4 to 7, Elaboration.
-pub fn show(alloc: Global, name: &[u8], source: &[u8]) -> Result<Shown, Mem>
+pub fn show(alloc: Global, name: &[u8], source: &[u8], view: View) -> Result<Shown, Mem>
     requires { length source.now ≤ SOURCE_LIMIT }
     ensures { IfOk result (λ s. Judges source.now s.verdict) }
 {
     match tokens(alloc, source) {
-        Ok(tokens) => show_tokens(alloc, name, source, &tokens),
+        Ok(tokens) => show_tokens(alloc, name, source, &tokens, view),
         Err(why) => show_lexical(alloc, name, source, why),
     }
 }
@@ -64,12 +65,18 @@ fn show_lexical(alloc: Global, name: &[u8], source: &[u8], why: LexRefusal) -> R
 }
 
 // What is shown of the tokens of a source.
-fn show_tokens(alloc: Global, name: &[u8], source: &[u8], tokens: &[Token]) -> Result<Shown, Mem>
+fn show_tokens(
+    alloc: Global,
+    name: &[u8],
+    source: &[u8],
+    tokens: &[Token],
+    view: View,
+) -> Result<Shown, Mem>
     requires { length tokens.now ≤ SOURCE_LIMIT }
     ensures { IfOk result (λ s. JudgesTokens tokens.now s.verdict) }
 {
     match program(alloc, tokens) {
-        Ok(program) => show_program(alloc, name, source, &program),
+        Ok(program) => show_program(alloc, name, source, &program, view),
         Err(ParseRefusal::Mem) => Err(Mem),
         Err(ParseRefusal::Syntax { at }) => Ok(Shown {
             verdict: Verdict::NoProgram { at },
@@ -79,13 +86,19 @@ fn show_tokens(alloc: Global, name: &[u8], source: &[u8], tokens: &[Token]) -> R
 }
 
 // What is shown of the program that a source is.
-fn show_program(alloc: Global, name: &[u8], source: &[u8], program: &Program) -> Result<Shown, Mem>
+fn show_program(
+    alloc: Global,
+    name: &[u8],
+    source: &[u8],
+    program: &Program,
+    view: View,
+) -> Result<Shown, Mem>
     ensures { IfOk result (λ s. JudgesProgram program.now s.verdict) }
 {
     match elab(alloc, program) {
         Ok(found) => Ok(Shown {
             verdict: Verdict::Accepted,
-            text: accepted_page(alloc, found.effect, &found.sig)?,
+            text: accepted_page(alloc, view, &found)?,
         }),
         Err(refusal) => show_refusal(alloc, name, source, &refusal),
     }

@@ -1,26 +1,37 @@
 // Pages of sources, written by hand from the rules and from docs/errors.md.
-use crate::{Shown, Verdict, show};
+use crate::{Shown, Verdict, View, show};
 use fing_text::SOURCE_LIMIT;
 use std::alloc::Global;
 use std::process::Abort;
 use std::test::Fail;
 
 // What is shown of a source with a name.
-fn shown(rt: &impl Abort, alloc: Global, source: &str) -> Result<Shown, Fail> {
+fn shown(rt: &impl Abort, alloc: Global, source: &str, view: View) -> Result<Shown, Fail> {
     let bytes = source.as_bytes();
     assert!(rt; bytes.len() <= SOURCE_LIMIT);
-    Ok(show(alloc, b"a.fing", bytes)?)
+    Ok(show(alloc, b"a.fing", bytes, view)?)
 }
 
-/// Asserts that each source has its page, and that they are all accepted, or all refused.
+/// Asserts that each source has its page in the syntax of a source, and that they are all accepted, or all refused.
 pub(crate) fn all_show(
     rt: &impl Abort,
     alloc: Global,
     accepted: bool,
     rows: &[(&str, &str)],
 ) -> Result<(), Fail> {
+    all_show_as(rt, alloc, View::Source, accepted, rows)
+}
+
+/// Asserts that each source has its page in a notation, and that they are all accepted, or all refused.
+pub(crate) fn all_show_as(
+    rt: &impl Abort,
+    alloc: Global,
+    view: View,
+    accepted: bool,
+    rows: &[(&str, &str)],
+) -> Result<(), Fail> {
     for (source, page) in rows {
-        let found = shown(rt, alloc, source)?;
+        let found = shown(rt, alloc, source, view)?;
         let text = String::from_utf8_lossy(alloc, &found.text)?;
         assert_eq!(rt; text.as_str(), *page);
         assert_eq!(rt; found.verdict == Verdict::Accepted, accepted);
@@ -182,6 +193,13 @@ see docs/errors.md#kinddiffer-k-k-notoperator
 #[test]
 fn programs_without_meaning(rt: HostRuntime) -> Result<(), Fail> {
     all_show(&rt, rt.alloc(), false, &WITHOUT_MEANING)
+}
+
+// A refusal is the same in each notation.
+#[test]
+fn refusals_in_other_notations(rt: HostRuntime) -> Result<(), Fail> {
+    all_show_as(&rt, rt.alloc(), View::Paper, false, &WITHOUT_PROGRAM)?;
+    all_show_as(&rt, rt.alloc(), View::Latex, false, &WITHOUT_MEANING)
 }
 
 const SIGNATURES: [(&str, &str); 8] = [

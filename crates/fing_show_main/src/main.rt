@@ -1,12 +1,12 @@
-// The program `fing-show [FILE]`: reads a source, writes its page to standard output, and ends with the status of the
-// verdict. Stands on clap (words), fing_text (bytes in and out) and fing_show (pages).
+// The program `fing-show [--paper | [--latex] [--term]] [FILE]`: reads a source, writes its page to standard output, and
+// ends with the status of the verdict. Stands on clap (words), fing_text (bytes in and out) and fing_show (pages).
 // Proved: it is safe and ends. The verdict is in the contract of `show` of fing_show; no clause speaks of the page or
 // of the exit status.
 #![tactic(auto)]
 
 use clap::error::Error;
 use clap::{Arg, ArgAction, Command};
-use fing_show::{Shown, Verdict, show};
+use fing_show::{Shown, Verdict, View, show};
 use fing_text::{ReadEnd, SOURCE_LIMIT, Source, StdSink, StdSource, put, read_all};
 use std::alloc::{AllocError, Global};
 use std::fs::File;
@@ -38,22 +38,66 @@ fn words(rt: &HostRuntime) -> Result<Vec<String>, Status> {
     Ok(words)
 }
 
-// The command: `FILE`, and the flags for help and the version.
+// A flag.
+fn flag<'a>(alloc: Global, name: &'a str, help: &'a str) -> Arg<'a> {
+    Arg::new(alloc, name)
+        .long(name)
+        .action(ArgAction::SetTrue)
+        .help(help)
+}
+
+// The command: `FILE`, the flags for the notation, and those for help and the version.
 fn command<'a>(alloc: Global) -> Result<Command<'a>, AllocError> {
     let file = Arg::new(alloc, "FILE")
         .action(ArgAction::Set)
         .help("The source; standard input without it");
+    let paper = flag(
+        alloc,
+        "paper",
+        "Shows a signature in the notation of the literature",
+    );
+    let latex = flag(
+        alloc,
+        "latex",
+        "Shows it in this notation, in LaTeX for math mode",
+    );
+    let term = flag(
+        alloc,
+        "term",
+        "Shows the term in this notation; with --latex, in LaTeX",
+    );
     Command::new(alloc, "fing-show")
         .version("0.9.0")
-        .about("Shows why a program is refused, or its signature")
+        .about("Shows why a program is refused, or its signature or its term")
         .no_binary_name(true)
-        .arg(file)
+        .arg(file)?
+        .arg(paper.conflicts_with("latex")?.conflicts_with("term")?)?
+        .arg(latex)?
+        .arg(term)
 }
 
-// The file that the words name, if any; or what clap answers to them.
-fn file_in<'a>(alloc: Global, words: &'a [String]) -> Result<Option<&'a str>, Error> {
+// What the words ask for: a file, or standard input, and how a program is shown.
+#[derive(Clone, Copy, Debug, PartialEq, Eq)]
+struct Wish<'a> {
+    file: Option<&'a str>,
+    view: View,
+}
+
+// What the words ask for; or what clap answers to them.
+fn wish_in<'a>(alloc: Global, words: &'a [String]) -> Result<Wish<'a>, Error> {
     let matches = command(alloc)?.try_get_matches_from(words)?;
-    Ok(matches.get_str("FILE"))
+    let latex = matches.get_flag("latex");
+    let view = match (matches.get_flag("term"), latex) {
+        (true, true) => View::TermLatex,
+        (true, false) => View::Term,
+        (false, true) => View::Latex,
+        (false, false) if matches.get_flag("paper") => View::Paper,
+        (false, false) => View::Source,
+    };
+    Ok(Wish {
+        file: matches.get_str("FILE"),
+        view,
+    })
 }
 
 // Writes what clap answers to words, and gives the status.
@@ -87,8 +131,8 @@ fn bytes_in(rt: &HostRuntime, file: &str) -> Result<Vec<u8>, Status> {
 }
 
 // Shows a file, or standard input.
-fn show_file(rt: &HostRuntime, file: Option<&str>) -> Result<Shown, Status> {
-    let (name, bytes) = match file {
+fn show_file(rt: &HostRuntime, wish: Wish<'_>) -> Result<Shown, Status> {
+    let (name, bytes) = match wish.file {
         Some(file) => (file, bytes_in(rt, file)?),
         None => (
             "<stdin>",
@@ -98,7 +142,7 @@ fn show_file(rt: &HostRuntime, file: Option<&str>) -> Result<Shown, Status> {
     if bytes.len() > SOURCE_LIMIT {
         return Err(Status::TooLong);
     }
-    show(rt.alloc(), name.as_bytes(), &bytes).map_err(|_| Status::NoMemory)
+    show(rt.alloc(), name.as_bytes(), &bytes, wish.view).map_err(|_| Status::NoMemory)
 }
 
 // Writes a page, and gives the status.
@@ -117,11 +161,11 @@ fn main(rt: HostRuntime) -> ExitCode {
         Ok(words) => words,
         Err(status) => return ExitCode::from(status as u8),
     };
-    let file = match file_in(rt.alloc(), &words) {
-        Ok(file) => file,
+    let wish = match wish_in(rt.alloc(), &words) {
+        Ok(wish) => wish,
         Err(error) => return answer_words(&rt, &error),
     };
-    let status = match show_file(&rt, file) {
+    let status = match show_file(&rt, wish) {
         Ok(shown) => write_page(&rt, &shown),
         Err(status) => status,
     };

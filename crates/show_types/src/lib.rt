@@ -13,3 +13,4 @@ mod variables;
 pub use kinds::put_kind;
 pub use naming::{Naming, names_differ};
 pub use types::put_ty;
+pub use variables::eta_variable;

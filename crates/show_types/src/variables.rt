@@ -1,9 +1,9 @@
 // Type constructors that are a variable in eta-long form.
 use omega_types::{Ty, TyNode};
 
-// The index of the variable that a type is, applied to exactly the variables of its own binders in order; as it is
-// written outside these. `None` where the type is none.
-pub(crate) fn eta_variable(ty: &Ty) -> Option<u64> {
+/// The index of the variable that a type is, applied to exactly the variables of its own binders in order; as it is
+/// written outside these. `None` where the type is none.
+pub fn eta_variable(ty: &Ty) -> Option<u64> {
     applied_variable(ty, 0)
 }
 

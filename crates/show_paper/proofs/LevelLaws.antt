@@ -1,0 +1,7 @@
+-- That the names of two levels differ.
+use Rattle.std.proofs.Common.{◌≡◌, ℕ, ◌+◌, ◌*◌, ◌/◌, ◌%◌, arith}
+use Rattle.std.proofs.lemmas.Nat.{div-add-mod'}
+use Rattle.show_paper.specs.Levels.{LevelNamesDiffer}
+
+pub level-names-differ : LevelNamesDiffer
+level-names-differ l m p q = omega (arith, p, q, div-add-mod' l 21, div-add-mod' m 21)
