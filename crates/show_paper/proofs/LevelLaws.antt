@@ -1,5 +1,5 @@
 -- That the names of two levels differ.
-use Rattle.std.proofs.Common.{◌≡◌, ℕ, ◌+◌, ◌*◌, ◌/◌, ◌%◌, arith}
+use Rattle.std.proofs.Common.{arith}
 use Rattle.std.proofs.lemmas.Nat.{div-add-mod'}
 use Rattle.show_paper.specs.Levels.{LevelNamesDiffer}
 
