@@ -1,7 +1,7 @@
-"""How the library crate is built over the crates that `rt ci` proved: for tools/make-library and web/module/build.py.
+"""How a static library is built over the crates that `rt ci` proved: for tools/make-library and web/module/build.py.
 
-`rt ci` leaves the rlibs of the crates below `fing_c` in crates/*/out/rlib. Over these the toolchain proves `fing_c` once more
-and builds it."""
+`rt ci` leaves the rlibs of the crates below the library in crates/*/out/rlib. Over these the toolchain proves its crate once
+more and builds it."""
 import functools
 import pathlib
 import shutil
@@ -53,21 +53,21 @@ def rlib(checkout, name):
     return path
 
 
-def libraries_given(kit, checkout):
-    """The words that hand the libraries below the crate to the compiler."""
+def libraries_given(kit, checkout, crate):
+    """The words that hand the libraries below a crate to the compiler."""
     uses = used_crates()
     words = ["-L", f"dependency={kit}/rlibs"]
-    for name in crates_below(CRATE, uses):
+    for name in crates_below(crate, uses):
         words += ["-L", f"dependency={rlib(checkout, name).parent}"]
-    for name in ["core", "std", *uses[CRATE]]:
+    for name in ["core", "std", *uses[crate]]:
         words += ["--extern", f"{name}={rlib(checkout, name) if name in uses else kit / 'rlibs' / (name + '.rlib')}"]
     return words
 
 
-def build_archive(tools, archive, checkout=TOP):
-    """Proves the crate over the rlibs of a checkout, and builds its static library by the tools of a folder."""
+def build_archive(tools, archive, checkout=TOP, crate=CRATE):
+    """Proves a crate over the rlibs of a checkout, and builds its static library by the tools of a folder."""
     kit = found_kit()
-    words = ["--crate-name", CRATE, "--crate-type", "staticlib", "src/lib.rt", *libraries_given(kit, checkout)]
+    words = ["--crate-name", crate, "--crate-type", "staticlib", "src/lib.rt", *libraries_given(kit, checkout, crate)]
     words += ["--antt-project", kit / "rattle/logic/antt-project.json", "--logic-built", kit / "logic_built"]
     words += ["--toolchain", tools, "--backend", "llvm", "-o", archive]
-    run(kit / "bin/rattle", "build", *words, cwd=TOP / "crates" / CRATE)
+    run(kit / "bin/rattle", "build", *words, cwd=TOP / "crates" / crate)

@@ -1,9 +1,10 @@
 #!/usr/bin/env python3
-"""Puts the playground together: assemble.py [--check] [--module PACKED] [--page PAGE]
+"""Puts the playground together: assemble.py [--check] [--module PACKED] [--show PACKED] [--page PAGE]
 
 The page is page/page.html with the file, or the value, that each mark {{..}} names put in its place. So it holds the
 files of page/ and vendor/, docs/errors.md, the programs and units of examples/ and of docs/tour.md, the grammar of
-editors/textmate, and the packed WebAssembly module PACKED (dist/fing.wasm.gz). It is a function of these files alone.
+editors/textmate, and the packed WebAssembly modules PACKED (dist/fing.wasm.gz and dist/fing-show.wasm.gz). It is a function
+of these files alone.
 It is written to PAGE (docs/playground/index.html); with --check the file PAGE is compared with it, byte for byte.
 Exit status 0 only where the page was written, or is the same."""
 import argparse
@@ -68,12 +69,13 @@ def in_lines(packed):
     return "\n".join(text[at:at + 1024] for at in range(0, len(text), 1024))
 
 
-def assembled(packed):
-    """The whole page."""
+def assembled(module, show):
+    """The whole page, with two packed modules."""
     values = {
         "grammar": in_script(json.loads(lookup("editors/textmate/fing.tmLanguage.json"))),
         "programs": in_script(programs()),
-        "module": in_lines(packed),
+        "module": in_lines(module),
+        "show-module": in_lines(show),
     }
 
     def put(mark):
@@ -90,9 +92,10 @@ def main():
     words = argparse.ArgumentParser(description="Puts the playground together.")
     words.add_argument("--check", action="store_true")
     words.add_argument("--module", type=pathlib.Path, default=TOP / "dist/fing.wasm.gz")
+    words.add_argument("--show", type=pathlib.Path, default=TOP / "dist/fing-show.wasm.gz")
     words.add_argument("--page", type=pathlib.Path, default=TOP / "docs/playground/index.html")
     given = words.parse_args()
-    page = assembled(given.module.read_bytes()).encode()
+    page = assembled(given.module.read_bytes(), given.show.read_bytes()).encode()
     if not given.check:
         given.page.parent.mkdir(parents=True, exist_ok=True)
         given.page.write_bytes(page)

@@ -1,11 +1,12 @@
 #!/usr/bin/env python3
-"""Makes the WebAssembly module out of the library crate fing_c and of the libraries that `rt ci` proved.
+"""Makes a WebAssembly module out of the crate of a static library and of the libraries that `rt ci` proved.
 
-build.py MODULE [--rlibs CHECKOUT]
+build.py MODULE [--crate CRATE] [--rlibs CHECKOUT]
 
-MODULE is the file to write. The libraries of the crates below fing_c are read from crates/*/out/rlib of this checkout,
-or of another checkout of the same files. `rattle build` checks fing_c over them and makes its LLVM module for x86-64.
-The toolchain makes no WebAssembly of a module that takes memory, so this script goes on from there:
+MODULE is the file to write, and CRATE is fing_c or fing_show_c. The libraries of the crates below it are read from
+crates/*/out/rlib of this checkout, or of another checkout of the same files. `rattle build` checks the crate over them and
+makes its LLVM module for x86-64. The toolchain makes no WebAssembly of a module that takes memory, so this script goes on
+from there:
 
 1. it keeps the LLVM module, by a toolchain folder whose clang copies its input and then does its work;
 2. it names WebAssembly with 64-bit addresses as the module's target, in place of x86-64;
@@ -13,9 +14,9 @@ The toolchain makes no WebAssembly of a module that takes memory, so this script
 4. it drops the function table, which is empty;
 5. it makes the addresses 32 bits wide by binaryen's wasm-opt, since every browser runs that form.
 
-The kept module must be the one of the library crates/fing_c/out/libfing_c.a, which tools/make-library makes: the objects
-of both are compared byte for byte. Where there is no such library, it is built a second time by the unchanged toolchain,
-and compared with that. Exit status 0 only where the module was written."""
+The kept module must be the one of the library crates/CRATE/out/libCRATE.a, which tools/make-library makes for fing_c: the
+objects of both are compared byte for byte. Where there is no such library, it is built a second time by the unchanged
+toolchain, and compared with that. Exit status 0 only where the module was written."""
 import argparse
 import pathlib
 import re
@@ -28,7 +29,7 @@ sys.path.insert(0, str(HERE.parent.parent / "tools"))
 sys.dont_write_bytecode = True
 from library import CRATE, TOP, build_archive, found_kit, run
 
-EXPORT = "fing_reply"
+EXPORTS = {"fing_c": "fing_reply", "fing_show_c": "fing_show_page"}
 TARGET = "wasm64-unknown-unknown"
 LAYOUT = "e-m:e-p:64:64-p10:8:8-p20:8:8-i64:64-i128:128-n32:64-S128"
 STACK = 33554432
@@ -57,13 +58,13 @@ def objects_of(library):
     return {name: run(archiver, "p", library, name, capture_output=True).stdout for name in names}
 
 
-def kept_module(checkout, folder):
-    """The LLVM module that the library is made of."""
-    made = TOP / "crates" / CRATE / "out" / f"lib{CRATE}.a"
-    build_archive(keeping_tools(folder), folder / "kept.a", checkout)
+def kept_module(checkout, folder, crate):
+    """The LLVM module that the library of a crate is made of."""
+    made = TOP / "crates" / crate / "out" / f"lib{crate}.a"
+    build_archive(keeping_tools(folder), folder / "kept.a", checkout, crate)
     if not made.is_file():
         made = folder / "plain.a"
-        build_archive(found_kit() / "toolchain", made, checkout)
+        build_archive(found_kit() / "toolchain", made, checkout, crate)
     if not objects_of(folder / "kept.a").items() <= objects_of(made).items():
         sys.exit(f"build.py: the kept module is not the one that {made} was made of")
     return folder / "module.bc"
@@ -139,17 +140,18 @@ def compile_module(text, sources, module, folder):
 
 
 def main():
-    words = argparse.ArgumentParser(description="Makes the WebAssembly module.")
+    words = argparse.ArgumentParser(description="Makes a WebAssembly module.")
     words.add_argument("module", type=pathlib.Path)
+    words.add_argument("--crate", choices=EXPORTS, default=CRATE)
     words.add_argument("--rlibs", type=pathlib.Path, default=TOP)
     given = words.parse_args()
     check_binaryen()
     clang = found_kit() / "toolchain/bin/clang"
     with tempfile.TemporaryDirectory() as name:
         folder = pathlib.Path(name)
-        module = kept_module(given.rlibs.resolve(), folder)
+        module = kept_module(given.rlibs.resolve(), folder, given.crate)
         run(clang, "-S", "-emit-llvm", "-Xclang", "-disable-llvm-passes", "-x", "ir", module, "-o", folder / "module.ll")
-        text = retargeted((folder / "module.ll").read_text(), [EXPORT])
+        text = retargeted((folder / "module.ll").read_text(), [EXPORTS[given.crate]])
         compile_module(text, [HERE / "heap.c"], given.module.resolve(), folder)
 
 

@@ -1,6 +1,8 @@
 // The page: editor, tabs, verdict and explanation, over the calls of the files before this one.
 
 const FIRST = "counter"; // the program that is shown where the link names none
+const FIRST_TAB = "page";
+const VIEWED = ["page", "paper", "term"]; // the tabs that show a page for people
 const WAIT = 200; // milliseconds from the last key to the question
 const LIMIT = 20000; // milliseconds that a question may take
 const PATIENCE = 500; // milliseconds after which the page says that it works on one
@@ -12,7 +14,7 @@ const pieceAt = piecesOf(GRAMMAR);
 const tabs = [...document.querySelectorAll("[role=tab]")];
 const names = PROGRAMS.flatMap(({programs}) => programs.map(it => it.name));
 const draft = keptIn(() => localStorage, "fing.draft"), theme = keptIn(() => localStorage, "fing.theme");
-const state = {command: "check", place: null, marks: [], answered: new Map()};
+const state = {command: FIRST_TAB, place: null, marks: [], answered: new Map()};
 
 // The editor
 
@@ -75,9 +77,14 @@ function showPlace() {
 const workerCode = URL.createObjectURL(new Blob([$("engine").textContent], {type: "text/javascript"}));
 let compiled = null;
 
+async function compiledModule(id) {
+  const packed = fromBase64($(id).textContent.trim());
+  return WebAssembly.compile(await through(packed, new DecompressionStream("gzip")));
+}
+
 async function compile() {
-  const packed = fromBase64($("module").textContent.trim());
-  compiled = await WebAssembly.compile(await through(packed, new DecompressionStream("gzip")));
+  const [fing, show] = await Promise.all(["module", "show-module"].map(compiledModule));
+  compiled = {fing, show};
 }
 
 function start(onAnswer, onBreak) {
@@ -85,25 +92,37 @@ function start(onAnswer, onBreak) {
   worker.onmessage = ({data}) => onAnswer(data);
   worker.onerror = event => onBreak(event.message);
   worker.onmessageerror = () => onBreak("a message was lost");
-  worker.postMessage(compiled);
-  return {post: ({words, source}) => worker.postMessage({words, source}), stop: () => worker.terminate()};
+  worker.postMessage({modules: compiled});
+  return {post: question => worker.postMessage(question), stop: () => worker.terminate()};
 }
 
 let typing = null, patience = null;
 const ask = askerOf({start, tell, limit: LIMIT, grace: GRACE});
 
+// The words for `fing` that the tab asks for. A page for people comes with the reply of `check`, which has the place.
 function wordsNow() {
-  const budget = $("budget").value.trim();
-  if (state.command === "run") return ["run", "--budget", budget];
+  if (VIEWED.includes(state.command)) return ["check"];
+  if (state.command === "run") return ["run", "--budget", $("budget").value.trim()];
   return state.command === "emit" && $("simplify").checked ? ["emit", "--simplify"] : [state.command];
+}
+
+// The view of the tab, or none where it shows a reply.
+function viewNow() {
+  if (!VIEWED.includes(state.command)) return undefined;
+  return state.command !== "page" && $("latex").checked ? `${state.command}-latex` : state.command;
+}
+
+// What is asked, without the source, as one text.
+function keyOf({words, view = ""}) {
+  return [view, ...words].join(" ");
 }
 
 // Asks about what is typed, unless the answer is known.
 function question() {
   clearTimeout(typing);
   if (!compiled) return;
-  const asked = {words: wordsNow(), source: editor.getValue()};
-  const known = state.answered.get(asked.words.join(" "));
+  const asked = {words: wordsNow(), view: viewNow(), source: editor.getValue()};
+  const known = state.answered.get(keyOf(asked));
   if (known && known.source === asked.source) return show(asked, known.answer);
   setBusy(true);
   ask(asked);
@@ -118,27 +137,34 @@ function setBusy(isBusy) {
 }
 
 function tell(asked, answer) {
-  state.answered.set(asked.words.join(" "), {source: asked.source, answer});
-  const isNow = asked.source === editor.getValue() && asked.words.join(" ") === wordsNow().join(" ");
+  state.answered.set(keyOf(asked), {source: asked.source, answer});
+  const isNow = asked.source === editor.getValue() && keyOf(asked) === keyOf({words: wordsNow(), view: viewNow()});
   if (isNow) show(asked, answer);
 }
 
 // Showing
 
-function show({words, source}, answer) {
+function show({words, view, source}, answer) {
   setBusy(false);
   clearMarks();
   const refusal = answer.status === 1 ? refusalOf(answer.reply) : null;
   const place = refusal && placeOf(refusal, source, pieceAt, tokenPlace);
-  const verdict = verdictOf({...answer, words}, place && lineAndColumn(source, place.from));
+  const shown = answer.page ?? answer;
+  const where = place && lineAndColumn(source, place.from);
+  const verdict = verdictOf({...isVerdict(shown) ? answer : shown, words}, where);
   if (place) markPlace(place, noteOf(refusal, source, place, words[0] === "link" ? "text of units" : "program"));
   setVerdict(verdict);
-  showReply(answer.reply);
+  showReply(shown.reply, view !== undefined);
   for (const line of document.querySelectorAll("[data-reading]")) {
-    line.hidden = answer.status !== 0 || line.dataset.reading !== words[0];
+    line.hidden = shown.status !== 0 || line.dataset.reading !== (view ?? words[0]).replace("-latex", "");
   }
   explain(topicOf(answer));
   document.body.dataset.time = answer.time ?? "";
+}
+
+// Whether an answer says that the program is accepted or refused.
+function isVerdict({status}) {
+  return [0, 1].includes(status);
 }
 
 function setVerdict({mood, text}) {
@@ -146,10 +172,26 @@ function setVerdict({mood, text}) {
   if ($("verdict").textContent !== text) $("verdict").textContent = text;
 }
 
-function showReply(reply) {
-  $("reply").textContent = reply.slice(0, SHOWN);
+function showReply(reply, isPage) {
+  const text = reply.slice(0, SHOWN), parts = isPage ? partsOf(text) : null;
+  if (parts) $("reply").replaceChildren(parts.title, excerptBlock(parts.excerpt), parts.rest);
+  else $("reply").textContent = text;
+  makeReachable($("reply").querySelector(".excerpt"));
   $("note").hidden = reply.length <= SHOWN;
   $("note").textContent = `The first ${SHOWN.toLocaleString("en")} of ${reply.length.toLocaleString("en")} characters.`;
+}
+
+// The excerpt of a page for people, in which a mark stands below its phrase, however narrow the window is.
+function excerptBlock(text) {
+  const block = document.createElement("span");
+  block.className = "excerpt";
+  block.textContent = text;
+  return block;
+}
+
+// A block that is wider than its place can be scrolled by keys too.
+function makeReachable(block) {
+  if (block && block.scrollWidth > block.clientWidth) block.tabIndex = 0;
 }
 
 // The explanation out of the page of errors, whose links are read from its own folder.
@@ -217,6 +259,7 @@ function choose(command) {
   $("panel").setAttribute("aria-labelledby", selectedTab().id);
   $("steps").hidden = command !== "run";
   $("simpler").hidden = command !== "emit";
+  $("in-latex").hidden = !["paper", "term"].includes(command);
   question();
 }
 
@@ -249,7 +292,7 @@ function programOf(name) {
 
 // Loads a program of the list. A text of units is shown in the tab of `link`, and another program in another tab.
 function loadProgram({source, name, command}, notice) {
-  if ((command === "link") !== (state.command === "link")) choose(command ?? "check");
+  if ((command === "link") !== (state.command === "link")) choose(command ?? FIRST_TAB);
   load(source, name, notice);
 }
 
@@ -266,6 +309,7 @@ async function loadLink() {
   const fields = await fieldsOf(location.hash).catch(() => null);
   if (fields?.budget) $("budget").value = fields.budget;
   if (fields?.simplify) $("simplify").checked = true;
+  if (fields?.latex) $("latex").checked = true;
   if (fields?.command) choose(fields.command);
   const {name, source, notice} = loadedBy(fields, {names, first: FIRST, draft: draft.read()});
   if (notice) history.replaceState(null, "", exampleFragment(name));
@@ -275,7 +319,8 @@ async function loadLink() {
 
 // Puts the link of what is shown into the address.
 async function setLink() {
-  const shown = {command: state.command, budget: $("budget").value.trim(), simplify: $("simplify").checked};
+  const {checked: simplify} = $("simplify"), {checked: latex} = $("latex");
+  const shown = {command: state.command, budget: $("budget").value.trim(), simplify, latex};
   const fragment = await fragmentOf({source: editor.getValue(), ...shown});
   history.replaceState(null, "", fragment);
 }
@@ -328,6 +373,7 @@ editor.on("change", (_, {origin}) => {
 });
 $("budget").addEventListener("input", askSoon);
 $("simplify").addEventListener("change", question);
+$("latex").addEventListener("change", question);
 $("go").addEventListener("click", showPlace);
 $("copy").addEventListener("click", copyLink);
 $("what").addEventListener("click", showAbout);

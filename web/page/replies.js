@@ -137,4 +137,10 @@ function sectionOf(page, topic) {
   return sections.slice(first, last).flatMap(({lines}) => lines).join("\n").trim();
 }
 
-if (typeof module === "object") module.exports = {refusalOf, indexOfByte, placeOf, lineAndColumn, noteOf, verdictOf, topicOf, sectionOf};
+// The parts of a page for people about a refusal: its title, the lines of the excerpt, and the rest; null for other pages.
+function partsOf(page) {
+  const found = /^(error: [^\n]*\n)( +--> [^\n]*\n(?:[^\n]*\n){3})(.*)$/s.exec(page);
+  return found && {title: found[1], excerpt: found[2], rest: found[3]};
+}
+
+if (typeof module === "object") module.exports = {partsOf, refusalOf, indexOfByte, placeOf, lineAndColumn, noteOf, verdictOf, topicOf, sectionOf};

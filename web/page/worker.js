@@ -1,11 +1,11 @@
-// The worker of the page. Its first message is the compiled module; each further one is a question with words and source.
-let fing;
+// The worker of the page. Its first message is the compiled modules; each further one is a question, as `answererOf` has it.
+let answer;
 onmessage = async ({data}) => {
-  if (data instanceof WebAssembly.Module) {
-    fing = fingOf(data);
+  if (data.modules) {
+    answer = answererOf(data.modules);
     return;
   }
   const began = performance.now();
-  const answer = await fing(data.words, data.source);
-  postMessage({...answer, time: performance.now() - began});
+  const said = await answer(data);
+  postMessage({...said, time: performance.now() - began});
 };

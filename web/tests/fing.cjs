@@ -1,18 +1,18 @@
-// What the tests of the page stand on: the module that the page holds, workers over it, and a count of what was tried.
+// What the tests of the page stand on: the modules that the page holds, workers over them, and a count of what was tried.
 const fs = require("fs"), path = require("path"), zlib = require("zlib");
 const {Worker} = require("worker_threads");
 
 const TOP = path.join(__dirname, "../..");
 const read = name => fs.readFileSync(path.join(TOP, name), "utf8");
 
-// The WebAssembly module out of the page.
-function moduleOfPage() {
+// A WebAssembly module out of the page, by its id there.
+function moduleOfPage(id) {
   const page = read("docs/playground/index.html");
-  const [, text] = /<script type="text\/plain" id="module">([\w+/=\s]*)<\/script>/.exec(page);
+  const [, text] = new RegExp(`<script type="text/plain" id="${id}">([\\w+/=\\s]*)</script>`).exec(page);
   return zlib.gunzipSync(Buffer.from(text, "base64"));
 }
 
-const bytes = moduleOfPage();
+const bytes = {fing: moduleOfPage("module"), show: moduleOfPage("show-module")};
 
 // Starts a worker as the page's asker wants it: its stack in MiB, and its memory in bytes where it has less.
 function starter({stack = 60, memory} = {}) {
@@ -25,15 +25,15 @@ function starter({stack = 60, memory} = {}) {
   };
 }
 
-// A worker that is asked and waited for: {fing(words, source), stop()}.
+// A worker that is asked and waited for: {ask(question), fing(words, source), stop()}.
 function workerOf(limits) {
   let settle;
   const worker = starter(limits)(answer => settle(answer), detail => settle({status: -1, broken: "engine", detail, reply: ""}));
-  const fing = (words, source = "") => new Promise(resolve => {
+  const ask = question => new Promise(resolve => {
     settle = resolve;
-    worker.post({words, source});
+    worker.post(question);
   });
-  return {fing, stop: worker.stop};
+  return {ask, fing: (words, source = "") => ask({words, source}), stop: worker.stop};
 }
 
 const count = {tried: 0, wrong: 0};

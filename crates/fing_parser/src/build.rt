@@ -1,17 +1,28 @@
 // Trees out of the steps in which tokens are read. The steps are played from the last to the first.
-ghost use Rattle.std.specs.Prelude.{◌≡◌, [], Some, None, IfOk, IfErr};
+ghost use Rattle.std.specs.Prelude.{◌≡◌, [], ◌∷◌, Some, None, IfOk, IfErr, OnOk};
 ghost use Rattle.fing_syntax.specs.View.{binds as binds_of};
 ghost use Rattle.parse_grammar.specs.Grammar as the;
 ghost use Rattle.parse_grammar.specs.Steps.{move_in, moves};
+ghost use Rattle.parse_stack.specs.Item.{TokenItem};
 ghost use Rattle.parse_stack.specs.Part.{held};
 ghost use Rattle.parse_stack.specs.Play.{play, play_all, told};
-ghost use Rattle.parse_stack.specs.declared.refusal.BuildRefusal.TheVariants.{Misfit};
+ghost use Rattle.parse_stack.specs.declared.refusal.BuildRefusal.TheVariants.{Mem as WantOfMemory, Misfit};
 
+use fing_lexer::Token;
 use fing_syntax::{Bind, UnitTree};
 use parse_grammar::Step;
 use parse_productions::play as play_rule;
 use parse_stack::{BuildRefusal, Part, Stack};
 use std::alloc::Global;
+
+// Puts a token on the stack. It is not inlined, since only a token needs the room for a part that this takes.
+#[inline(never)]
+fn push_token<'a>(stack: &mut Stack<'a>, token: &'a Token) -> Result<(), BuildRefusal>
+    ensures pushed { OnOk result (held stack.new ≡ TokenItem token.now ∷ held stack.old) }
+    ensures memory { IfErr result (λ e. e ≡ WantOfMemory) }
+{
+    stack.push(Part::Token(token))
+}
 
 // Plays a step.
 fn play_step<'a>(stack: &mut Stack<'a>, alloc: Global, step: Step<'a>) -> Result<(), BuildRefusal>
@@ -19,7 +30,7 @@ fn play_step<'a>(stack: &mut Stack<'a>, alloc: Global, step: Step<'a>) -> Result
     ensures misfit { IfErr result (λ e. e ≡ Misfit → play (move_in step.entry) (held stack.old) ≡ None) }
 {
     match step {
-        Step::Token(token) => stack.push(Part::Token(token)),
+        Step::Token(token) => push_token(stack, token),
         Step::Rule(rule) => play_rule(stack, alloc, rule),
     }
 }

@@ -1,13 +1,21 @@
-// What is shown to people of a source: the page of its refusal, or of its signature or its term, and the verdict.
-// Stands on fing_lexer, fing_parser and fing_elab (from bytes to a meaning or a refusal), and on the crates show_text
-// to show_syntax (pages).
+// What is shown to people of a source: the page of its refusal, or of its signature, its term or a phrase, and the verdict.
+// Stands on fing_lexer, fing_parser, fing_elab and elab_phrases (from bytes to a meaning or a refusal), and on the crates
+// show_text to show_syntax (pages).
 // Proved: the verdict is the one of the rules, with the place of a refusal; making the page ends. No clause speaks of
 // the page: that it belongs to the verdict, and all that it says, is only tested.
 #![tactic(auto)]
 
+#[cfg(test)]
+mod name_tests;
+mod omega;
+#[cfg(test)]
+mod omega_tests;
 mod pages;
 #[cfg(test)]
 mod paper_tests;
+#[cfg(test)]
+mod phrase_tests;
+mod places;
 mod showing;
 #[cfg(test)]
 mod syntax_tests;

@@ -1,27 +1,43 @@
 // The pages of refusals and of programs.
+ghost use Rattle.std.specs.Prelude.{[]};
+ghost use Rattle.omega_terms.specs.Typing.{HasType};
+ghost use Rattle.sig_definitions.specs.Signatures.Encoding.{enc_abs};
+
+use crate::omega::omega_page;
+use crate::places::meaning_at;
 use crate::view::View;
 use fing_elab::Elaborated;
 use fing_lexer::{LexRefusal, Token};
 use fing_refusals::Refusal;
+use fing_syntax::Program;
 use fing_text::Span;
-use omega_kinds::{Effect, Mem};
+use omega_kinds::{Effect, Mem, Name};
 use semantic_sigs::Abs;
 use show_paper::{LATEX, UNICODE, put_program as put_paper};
+use show_places::{offset_at, phrase_at};
 use show_reasons::{
     Explanation, explanation_of, lexical_explanation, lexical_place, put_end, put_sentence,
     syntax_explanation,
 };
-use show_sigs::put_program;
+use show_sigs::{put_phrase, put_program};
 use show_syntax::{followers, put_expected, slip};
 use show_terms::put_term;
 use show_text::{Page, put_excerpt, put_shown};
 use std::alloc::Global;
 
-// A source with the name by which a page calls it.
+/// A source with the name by which a page calls it.
 #[derive(Clone, Copy)]
-struct Named<'a> {
-    name: &'a [u8],
-    source: &'a [u8],
+pub(crate) struct Named<'a> {
+    pub(crate) name: &'a [u8],
+    pub(crate) source: &'a [u8],
+}
+
+/// A source, its tokens, and what is to be shown of its program.
+#[derive(Clone, Copy)]
+pub(crate) struct Given<'a> {
+    pub(crate) named: Named<'a>,
+    pub(crate) tokens: &'a [Token],
+    pub(crate) view: View,
 }
 
 // Begins the page of a refusal: its title, and an excerpt of its place.
@@ -58,20 +74,15 @@ pub(crate) fn lexical_page(
 }
 
 /// The page of tokens that form no program, of which the longest prefix that begins some program has `at` tokens.
-pub(crate) fn syntax_page(
-    alloc: Global,
-    name: &[u8],
-    source: &[u8],
-    tokens: &[Token],
-    at: u32,
-) -> Result<Vec<u8>, Mem> {
+pub(crate) fn syntax_page(alloc: Global, given: Given<'_>, at: u32) -> Result<Vec<u8>, Mem> {
+    let tokens = given.tokens;
     let at = at as usize;
     let expected = followers(alloc, tokens, at)?;
     let explanation = syntax_explanation(slip(tokens, at, &expected));
     let place = syntax_place(tokens, at);
-    let mut page = begin_page(alloc, Named { name, source }, explanation.title, place)?;
+    let mut page = begin_page(alloc, given.named, explanation.title, place)?;
     if place.from < place.to {
-        put_token(&mut page, source, place)?;
+        put_token(&mut page, given.named.source, place)?;
     } else {
         page.put_all(&[explanation.sentence.as_bytes(), b"\n"])?;
     }
@@ -96,29 +107,63 @@ fn put_token(page: &mut Page, source: &[u8], at: Span) -> Result<(), Mem> {
     page.put(b"` here.\n")
 }
 
-/// The page of a program that means nothing for this reason.
+/// The page of a program that means nothing for this reason, where the outermost type variables in scope have these
+/// names.
 pub(crate) fn refused_page(
     alloc: Global,
-    name: &[u8],
-    source: &[u8],
+    named: Named<'_>,
+    names: Vec<Option<Name>>,
     refusal: &Refusal,
 ) -> Result<Vec<u8>, Mem> {
     let explanation = explanation_of(&refusal.why);
-    let mut page = begin_page(alloc, Named { name, source }, explanation.title, refusal.at)?;
-    put_sentence(&mut page, Vec::new(alloc), refusal, explanation)?;
+    let mut page = begin_page(alloc, named, explanation.title, refusal.at)?;
+    put_sentence(&mut page, names, refusal, explanation)?;
     end_page(page, explanation)
 }
 
 /// The page of a program that means something: what the view shows of it.
-pub(crate) fn accepted_page(alloc: Global, view: View, found: &Elaborated) -> Result<Vec<u8>, Mem> {
-    let page = match view {
+pub(crate) fn accepted_page(
+    alloc: Global,
+    given: Given<'_>,
+    program: &Program,
+    found: &Elaborated,
+) -> Result<Vec<u8>, Mem>
+    requires { HasType [] [] found.now.whole (enc_abs found.now.sig) }
+{
+    let page = match given.view {
         View::Source => source_page(alloc, found.effect, &found.sig)?,
         View::Paper => put_paper(alloc, &UNICODE, found.effect, &found.sig)?,
         View::Latex => put_paper(alloc, &LATEX, found.effect, &found.sig)?,
         View::Term => put_term(alloc, &UNICODE, &found.whole)?,
         View::TermLatex => put_term(alloc, &LATEX, &found.whole)?,
+        View::Phrase { line, column } => phrase_page(alloc, given, program, (line, column))?,
+        View::TermOmega => return omega_page(alloc, found),
     };
     Ok(page.into_bytes())
+}
+
+// The page of the smallest phrase at a line and a column.
+fn phrase_page(
+    alloc: Global,
+    given: Given<'_>,
+    program: &Program,
+    place: (u64, u64),
+) -> Result<Page, Mem> {
+    let source = given.named.source;
+    let at = offset_at(alloc, source, given.tokens, place.0, place.1)?;
+    let mut page = Page::new(alloc);
+    let Some(found) = at.and_then(|at| phrase_at(program, at)) else {
+        page.put(b"No phrase stands at this place.\n")?;
+        return Ok(page);
+    };
+    put_excerpt(&mut page, given.named.name, source, found.span)?;
+    match meaning_at(alloc, given.tokens, found)? {
+        Some(meaning) => put_phrase(page, meaning.names, &meaning.abs),
+        None => {
+            page.put(b"Nothing is shown of this phrase.\n")?;
+            Ok(page)
+        }
+    }
 }
 
 // The page of a program in the syntax of a source: its effect and its signature.

@@ -4,7 +4,8 @@ ghost use Rattle.fing_lexer.specs.declared.lexer.LexRefusal.TheVariants.{Mem as 
 ghost use Rattle.fing_lexer.specs.Tokens.{RefusalOf};
 ghost use Rattle.fing_show.specs.Judged.{IsReported, Judges, JudgesProgram, JudgesTokens};
 
-use crate::pages::{accepted_page, lexical_page, refused_page, syntax_page};
+use crate::pages::{Given, Named, accepted_page, lexical_page, refused_page, syntax_page};
+use crate::places::names_at;
 use crate::view::View;
 use fing_elab::elab;
 use fing_lexer::{LexRefusal, Token, tokens};
@@ -45,7 +46,7 @@ pub fn show(alloc: Global, name: &[u8], source: &[u8], view: View) -> Result<Sho
     ensures { IfOk result (λ s. Judges source.now s.verdict) }
 {
     match tokens(alloc, source) {
-        Ok(tokens) => show_tokens(alloc, name, source, &tokens, view),
+        Ok(tokens) => show_tokens(alloc, Named { name, source }, &tokens, view),
         Err(why) => show_lexical(alloc, name, source, why),
     }
 }
@@ -65,54 +66,53 @@ fn show_lexical(alloc: Global, name: &[u8], source: &[u8], why: LexRefusal) -> R
 }
 
 // What is shown of the tokens of a source.
-fn show_tokens(
-    alloc: Global,
-    name: &[u8],
-    source: &[u8],
-    tokens: &[Token],
-    view: View,
-) -> Result<Shown, Mem>
+fn show_tokens(alloc: Global, named: Named<'_>, tokens: &[Token], view: View) -> Result<Shown, Mem>
     requires { length tokens.now ≤ SOURCE_LIMIT }
     ensures { IfOk result (λ s. JudgesTokens tokens.now s.verdict) }
 {
+    let given = Given {
+        named,
+        tokens,
+        view,
+    };
     match program(alloc, tokens) {
-        Ok(program) => show_program(alloc, name, source, &program, view),
+        Ok(program) => show_program(alloc, given, program),
         Err(ParseRefusal::Mem) => Err(Mem),
         Err(ParseRefusal::Syntax { at }) => Ok(Shown {
             verdict: Verdict::NoProgram { at },
-            text: syntax_page(alloc, name, source, tokens, at)?,
+            text: syntax_page(alloc, given, at)?,
         }),
     }
 }
 
 // What is shown of the program that a source is.
-fn show_program(
-    alloc: Global,
-    name: &[u8],
-    source: &[u8],
-    program: &Program,
-    view: View,
-) -> Result<Shown, Mem>
-    ensures { IfOk result (λ s. JudgesProgram program.now s.verdict) }
+fn show_program(alloc: Global, given: Given<'_>, program: Program) -> Result<Shown, Mem>
+    ensures { IfOk result (λ s. JudgesProgram program s.verdict) }
 {
-    match elab(alloc, program) {
+    match elab(alloc, &program) {
         Ok(found) => Ok(Shown {
             verdict: Verdict::Accepted,
-            text: accepted_page(alloc, view, &found)?,
+            text: accepted_page(alloc, given, &program, &found)?,
         }),
-        Err(refusal) => show_refusal(alloc, name, source, &refusal),
+        Err(refusal) => show_refusal(alloc, given.named, program, &refusal),
     }
 }
 
-// What is shown of a refusal, which may be out of memory.
-fn show_refusal(alloc: Global, name: &[u8], source: &[u8], refusal: &Refusal) -> Result<Shown, Mem>
+// What is shown of a refusal of a program, which may be out of memory.
+fn show_refusal(
+    alloc: Global,
+    named: Named<'_>,
+    program: Program,
+    refusal: &Refusal,
+) -> Result<Shown, Mem>
     ensures { IfOk result (λ s. IsReported refusal.now s.verdict) }
 {
     if let ElabWhy::Mem = refusal.why {
         return Err(Mem);
     }
+    let names = names_at(alloc, program, refusal)?;
     Ok(Shown {
         verdict: Verdict::NoMeaning { at: refusal.at },
-        text: refused_page(alloc, name, source, refusal)?,
+        text: refused_page(alloc, named, names, refusal)?,
     })
 }

@@ -109,7 +109,7 @@ fn sources_without_program(rt: HostRuntime) -> Result<(), Fail> {
     all_show(&rt, rt.alloc(), false, &WITHOUT_PROGRAM)
 }
 
-const WITHOUT_MEANING: [(&str, &str); 6] = [
+pub(crate) const WITHOUT_MEANING: [(&str, &str); 6] = [
     (
         "val x = y",
         "error: unbound name
@@ -134,8 +134,7 @@ val a = Money.make 150 + 50
   |
 5 | val a = Money.make 150 + 50
   |         ^^^^^^^^^^^^^^
-This has the type `?0`, and the type `Int` is needed.
-note: `?N` is a hidden type or a type parameter: the one that `check` calls `aN`
+This has the type `Money.t`, and the type `Int` is needed.
 hint: Nothing is converted. A hidden type is equal only to itself: say what it is with `where type`.
 see docs/errors.md#differ-t-t
 ",

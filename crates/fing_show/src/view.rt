@@ -13,4 +13,8 @@ pub enum View {
     Term,
     /// The same in LaTeX for math mode.
     TermLatex,
+    /// The type and the whole term as Omega text, with line breaks and comments.
+    TermOmega,
+    /// The smallest phrase at a line and a column, both counted from 1, and its type, kind or signature.
+    Phrase { line: u64, column: u64 },
 }

@@ -1,13 +1,20 @@
-// The program `fing-show [--paper | [--latex] [--term]] [FILE]`: reads a source, writes its page to standard output, and
-// ends with the status of the verdict. Stands on clap (words), fing_text (bytes in and out) and fing_show (pages).
+// The program `fing-show [--color WHEN] [--paper | [--latex | --omega] [--term] | --type-at LINE:COLUMN] [FILE]`: reads a
+// source, writes its page, or with `--omega` compact Omega text, to standard output, and ends with the status of the
+// verdict. Stands on clap (words), fing_text (bytes in and out), fing_show (pages), show_colour (pages in colour) and
+// omega_compact (compact text).
 // Proved: it is safe and ends. The verdict is in the contract of `show` of fing_show; no clause speaks of the page or
 // of the exit status.
 #![tactic(auto)]
 
+mod colour;
+
+use crate::colour::{Colour, colour_in, colour_option, is_coloured};
 use clap::error::Error;
 use clap::{Arg, ArgAction, Command};
 use fing_show::{Shown, Verdict, View, show};
 use fing_text::{ReadEnd, SOURCE_LIMIT, Source, StdSink, StdSource, put, read_all};
+use omega_compact::compact;
+use show_colour::coloured;
 use std::alloc::{AllocError, Global};
 use std::fs::File;
 use std::process::ExitCode;
@@ -66,6 +73,16 @@ fn command<'a>(alloc: Global) -> Result<Command<'a>, AllocError> {
         "term",
         "Shows the term in this notation; with --latex, in LaTeX",
     );
+    let omega = flag(
+        alloc,
+        "omega",
+        "Makes Omega text with line breaks and comments compact; with --term, shows the term as such text",
+    );
+    let place = Arg::new(alloc, "type-at")
+        .long("type-at")
+        .action(ArgAction::Set)
+        .value_name("LINE:COLUMN")
+        .help("Shows the type, kind or signature of the smallest phrase there");
     Command::new(alloc, "fing-show")
         .version("0.9.0")
         .about("Shows why a program is refused, or its signature or its term")
@@ -73,14 +90,35 @@ fn command<'a>(alloc: Global) -> Result<Command<'a>, AllocError> {
         .arg(file)?
         .arg(paper.conflicts_with("latex")?.conflicts_with("term")?)?
         .arg(latex)?
-        .arg(term)
+        .arg(term)?
+        .arg(omega.conflicts_with("paper")?.conflicts_with("latex")?)?
+        .arg(
+            place
+                .conflicts_with("paper")?
+                .conflicts_with("latex")?
+                .conflicts_with("term")?
+                .conflicts_with("omega")?,
+        )?
+        .arg(colour_option(alloc))
 }
 
-// What the words ask for: a file, or standard input, and how a program is shown.
+// What is done with what is read.
+#[derive(Clone, Copy, Debug, PartialEq, Eq)]
+enum Task<'a> {
+    // It is shown as a program, or why it is none.
+    Show(View),
+    // The phrase at this place of it is shown.
+    ShowAt(&'a str),
+    // It is made compact Omega text.
+    Compact,
+}
+
+// What the words ask for: a file, or standard input, what is done with it, and when a page is in colour.
 #[derive(Clone, Copy, Debug, PartialEq, Eq)]
 struct Wish<'a> {
     file: Option<&'a str>,
-    view: View,
+    task: Task<'a>,
+    colour: Colour,
 }
 
 // What the words ask for; or what clap answers to them.
@@ -94,10 +132,37 @@ fn wish_in<'a>(alloc: Global, words: &'a [String]) -> Result<Wish<'a>, Error> {
         (false, false) if matches.get_flag("paper") => View::Paper,
         (false, false) => View::Source,
     };
+    let task = match (matches.get_flag("omega"), matches.get_flag("term")) {
+        (true, true) => Task::Show(View::TermOmega),
+        (true, false) => Task::Compact,
+        (false, _) => matches
+            .get_str("type-at")
+            .map_or(Task::Show(view), Task::ShowAt),
+    };
     Ok(Wish {
         file: matches.get_str("FILE"),
-        view,
+        task,
+        colour: colour_in(&matches),
     })
+}
+
+// The line and the column that a text says.
+fn place_in(text: &str) -> Option<View> {
+    let (line, column) = text.split_once(':')?;
+    let line = line.parse::<u64>().ok()?;
+    let column = column.parse::<u64>().ok()?;
+    Some(View::Phrase { line, column })
+}
+
+// The view of the phrase at a line and a column. Words that are no such place are told on standard error.
+fn view_at(rt: &HostRuntime, place: &str) -> Result<View, Status> {
+    match place_in(place) {
+        Some(view) => Ok(view),
+        None => {
+            let _ = eprintln!(rt; "fing-show: --type-at takes LINE:COLUMN, as in 3:14");
+            Err(Status::Words)
+        }
+    }
 }
 
 // Writes what clap answers to words, and gives the status.
@@ -130,29 +195,75 @@ fn bytes_in(rt: &HostRuntime, file: &str) -> Result<Vec<u8>, Status> {
     }
 }
 
+// The name by which a page calls a file, or standard input.
+fn name_of(file: Option<&str>) -> &str {
+    file.unwrap_or("<stdin>")
+}
+
+// The bytes of a file, or of standard input.
+fn source_in(rt: &HostRuntime, file: Option<&str>) -> Result<Vec<u8>, Status> {
+    match file {
+        Some(file) => bytes_in(rt, file),
+        None => bytes_of(rt.alloc(), &mut StdSource::new(rt.stdin())),
+    }
+}
+
 // Shows a file, or standard input.
-fn show_file(rt: &HostRuntime, wish: Wish<'_>) -> Result<Shown, Status> {
-    let (name, bytes) = match wish.file {
-        Some(file) => (file, bytes_in(rt, file)?),
-        None => (
-            "<stdin>",
-            bytes_of(rt.alloc(), &mut StdSource::new(rt.stdin()))?,
-        ),
-    };
+fn show_file(rt: &HostRuntime, file: Option<&str>, view: View) -> Result<Shown, Status> {
+    let bytes = source_in(rt, file)?;
     if bytes.len() > SOURCE_LIMIT {
         return Err(Status::TooLong);
     }
-    show(rt.alloc(), name.as_bytes(), &bytes, wish.view).map_err(|_| Status::NoMemory)
+    show(rt.alloc(), name_of(file).as_bytes(), &bytes, view).map_err(|_| Status::NoMemory)
 }
 
-// Writes a page, and gives the status.
-fn write_page(rt: &HostRuntime, shown: &Shown) -> Status {
-    if put(&mut StdSink::new(rt.stdout()), &shown.text).is_err() {
-        return Status::WriteFault;
+// What is shown, in colour if it is a refusal and colour is wanted here.
+fn in_colour(rt: &HostRuntime, colour: Colour, shown: Shown) -> Result<Shown, Status> {
+    if shown.verdict == Verdict::Accepted || !is_coloured(rt, colour) {
+        return Ok(shown);
     }
-    match shown.verdict {
+    let text = coloured(rt.alloc(), &shown.text).map_err(|_| Status::NoMemory)?;
+    Ok(Shown { text, ..shown })
+}
+
+// Makes the Omega text in a file, or in standard input, compact.
+fn compact_file(rt: &HostRuntime, file: Option<&str>) -> Result<Vec<u8>, Status> {
+    let bytes = source_in(rt, file)?;
+    compact(rt.alloc(), &bytes).map_err(|_| Status::NoMemory)
+}
+
+// Writes what is shown, and gives the status.
+fn write_page(rt: &HostRuntime, text: &[u8], status: Status) -> Status {
+    match put(&mut StdSink::new(rt.stdout()), text) {
+        Ok(()) => status,
+        Err(_) => Status::WriteFault,
+    }
+}
+
+// The status of a verdict.
+fn status_of(verdict: Verdict) -> Status {
+    match verdict {
         Verdict::Accepted => Status::Accepted,
         _ => Status::Refused,
+    }
+}
+
+// Shows a file, or standard input, and gives the status.
+fn show_wish(rt: &HostRuntime, wish: Wish<'_>, view: View) -> Result<Status, Status> {
+    let shown = show_file(rt, wish.file, view)?;
+    let shown = in_colour(rt, wish.colour, shown)?;
+    Ok(write_page(rt, &shown.text, status_of(shown.verdict)))
+}
+
+// Does what the words ask for, and gives the status.
+fn fulfil(rt: &HostRuntime, wish: Wish<'_>) -> Result<Status, Status> {
+    match wish.task {
+        Task::Show(view) => show_wish(rt, wish, view),
+        Task::ShowAt(place) => show_wish(rt, wish, view_at(rt, place)?),
+        Task::Compact => {
+            let text = compact_file(rt, wish.file)?;
+            Ok(write_page(rt, &text, Status::Accepted))
+        }
     }
 }
 
@@ -165,8 +276,8 @@ fn main(rt: HostRuntime) -> ExitCode {
         Ok(wish) => wish,
         Err(error) => return answer_words(&rt, &error),
     };
-    let status = match show_file(&rt, wish) {
-        Ok(shown) => write_page(&rt, &shown),
+    let status = match fulfil(&rt, wish) {
+        Ok(status) => status,
         Err(status) => status,
     };
     ExitCode::from(status as u8)

@@ -8,8 +8,9 @@ use Rattle.omega_checker.specs.Judgment.{Judgment}
 use Rattle.omega_terms.specs.declared.version.Version.TheVariants.{Second}
 use Rattle.omega_terms.specs.Term.{Term}
 use Rattle.omega_terms.specs.OmegaText.{omega_text}
-use Rattle.omega_spelling.specs.Omega.{OmegaText}
+use Rattle.omega_spelling.specs.Omega.{OmegaText, TextIn}
 use Rattle.omega_spelling.specs.Refusals.{is_too_deep}
+use Rattle.omega_read.proofs.Wholes.{read_again}
 use Rattle.sig_definitions.specs.Signatures.Sig.{Abs, made}
 use Rattle.sig_definitions.specs.Signatures.Encoding.{enc_abs}
 use Rattle.fing_syntax.specs.Phrase.{Binds as Program}
@@ -23,10 +24,17 @@ use Rattle.parse_spelling.specs.Claims.{Compiles, Emits}
 use Rattle.parse_spelling.proofs.Simplified.{emits-legible}
 use Rattle.parse_spelling.proofs.Theorems.{tokens_are_spelled, keywords_are_spelled, phrases_are_spelled, emitted_are_typed, emitted_in_scope, emitted_have_text}
 use Rattle.unit_laws.specs.Units.{program_of}
+use Rattle.fing_text.specs.Told.{Told}
+use Rattle.fing_text.specs.Writes.{Grew}
+use Rattle.fing_words.specs.declared.command_line.CommandLine.{CommandLine}
+use Rattle.fing_words.specs.declared.command_line.CommandLine.TheVariants as command
+use Rattle.fing_words.proofs.OneLine.{one_line}
+use Rattle.fing_top.specs.declared.status.Status.{Status}
 use Rattle.fing_top.specs.declared.status.Status.TheVariants as status
 use Rattle.fing_top.specs.Meaning.{Form, one_program, separate_units, class_of, stands_for, Spells, Meaning, BytesMean}
 use Rattle.fing_top.specs.Reply.{Reply, accepted, emitted, omega_reply, TellsTerm, ProgramReplies, VerifyReplies}
-use Rattle.fing_top.specs.Emission.{IsVerified, IsEmitted, EmittedIsVerified}
+use Rattle.fing_top.specs.Emission.{IsVerified, IsEmitted, EmittedIsVerified, IsLow, HandsOutText, WritesText, HandsOut}
+use Rattle.fing_top.specs.Answer.{Change, Output, Confirms, IsWritten, IsReplied, Answers}
 use Rattle.fing_top.proofs.TextDepth.{not-high}
 
 -- the program of units that are spelled is spelled, the hidden names of their sealings too
@@ -64,14 +72,21 @@ module _ {x : Abs} {whole e : Term} (c : Compiles Second x whole) (k : Emits who
       let h = programs_mean_legible Second c.program (made c.effect x c.types c.term) whole c.spelled c.derived in
       (encodings_are_legible Second x h.0.0, emits-legible Second k h.1)
 
+  low-text : height (enc_abs x) ≤ 2 ^ 64 → term_height e ≤ 2 ^ 63 → TextIn Second (omega_text (enc_abs x) e) (enc_abs x) e
+  low-text low shallow = let scope = emitted_in_scope Second x whole e c k low shallow in emitted_have_text Second x whole e c k scope.0 scope.1
+
   low-spelled : height (enc_abs x) ≤ 2 ^ 64 → term_height e ≤ 2 ^ 63 → OmegaText (omega_text (enc_abs x) e) (enc_abs x) e
-  low-spelled low shallow = let scope = emitted_in_scope Second x whole e c k low shallow in (Second, emitted_have_text Second x whole e c k scope.0 scope.1)
+  low-spelled low shallow = (Second, low-text low shallow)
 
   fits-verified : is_too_deep (omega_text (enc_abs x) e) ≡ false → IsVerified (omega_text (enc_abs x) e) (enc_abs x) e
   fits-verified fits =
       let high = not-high Second (enc_abs x) e legible.0 legible.1 fits in
-      let spelled = low-spelled (omega (arith, high.0)) (omega (arith, high.1)) in
-      record { spelled = spelled; verified = VerifyReplies.well_typed spelled fits (emitted_are_typed Second x whole e c k) }
+      let text : TextIn Second (omega_text (enc_abs x) e) (enc_abs x) e = low-text (omega (arith, high.0)) (omega (arith, high.1)) in
+      record {
+        spelled = (Second, text);
+        read = read_again Second (enc_abs x) e text.type_spelled text.term_spelled fits;
+        verified = VerifyReplies.well_typed (Second, text) fits (emitted_are_typed Second x whole e c k);
+      }
 
 -- what is written for a meaning
 meaning-emitted : {form : Form} {bytes : List ℕ} {m : Meaning} (simplify : Bool) → BytesMean form bytes m
@@ -107,3 +122,47 @@ written-emitted simplify (ProgramReplies.refuses h) same =
 
 pub emitted_is_verified : EmittedIsVerified
 emitted_is_verified = (λ simplify bytes text t e told. written-emitted simplify told refl, λ bytes text t e told. written-emitted false told refl)
+
+-- ---- what the call hands out
+
+-- a reply that was written whole with status Ok
+written-handed : {form : Form} {bytes : List ℕ} {r : Reply} (simplify : Bool) (out : Output) → ProgramReplies form (TellsTerm simplify) bytes r → status.Ok ≡ r.status
+    → Grew out.sink.old out.sink.new r.text → Confirms out.confirmed r.confirmed → IsLow out.confirmed.new → HandsOutText out
+written-handed simplify out (ProgramReplies.meant {m = m} b told) s w p low =
+    let x : Ty = enc_abs m.sig in
+    let e : Term = emitted simplify m.whole in
+    let j : Judgment = record { term = e; ty = x } in
+    let handed : Confirms out.confirmed (Some j) = subst (λ (r : Reply). Confirms out.confirmed r.confirmed) told p in
+    let here : IsEmitted (omega_text x e) x e = meaning-emitted simplify b in
+    let heights : IsLow (Some j) = subst IsLow handed low in
+    let low_type : height x ≤ 4096 = heights.0 in
+    let low_term : term_height e ≤ 4096 = heights.1 in
+    record {
+      judgment = j;
+      confirmed = handed;
+      text = omega_text x e;
+      written = subst (λ (r : Reply). Grew out.sink.old out.sink.new r.text) told w;
+      spelled = here.spelled (omega (arith, low_type)) (omega (arith, low_term));
+      verified = here.verified;
+    }
+written-handed simplify out (ProgramReplies.refuses h) s w p low =
+    let other : status.Ok ≡ status.Refused = s in
+    absurd (cc)
+
+command-handed : (c : CommandLine) (bytes : List ℕ) (out : Output) → WritesText c → IsWritten c bytes out status.Ok → IsLow out.confirmed.new → HandsOutText out
+command-handed (command.Emit simplify) bytes out t w low = written-handed simplify out w.replies w.status w.written w.confirmed low
+command-handed command.Link bytes out t w low = written-handed false out w.replies w.status w.written w.confirmed low
+command-handed command.Check bytes out t w low = absurd t
+command-handed (command.Run budget) bytes out t w low = absurd t
+command-handed command.Verify bytes out t w low = absurd t
+command-handed (command.Gen size) bytes out t w low = absurd t
+
+pub hands_out : (words : List (List ℕ)) (source : Change Told) (out : Output) (answer : Status) → Answers words source out answer → IsLow out.confirmed.new → HandsOut words out answer
+hands_out words source out answer a low c line t same =
+    let done : IsReplied words source out status.Ok = subst (Answers words source out) same a in
+    let w : IsWritten c done.bytes out status.Ok = subst (λ (b : CommandLine). IsWritten b done.bytes out status.Ok) (one_line words done.command c done.line line) done.answered in
+    command-handed c done.bytes out t w low
+
+-- nothing is asked of another answer
+pub hands_nothing_out : (words : List (List ℕ)) (out : Output) (answer : Status) → (answer ≡ status.Ok → ⊥) → HandsOut words out answer
+hands_nothing_out words out answer other c line t same = absurd (other same)

@@ -3,7 +3,7 @@ ghost use Rattle.std.specs.Prelude.{◌≡◌, ◌≤◌, ℕ, List, length, map
 ghost use Rattle.std.specs.String.{string_bytes};
 ghost use Rattle.fing_words.specs.CommandLines.{IsCommandLine};
 ghost use Rattle.fing_top.specs.Meaning.{MeanOrRefused};
-ghost use Rattle.fing_top.specs.Emission.{EmittedIsVerified};
+ghost use Rattle.fing_top.specs.Emission.{EmittedIsVerified, HandsOut, IsLow};
 ghost use Rattle.fing_top.specs.Reply.{OneReply, EachReplied};
 ghost use Rattle.fing_top.specs.Answer.{limit, AnswersBytes, Answers, Completes, Takes, Lacks, change, output};
 ghost use Rattle.fing_top.specs.Words.{IsSized};
@@ -67,6 +67,15 @@ pub fn reply<K: Sink>(
     }
 }
 
+// No type or term that was confirmed is higher than 4,096.
+fn look_at_heights(confirmed: &Option<Checked>)
+    ensures { IsLow confirmed.now }
+{
+    if let Some(checked) = confirmed {
+        let _heights = (checked.ty().extent(), checked.term().extent());
+    }
+}
+
 // Answers a command for a source, read to its end where the command reads it.
 fn answered<S: Source, K: Sink>(
     alloc: Global,
@@ -80,9 +89,15 @@ fn answered<S: Source, K: Sink>(
         (output (change (K.told sink.old) (K.told sink.new)) (change confirmed.old confirmed.new)) result }
     ensures completes { (words : List (List ℕ)) → IsCommandLine words command → Completes words (change (S.told source.old) (S.told source.new))
         (output (change (K.told sink.old) (K.told sink.new)) (change confirmed.old confirmed.new)) result }
+    ensures reads_back { (words : List (List ℕ)) → IsCommandLine words command → HandsOut words
+        (output (change (K.told sink.old) (K.told sink.new)) (change confirmed.old confirmed.new)) result }
 {
     match taken(alloc, command, source) {
-        Ok(bytes) => reply(alloc, command, &bytes, sink, confirmed),
+        Ok(bytes) => {
+            let status = reply(alloc, command, &bytes, sink, confirmed);
+            look_at_heights(confirmed);
+            status
+        }
         Err(ReadEnd::ReadFault) => Status::ReadFault,
         Err(ReadEnd::TooLong) => Status::TooLong,
         Err(ReadEnd::Mem) => Status::NoMemory,
@@ -111,6 +126,10 @@ fn answered<S: Source, K: Sink>(
 /// `NoMemory` nothing is written, and with `WriteFault` a prefix of the reply. `Words`, `ReadFault`, `TooLong` and
 /// `WriteFault` come only so. That a read or a write failed is told by the count of faults of the source or the sink:
 /// it rose, or stands at its last value, 2^64 - 1.
+///
+/// Where `emit`, with or without `--simplify`, or `link` answers `Ok`, what was written is Omega text of the term and the
+/// type that `confirmed` tells of. If no more than 4,000 parentheses are open in it, `omega_read::read` answers these two
+/// for it, or out of memory, and the reply of `verify` to it is `well typed`.
 pub fn fing<S: Source, K: Sink>(
     alloc: Global,
     words: &[String],
@@ -121,6 +140,8 @@ pub fn fing<S: Source, K: Sink>(
     ensures answers { Answers (map string_bytes words.now) (change (S.told source.old) (S.told source.new))
         (output (change (K.told sink.old) (K.told sink.new)) (change confirmed.old confirmed.new)) result }
     ensures completes { Completes (map string_bytes words.now) (change (S.told source.old) (S.told source.new))
+        (output (change (K.told sink.old) (K.told sink.new)) (change confirmed.old confirmed.new)) result }
+    ensures reads_back { HandsOut (map string_bytes words.now)
         (output (change (K.told sink.old) (K.told sink.new)) (change confirmed.old confirmed.new)) result }
 {
     match read_words(alloc, words) {
@@ -143,9 +164,10 @@ pub fn one_meaning()
 {}
 
 /// Let `emit`, with or without `--simplify`, or `link` write a text for a source that means something. If no more than 4,000
-/// parentheses are open in it, it is a text of the type and the term that were confirmed for it, and the reply of `verify` to
-/// it is `well typed`. However many are open, it is such a text if the type is of height 2^64 at most and the term of height
-/// 2^63, so that each level of a variable is a number of 64 bits; no tree of the program is higher than 4,096.
+/// parentheses are open in it, it is a text of the type and the term that were confirmed for it, `omega_read::read` answers
+/// both for it, or out of memory, and the reply of `verify` to it is `well typed`. However many are open, it is such a text
+/// if the type is of height 2^64 at most and the term of height 2^63, so that each level of a variable is a number of 64
+/// bits; no tree of the program is higher than 4,096.
 pub fn emitted_is_verified()
     ensures { EmittedIsVerified }
 {}

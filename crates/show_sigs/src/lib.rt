@@ -9,4 +9,4 @@ mod program;
 mod writer;
 
 pub use names::type_names;
-pub use program::put_program;
+pub use program::{put_phrase, put_program};

@@ -30,17 +30,16 @@ pub(crate) struct Writer {
 }
 
 impl Writer {
-    // No variables, and no path.
-    pub(crate) fn new(page: Page) -> Writer {
-        let alloc = page.alloc();
+    // The variables of a naming, and no path.
+    pub(crate) fn new(page: Page, naming: Naming) -> Writer {
         let frame = Frame {
-            path: Vec::new(alloc),
-            outside: 0,
+            path: Vec::new(page.alloc()),
+            outside: naming.len(),
             under: 0,
         };
         Writer {
             page,
-            naming: Naming::new(alloc),
+            naming,
             frame,
             indent: 0,
         }

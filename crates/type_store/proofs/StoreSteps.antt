@@ -107,7 +107,7 @@ parts_push ts us parts xs i l n x made b h e g w r =
       value = row-push us parts (take i xs) (l, n) m.value ∙ ap row (sym (whole ∙ ap (λ y. take i xs ++ y ∷ []) last));
     }
 
-smaller : (xs : Pairs) (i : ℕ) (d : Label × Ty) → i < length xs → nodes_pairs (drop i xs) ≤ nodes_pairs xs → nodes_pairs (drop (i + 1) xs) ≤ nodes_pairs xs
+pub smaller : (xs : Pairs) (i : ℕ) (d : Label × Ty) → i < length xs → nodes_pairs (drop i xs) ≤ nodes_pairs xs → nodes_pairs (drop (i + 1) xs) ≤ nodes_pairs xs
 smaller xs i d w h =
     let e : drop i xs ≡ get_or xs i d ∷ drop (suc i) xs = drop-cons xs i d w in
     let m : nodes_pairs (drop i xs) ≡ nodes (get_or xs i d).1 + nodes_pairs (drop (suc i) xs) + 1 = ap nodes_pairs e in

@@ -10,4 +10,4 @@ pub returns-in-Ok : goal.returns-in-Ok
 returns-in-Ok c = ok-map c.show_program.result c.show_program.ensures (λ s p. JudgesTokens.parsed c.in-Ok.ensures.program p)
 
 pub returns-in_ok-syntax_page-in-Err-Syntax : goal.returns-in_ok-syntax_page-in-Err-Syntax
-returns-in_ok-syntax_page-in-Err-Syntax c = rw c.in-Err-Syntax.field-0-is (no-program c.args.tokens.now c.in-Err-Syntax.at (subst (λ r. Refuses the.Binds c.args.tokens.now r) c.in-Err-Syntax.field-0-is c.in-Err-Syntax.ensures.refused))
+returns-in_ok-syntax_page-in-Err-Syntax c = no-program c.args.tokens.now c.in-Err-Syntax.at (subst (λ r. Refuses the.Binds c.args.tokens.now r) c.in-Err-Syntax.field-0-is c.in-Err-Syntax.ensures.refused)

@@ -1,0 +1,4 @@
+pub mod Scans
+pub mod Again
+pub mod Items
+pub mod Texts

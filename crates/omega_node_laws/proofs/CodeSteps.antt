@@ -1,0 +1,53 @@
+-- What each function of the synthesis needs of the calls before it.
+use Rattle.std.proofs.Common.{◌≡◌, ℕ, ◌<◌, List, Option, Some, slice_get, length, sym, subst}
+use Rattle.omega_kinds.specs.Kind.{Kind}
+use Rattle.omega_types.specs.Ty.{Ty}
+use Rattle.omega_terms.specs.Term.{Term}
+use Rattle.type_store.specs.Numbers.{NumberOf}
+use Rattle.omega_checker.specs.Found.{synth_in}
+use Rattle.omega_node_laws.specs.Held.{Has, Held}
+use Rattle.omega_node_laws.specs.Scope.{Scope, types_of, IsIn, Grows, Makes, Finds, Synthesises, FindsFunction, IsWithVar, IsWithType, IsLastType}
+use Rattle.omega_node_laws.proofs.ScopeSteps.{number-in, in-more, with-type-last}
+use Rattle.omega_node_laws.proofs.SynthSteps.{has-number}
+
+-- ---- numbers are those of types
+
+pub synth-in : {a b : Scope} {ks : List Kind} {vs : List Ty} {e : Term} (o : Option ℕ) → Synthesises a b ks vs e o → IsIn b.types o
+synth-in {b = b} {ks = ks} {vs = vs} {e = e} o s = number-in b.types o (synth_in ks vs e) s.is_number
+
+pub find-in : {a b : Scope} {t : Option Ty} (o : Option ℕ) → Finds a b o t → IsIn b.types o
+find-in {b = b} {t = t} o s = number-in b.types o t s.is_number
+
+pub function-in : {a b : Scope} {f : ℕ} {e : Term} (o : Option ℕ) → FindsFunction a b f e o → IsIn b.types o
+function-in {b = b} o s = number-in b.types o _ s.is_number
+
+pub in-grows : {a b : Scope} (o : Option ℕ) → Grows a b → IsIn a.types o → IsIn b.types o
+in-grows {a} {b} o g h = in-more a.types b.types o g.begins h
+
+pub is-some : (ts : List Ty) (o : Option ℕ) (n : ℕ) → o ≡ Some n → IsIn ts o → n < length ts
+is-some ts o n e h = subst (IsIn ts) e h
+
+pub below-grows : {a b : Scope} (n : ℕ) → Grows a b → n < length a.types → n < length b.types
+below-grows {a} {b} n g h = in-more a.types b.types (Some n) g.begins h
+
+pub below-var : {a b : Scope} {m : ℕ} (n : ℕ) → IsWithVar a b m → n < length a.types → n < length b.types
+below-var n w h = subst (λ ts. n < length ts) (sym w.same_types) h
+
+pub below-type : {a b : Scope} {k : Kind} (n : ℕ) → IsWithType a b k → n < length a.types → n < length b.types
+below-type n w h = subst (λ ts. n < length ts) (sym w.same_types) h
+
+pub synth-last : {a b c : Scope} {k : Kind} {ks : List Kind} {vs : List Ty} {e : Term} {o : Option ℕ} → IsWithType a b k → Synthesises b c ks vs e o → IsLastType c
+synth-last w s = with-type-last w s.grows
+
+-- ---- leaves
+
+pub cast : {z c : Scope} {ks : List Kind} {vs : List Ty} {d e : Term} {o : Option ℕ} → d ≡ e → Synthesises z c ks vs d o → Synthesises z c ks vs e o
+cast {z} {c} {ks} {vs} {o = o} p s = subst (λ e. Synthesises z c ks vs e o) p s
+
+pub var-done : {z c : Scope} {i : ℕ} {o : Option ℕ} → Finds z c o (slice_get (types_of z) i) → Synthesises z c z.kinds (types_of z) (Term.Var i) o
+var-done {z} {c} {i} {o} f = record { grows = f.grows; is_number = f.is_number; held = (λ n p. has-number c.types o (slice_get (types_of z) i) n f.is_number p) }
+
+pub leaf-done : {z c : Scope} {e : Term} {n : ℕ} (t : Ty) → synth_in z.kinds (types_of z) e ≡ Some t → (Has c.types (synth_in z.kinds (types_of z) e) → Held c.types z.kinds (types_of z) e) → Makes z c n t → Synthesises z c z.kinds (types_of z) e (Some n)
+leaf-done {z} {c} {e} {n} t p f m =
+    let number : NumberOf c.types (Some n) (synth_in z.kinds (types_of z) e) = subst (NumberOf c.types (Some n)) (sym p) m.holds in
+    record { grows = m.grows; is_number = number; held = (λ k q. f (record { number = n; is_number = number })) }

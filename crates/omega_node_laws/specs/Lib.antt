@@ -1,0 +1,5 @@
+pub mod NodeTypes
+pub mod Held
+pub mod NodeLaws
+pub mod Scope
+pub mod StepLaws

@@ -1,0 +1,117 @@
+// The pages for people: those that the tests of fing_show and the pages of the documentation have, and the limits.
+const fs = require("fs"), path = require("path"), {spawnSync} = require("child_process");
+const {TOP, read, workerOf, expect, bytes} = require("./fing.cjs");
+const {showOf, VIEWS} = require("../page/engine.js");
+const {partsOf} = require("../page/replies.js");
+const {fragmentOf, fieldsOf} = require("../page/link.js");
+
+const TESTS = "crates/fing_show/src";
+const CALL = /\ball_show(?:_as)?\(\s*&rt,\s*rt\.alloc\(\),(?:\s*View::(\w+),)?\s*(?:true|false),\s*&\[?([A-Z_]+)\]?,?\s*\)/g;
+const OF_CODE = {Source: "page", Paper: "paper", Latex: "paper-latex", Term: "term", TermLatex: "term-latex"};
+const OF_OPTIONS = {"": "page", "--paper": "paper", "--latex": "paper-latex", "--term": "term", "--latex --term": "term-latex"};
+
+// The value of a literal in Rattle, without its quotes.
+function valueOf(literal) {
+  const escapes = {n: "\n", t: "\t", r: "\r", 0: "\0"};
+  return literal.replaceAll(/\\\n\s*|\\(.)/g, (whole, escaped) => escaped === undefined ? "" : escapes[escaped] ?? escaped);
+}
+
+// The rows of a table of a test: sources and their pages.
+function rowsOf(file, name) {
+  const [, size, text] = new RegExp(`^const ${name}: (\\(&str, &str\\)|\\[\\(&str, &str\\); \\d+\\]) = ([^]*?)^[\\])];`, "m").exec(file);
+  const values = [...text.matchAll(/"((?:\\[^]|[^"\\])*)"/g)].map(it => valueOf(it[1]));
+  const count = Number(/\d+/.exec(size)?.[0] ?? 1);
+  expect(`the rows of ${name}`, values.length, 2 * count);
+  return Array.from({length: count}, (_, row) => ({source: values[2 * row], page: values[2 * row + 1]}));
+}
+
+// The pages that the tests of the crate have, each with its view.
+function pagesOfTests() {
+  const files = fs.readdirSync(path.join(TOP, TESTS)).filter(it => it.endsWith("tests.rt"));
+  return files.flatMap(name => {
+    const file = read(`${TESTS}/${name}`);
+    return [...file.matchAll(CALL)].flatMap(([, view = "Source", rows]) =>
+      rowsOf(file, rows).map(row => ({...row, view: OF_CODE[view], name: "a.fing"})));
+  });
+}
+
+// The pages that a page of the documentation shows for commands that give a program, or a file, to fing-show.
+function pagesOfCommands(text) {
+  const found = text.matchAll(/^ {4}\$ (?:echo '([^'\\]*)' \| )?fing-show((?: --[a-z]+)*)(?: (examples\/[\w-]+\.fing))?\n((?: {4}(?!\$).*\n)+)/gm);
+  return [...found].map(([, typed, options, file, page]) => ({
+    source: file ? read(file) : typed + "\n",
+    view: OF_OPTIONS[options.trim()],
+    name: file ?? "<stdin>",
+    page: page.replaceAll(/^ {4}/gm, ""),
+  }));
+}
+
+async function tryPages(ask, pages) {
+  for (const {source, view, name, page} of pages) {
+    const title = `${view} of ${source.slice(0, 60)}`, status = page.startsWith("error: ") ? 1 : 0;
+    const answer = await ask({words: ["check"], source, view, name});
+    expect(title, [answer.status, answer.page], [status, {status, reply: page}]);
+    const parts = partsOf(page);
+    expect(`the parts of ${title}`, parts && parts.title + parts.excerpt + parts.rest, status === 1 ? page : null);
+    if (parts) expect(`the mark of ${title}`, /^ +\| +\^+$/.test(parts.excerpt.trimEnd().split("\n")[3]), true);
+  }
+}
+
+// The type of each value is twice as long as the one before it.
+function doubled(count) {
+  return ["val x0 = 1", ...Array.from({length: count}, (_, i) => `val x${i + 1} = {a = x${i}, b = x${i}}`)].join("\n");
+}
+
+async function tryLimits(ask) {
+  const page = async (view, source) => (await ask({words: ["check"], source, view})).page;
+  const nested = "val x = " + "(".repeat(996) + "1" + ")".repeat(996);
+  expect("the page of a nest of 1,000", await page("page", nested), {status: 0, reply: "pure\nval x : Int\n"});
+  expect("the page of 1 MiB", await page("page", "val x = 1 --".padEnd(1048576, "-")), {status: 0, reply: "pure\nval x : Int\n"});
+  const long = await page("page", doubled(16));
+  expect("a page that is longer than its first room", [long.status, long.reply.split("Int").length - 1], [0, 2 ** 17 - 1]);
+  expect("no page of a source that is too long", await page("page", "val x = 1 --".padEnd(1048577, "-")), undefined);
+}
+
+// What the module answers where there is no page.
+async function tryStatuses() {
+  const module = new WebAssembly.Module(bytes.show), show = showOf(module);
+  for (const view of [Object.keys(VIEWS).length, 255]) {
+    expect(`the view ${view}`, await show(view, "a", "val x = 1"), {status: 2, reply: ""});
+  }
+  expect("a source that is too long", await show(0, "a", "val x = 1 --".padEnd(1048577, "-")), {status: 8, reply: ""});
+  expect("too little memory", await showOf(module, 36n << 20n)(0, "a", doubled(16)), {status: 7, reply: ""});
+  expect("a name in a page", (await show(0, "b/c.fing", "val x = y")).reply.split("\n")[1], " --> b/c.fing:1:9");
+}
+
+async function tryPageLinks() {
+  for (const command of ["page", "paper", "term"]) {
+    const fragment = await fragmentOf({source: "val x = 1", command, latex: true});
+    const latex = command === "page" ? undefined : true;
+    expect(`a link to ${command}`, await fieldsOf(fragment), {command, latex, source: "val x = 1"});
+  }
+}
+
+// The same bytes and status as a native program, for each example and each view.
+async function compare(ask, program) {
+  const files = fs.readdirSync(path.join(TOP, "examples")).filter(it => it.endsWith(".fing"));
+  for (const name of files.map(it => `examples/${it}`)) {
+    for (const [options, view] of Object.entries(OF_OPTIONS)) {
+      const words = [...options.split(" ").filter(it => it), name];
+      const {status, stdout} = spawnSync(program, words, {cwd: TOP, encoding: "utf8", maxBuffer: 1 << 28});
+      const {page} = await ask({words: ["check"], source: read(name), view, name});
+      expect(`fing-show ${options} ${name}`, page, {status, reply: stdout});
+    }
+  }
+}
+
+module.exports = async function shows(program) {
+  const {ask, stop} = workerOf();
+  const tests = pagesOfTests(), shown = ["docs/show.md", "docs/errors.md"].flatMap(name => pagesOfCommands(read(name)));
+  expect("the number of pages", [tests.length >= 50, shown.length >= 20], [true, true]);
+  await tryPages(ask, [...tests, ...shown]);
+  await tryLimits(ask);
+  await tryStatuses();
+  await tryPageLinks();
+  if (program) await compare(ask, program);
+  stop();
+};
