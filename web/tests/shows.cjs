@@ -18,27 +18,28 @@ function valueOf(literal) {
 
 // The rows of a table of a test: sources and their pages.
 function rowsOf(file, name) {
-  const [, size, text] = new RegExp(`^const ${name}: (\\(&str, &str\\)|\\[\\(&str, &str\\); \\d+\\]) = ([^]*?)^[\\])];`, "m").exec(file);
+  const [, size, text] = new RegExp(`^(?:pub\\(crate\\) )?const ${name}: (\\(&str, &str\\)|\\[\\(&str, &str\\); \\d+\\]) = ([^]*?)^[\\])];`, "m").exec(file);
   const values = [...text.matchAll(/"((?:\\[^]|[^"\\])*)"/g)].map(it => valueOf(it[1]));
   const count = Number(/\d+/.exec(size)?.[0] ?? 1);
   expect(`the rows of ${name}`, values.length, 2 * count);
   return Array.from({length: count}, (_, row) => ({source: values[2 * row], page: values[2 * row + 1]}));
 }
 
-// The pages that the tests of the crate have, each with its view.
+// The pages that the tests of the crate have, each with its view; not those of a view that the module does not have.
 function pagesOfTests() {
   const files = fs.readdirSync(path.join(TOP, TESTS)).filter(it => it.endsWith("tests.rt"));
   return files.flatMap(name => {
     const file = read(`${TESTS}/${name}`);
-    return [...file.matchAll(CALL)].flatMap(([, view = "Source", rows]) =>
+    return [...file.matchAll(CALL)].filter(([, view = "Source"]) => view in OF_CODE).flatMap(([, view = "Source", rows]) =>
       rowsOf(file, rows).map(row => ({...row, view: OF_CODE[view], name: "a.fing"})));
   });
 }
 
-// The pages that a page of the documentation shows for commands that give a program, or a file, to fing-show.
+// The pages that a page of the documentation shows for commands that give a program, or a file, to fing-show, in a view
+// that the module has.
 function pagesOfCommands(text) {
   const found = text.matchAll(/^ {4}\$ (?:echo '([^'\\]*)' \| )?fing-show((?: --[a-z]+)*)(?: (examples\/[\w-]+\.fing))?\n((?: {4}(?!\$).*\n)+)/gm);
-  return [...found].map(([, typed, options, file, page]) => ({
+  return [...found].filter(([, , options]) => options.trim() in OF_OPTIONS).map(([, typed, options, file, page]) => ({
     source: file ? read(file) : typed + "\n",
     view: OF_OPTIONS[options.trim()],
     name: file ?? "<stdin>",
