@@ -35,8 +35,8 @@ use Rattle.sig_laws.proofs.Algebra.AlikeLaws.{conv-form_sig, form-conv_sig, conv
 use Rattle.sig_laws.proofs.Algebra.SigAlgebra.{substitute-rename_sig}
 use Rattle.sig_laws.proofs.LiftLaws.{lifting_maps}
 use Rattle.sig_laws.proofs.Encoded.LiftTyping.{lifted-normal}
-use Rattle.semantic_sigs.specs.View.{kinds_of, body_of}
-use Rattle.applicative_functors.specs.LiftedVars.{lifted_var, lifted_vars, Put}
+use Rattle.semantic_sigs.specs.Inner.View.{kinds_of, body_of}
+use Rattle.applicative_functors.specs.Inner.LiftedVars.{lifted_var, lifted_vars, Put}
 
 -- a renaming of what is applied
 

@@ -9,9 +9,9 @@ use Rattle.omega_kinds.specs.View.{kind_tree}
 use Rattle.omega_kinds.specs.declared.kind.Kind.{Kind as SharedKind}
 use Rattle.omega_types.specs.Ty.{Ty}
 use Rattle.omega_types.specs.Index.{shift}
-use Rattle.omega_types.specs.Scope.{scope_of}
+use Rattle.omega_types.specs.Inner.Scope.{scope_of}
 use Rattle.sig_laws.proofs.Algebra.BinderLaws.{lam_over-append}
-use Rattle.applicative_functors.specs.LiftedVars.{lifted_var, lifted_vars}
+use Rattle.applicative_functors.specs.Inner.LiftedVars.{lifted_var, lifted_vars}
 use Rattle.omega_types.specs.Binders.{extend, applied, arrow_over}
 use Rattle.omega_types.proofs.BinderLaws.{spread, spread-applied}
 

@@ -1,2 +1,1 @@
-pub mod LiftedVars
-pub mod Lifted
+pub mod Inner

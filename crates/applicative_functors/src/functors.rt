@@ -5,8 +5,8 @@ ghost use Rattle.omega_kinds.specs.declared.effect.Effect.TheVariants.{Pure};
 ghost use Rattle.omega_types.specs.Binders.{extend};
 ghost use Rattle.sig_definitions.specs.Signatures.Alike.{NormalAbs};
 ghost use Rattle.functor_judgments.specs.PureFunctor.{PureFunctorGives};
-ghost use Rattle.semantic_sigs.specs.Made.{module_of};
-ghost use Rattle.semantic_sigs.specs.View.{kinds_of, body_of};
+ghost use Rattle.semantic_sigs.specs.Inner.Made.{module_of};
+ghost use Rattle.semantic_sigs.specs.Inner.View.{kinds_of, body_of};
 
 use crate::lifting::{lift, lift_witness};
 use omega_kinds::{Effect, Label, Mem};

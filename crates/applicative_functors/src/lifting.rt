@@ -8,7 +8,7 @@ ghost use Rattle.sig_definitions.specs.Lifting.{Lift, lifted_kinds as lifted_kin
 ghost use Rattle.sig_definitions.specs.Signatures.Alike.{NormalAbs, NormalSig};
 ghost use Rattle.sig_definitions.specs.Signatures.Sig.{Ex, Fun};
 ghost use Rattle.sig_definitions.specs.Signatures.SigSubst.{rename_abs, rename_sig};
-ghost use Rattle.applicative_functors.specs.LiftedVars.{lifted_vars as lifted_vars_of, Put};
+ghost use Rattle.applicative_functors.specs.Inner.LiftedVars.{lifted_vars as lifted_vars_of, Put};
 
 use crate::operators::{lam_over, lifted_kinds};
 use crate::parameters::lifted_vars;

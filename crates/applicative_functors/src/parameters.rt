@@ -3,10 +3,10 @@ ghost use Rattle.std.specs.Prelude.{◌≡◌, ◌∷◌, [], length, IfOk, IfSo
 ghost use Rattle.omega_kinds.specs.View.{kind_tree};
 ghost use Rattle.omega_types.specs.Binders.{applied, arrow_over as arrow_over_of, extend};
 ghost use Rattle.omega_types.specs.Index.{shift};
-ghost use Rattle.omega_types.specs.Scope.{scope_of};
+ghost use Rattle.omega_types.specs.Inner.Scope.{scope_of};
 ghost use Rattle.omega_types.specs.Ty.{Var};
-ghost use Rattle.applicative_functors.specs.LiftedVars.{lifted_vars as lifted_vars_of, lifted_var as lifted_var_of};
-ghost use Rattle.applicative_functors.specs.Lifted.{IsLifted};
+ghost use Rattle.applicative_functors.specs.Inner.LiftedVars.{lifted_vars as lifted_vars_of, lifted_var as lifted_var_of};
+ghost use Rattle.applicative_functors.specs.Inner.Lifted.{IsLifted};
 
 use crate::operators::arrow_over;
 use omega_kinds::{Kind, Kinds, Mem, same_kind};

@@ -8,9 +8,9 @@ use Rattle.omega_terms.specs.Term.{Term}
 use Rattle.omega_terms.specs.Typing.{HasType}
 use Rattle.omega_terms.specs.Coercions.{MatchPart, AbsPart}
 use Rattle.omega_terms.proofs.CoercionRows.{match_part_typed, abs_part_typed}
-use Rattle.omega_shorthands.specs.Packed.{pack_up, opened}
+use Rattle.omega_shorthands.specs.Inner.Packed.{pack_up, opened}
 use Rattle.omega_shorthands.proofs.PackSteps.{packs_filled, opens_opened}
-use Rattle.coercion_terms.specs.Rows.{IsMatchPart, IsAbsPart, HasMatchType, HasAbsType}
+use Rattle.coercion_terms.specs.Inner.Rows.{IsMatchPart, IsAbsPart, HasMatchType, HasAbsType}
 
 pub match-exact : (from : Ty) (ts : List Ty) (f : Term) (to : Ty) (body e : Term) → body ≡ pack_up ts (Term.Call f (Term.Var zero)) to → e ≡ Term.Lam from body → e ≡ Term.Lam from (pack_up ts (Term.Call f (Term.Var zero)) to)
 match-exact from ts f to body e eb ee = ee ∙ ap (Term.Lam from) eb

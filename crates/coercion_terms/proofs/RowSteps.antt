@@ -13,7 +13,7 @@ use Rattle.omega_terms.specs.Typing.{HasType}
 use Rattle.omega_terms.specs.CoercionRows.{of_field}
 use Rattle.omega_terms.specs.Coercions.{result_label, coerced, same_part, meta_part, fields_part, functor_part}
 use Rattle.omega_terms.proofs.CoercionRows.{same_part_typed, meta_part_typed, fields_part_typed, functor_part_typed}
-use Rattle.coercion_terms.specs.Rows.{HasSameType, HasMetaType, HasFieldsType, HasFunctorType}
+use Rattle.coercion_terms.specs.Inner.Rows.{HasSameType, HasMetaType, HasFieldsType, HasFunctorType}
 
 abbrev pub coerced_pairs : TermPairs → TermPairs
 coerced_pairs = map (λ x. (x.0, Term.Call x.1 (Term.Get (Term.Var zero) x.0)))

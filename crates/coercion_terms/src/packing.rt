@@ -1,8 +1,8 @@
 // The coercions to signatures that hide types.
 ghost use Rattle.std.specs.Prelude.{◌≡◌, IfOk};
 ghost use Rattle.omega_terms.specs.Term.{Call, Lam, Var};
-ghost use Rattle.omega_shorthands.specs.Packed.{opened, pack_up as pack_up_of};
-ghost use Rattle.coercion_terms.specs.Rows.{HasAbsType, HasMatchType, IsAbsPart, IsMatchPart};
+ghost use Rattle.omega_shorthands.specs.Inner.Packed.{opened, pack_up as pack_up_of};
+ghost use Rattle.coercion_terms.specs.Inner.Rows.{HasAbsType, HasMatchType, IsAbsPart, IsMatchPart};
 
 use omega_kinds::Mem;
 use omega_shorthands::{opens, pack_up, variable};

@@ -4,7 +4,7 @@ ghost use Rattle.omega_terms.specs.Coercions.{coerced as coerced_of, fields_part
 ghost use Rattle.omega_terms.specs.Fields.{term_row};
 ghost use Rattle.omega_terms.specs.Shorthands.{insts as insts_of};
 ghost use Rattle.omega_terms.specs.Term.{Call, Get, Lam, Var};
-ghost use Rattle.coercion_terms.specs.Rows.{HasFieldsType, HasFunctorType, HasMetaType, HasSameType};
+ghost use Rattle.coercion_terms.specs.Inner.Rows.{HasFieldsType, HasFunctorType, HasMetaType, HasSameType};
 
 use omega_kinds::{Effect, Kinds, Label, Mem};
 use omega_shorthands::{insts, one_field, ty_lam_over, variable};

@@ -21,7 +21,7 @@ use Rattle.core_judgments.specs.CoreWhy.{CoreWhy, NoField, Differ, DuplicateFiel
 use Rattle.core_judgments.specs.ExpRules.{FieldExp, BranchesGive, BranchesRefuse, HasBranch, HasNoBranch, InOrder, LeastWithout}
 use Rattle.core_judgments.specs.ExpRules.FieldExp.{field as field_exp}
 use Rattle.core_judgments.proofs.SumVerdicts.{each-has, part-cases}
-use Rattle.core_rules.specs.Records.{exp_fields, at_key, HasBranches}
+use Rattle.core_rules.specs.Inner.Records.{exp_fields, at_key, HasBranches}
 use Rattle.core_rules.proofs.Entries.{at_name, Seen, none, more, none-new, new-none, not-equal, no-equal, entry-less, entry-equal, entry-greater}
 use Rattle.core_rules.proofs.RecordSteps.{none-is, some-is, exps-push, follows-first}
 

@@ -24,7 +24,7 @@ use Rattle.core_judgments.specs.CoreWhy.{CoreWhy, Differ, KindDiffer, NoField}
 use Rattle.core_judgments.specs.ExpRules.{CallGives, CallRefuses, InstanceGives, InstanceRefuses, GetGives, GetRefuses, IfGives, IfRefuses, OperationGives, OperationRefuses}
 use Rattle.core_judgments.specs.TypeRules.{AppliedGives, AppliedRefuses}
 use Rattle.core_rules.specs.declared.refusal.CoreRefusal.{CoreRefusal}
-use Rattle.core_rules.specs.Plain.{plain_why}
+use Rattle.core_rules.specs.Inner.Plain.{plain_why}
 
 some-weaker : (o : Option CoreWhy) (P Q : CoreWhy → Type 0) → ((w : CoreWhy) → P w → Q w) → IfSome o P → IfSome o Q
 some-weaker None P Q f h = tt

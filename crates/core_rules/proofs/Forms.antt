@@ -2,7 +2,7 @@
 use Rattle.std.proofs.Common.{◌≡◌, refl, subst, ◌∙◌}
 use Rattle.omega_kinds.specs.declared.kind.Kind.{Kind as KindHandle}
 use Rattle.omega_types.specs.Ty.{Ty}
-use Rattle.omega_types.specs.View.{ty_of}
+use Rattle.omega_types.specs.Inner.View.{ty_of}
 use Rattle.omega_types.specs.declared.tree.Ty.{Ty as TyHandle}
 use Rattle.omega_types.specs.declared.tree.TyFields.{TyFields}
 use Rattle.omega_types.specs.declared.tree.TyNode.{TyNode}

@@ -23,7 +23,7 @@ use Rattle.core_judgments.specs.TypeRules.{FieldTy, RecordTypeGives, RecordTypeR
 use Rattle.core_judgments.specs.TypeRules.FieldTy.{field as field_ty}
 use Rattle.core_judgments.specs.ExpRules.{FieldExp, RecordGives, RecordRefuses}
 use Rattle.core_judgments.specs.ExpRules.FieldExp.{field as field_exp}
-use Rattle.core_rules.specs.Records.{type_fields, exp_fields, labelled}
+use Rattle.core_rules.specs.Inner.Records.{type_fields, exp_fields, labelled}
 use Rattle.core_rules.proofs.Entries.{at_name, Seen, none, more, none-new, new-none, type_rows, term_rows, type_put, term_put, type-push, term-push, type-seen, term-seen}
 
 -- the map's answer

@@ -5,11 +5,11 @@ ghost use Rattle.omega_kinds.specs.View.{kind_tree};
 ghost use Rattle.omega_types.specs.Fields.{row};
 ghost use Rattle.omega_types.specs.Normality.{Normal};
 ghost use Rattle.omega_types.specs.Ty.{Ty as TyTree};
-ghost use Rattle.omega_types.specs.View.{ty_of};
+ghost use Rattle.omega_types.specs.Inner.View.{ty_of};
 ghost use Rattle.omega_terms.specs.Typing.{HasPart, result_type};
-ghost use Rattle.omega_terms.specs.View.{term_of};
+ghost use Rattle.omega_terms.specs.Inner.View.{term_of};
 ghost use Rattle.core_judgments.specs.ExpRules.{LiteralGives, FunctionGives, FunctionRefuses, TypeFunctionGives, CallGives, CallRefuses, InstanceGives, InstanceRefuses, GetGives, GetRefuses, IfGives, IfRefuses, OperationGives, OperationRefuses, FixGives, FixRefuses};
-ghost use Rattle.core_rules.specs.Plain.{plain_literal, plain_why};
+ghost use Rattle.core_rules.specs.Inner.Plain.{plain_literal, plain_why};
 
 use crate::premises::{expect_same, expect_star, made, part};
 use crate::refusal::CoreRefusal;

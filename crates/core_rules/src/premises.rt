@@ -2,9 +2,9 @@
 ghost use Rattle.std.specs.Prelude.{◌≡◌, ◌≢◌, ◌↔◌, IfErr, IfOk, IfSome, IsTrue, OnOk};
 ghost use Rattle.omega_kinds.specs.Kind.{Kind as KindTree};
 ghost use Rattle.omega_kinds.specs.View.{kind_tree};
-ghost use Rattle.omega_types.specs.View.{ty_of};
+ghost use Rattle.omega_types.specs.Inner.View.{ty_of};
 ghost use Rattle.core_judgments.specs.CoreWhy.{CoreWhy as Why};
-ghost use Rattle.core_rules.specs.Plain.{plain_why};
+ghost use Rattle.core_rules.specs.Inner.Plain.{plain_why};
 
 use crate::refusal::CoreRefusal;
 use omega_kinds::{Kind, Mem};

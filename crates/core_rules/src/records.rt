@@ -7,8 +7,8 @@ ghost use Rattle.omega_types.specs.Fields.{row};
 ghost use Rattle.core_judgments.specs.CoreWhy.{CoreWhy as Why};
 ghost use Rattle.core_judgments.specs.TypeRules.{RecordTypeGives, RecordTypeRefuses};
 ghost use Rattle.core_judgments.specs.ExpRules.{RecordRefuses};
-ghost use Rattle.core_rules.specs.Plain.{plain_why};
-ghost use Rattle.core_rules.specs.Records.{RecordIs, RecordTypeIs, exp_fields, labelled, type_fields};
+ghost use Rattle.core_rules.specs.Inner.Plain.{plain_why};
+ghost use Rattle.core_rules.specs.Inner.Records.{RecordIs, RecordTypeIs, exp_fields, labelled, type_fields};
 
 use crate::premises::{expect_star, made};
 use crate::refusal::CoreRefusal;

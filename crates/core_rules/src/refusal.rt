@@ -31,7 +31,7 @@ pub enum CoreRefusal {
 
 impl From<Mem> for CoreRefusal {
     ghost use Rattle.std.specs.Prelude.{◌≡◌};
-    ghost use Rattle.core_rules.specs.Plain.{want_of_memory};
+    ghost use Rattle.core_rules.specs.Inner.Plain.{want_of_memory};
 
     ghost from_gives = { λ _ e. e ≡ want_of_memory };
 

@@ -11,8 +11,8 @@ ghost use Rattle.omega_terms.specs.Typing.{HasPart};
 ghost use Rattle.core_judgments.specs.CoreWhy.{CoreWhy as Why};
 ghost use Rattle.core_judgments.specs.TypeRules.{RecordTypeRefuses};
 ghost use Rattle.core_judgments.specs.ExpRules.{SumGives, SumRefuses, LabelGives, LabelRefuses, InjectionGives, InjectionRefuses, FieldExp, BranchesGive, BranchesRefuse, InOrder, LeastWithout, CaseGives, CaseRefuses};
-ghost use Rattle.core_rules.specs.Plain.{plain_why};
-ghost use Rattle.core_rules.specs.Records.{HasBranches, SumTypeIs, at_key, exp_fields, type_fields};
+ghost use Rattle.core_rules.specs.Inner.Plain.{plain_why};
+ghost use Rattle.core_rules.specs.Inner.Records.{HasBranches, SumTypeIs, at_key, exp_fields, type_fields};
 
 use crate::expressions::field_type;
 use crate::premises::{expect_same, expect_star};

@@ -4,9 +4,9 @@ ghost use Rattle.omega_kinds.specs.Kind.{Kind as KindTree};
 ghost use Rattle.omega_kinds.specs.View.{kind_tree};
 ghost use Rattle.omega_types.specs.Normality.{Normal};
 ghost use Rattle.omega_types.specs.Normaliser.{beta};
-ghost use Rattle.omega_types.specs.View.{ty_of};
+ghost use Rattle.omega_types.specs.Inner.View.{ty_of};
 ghost use Rattle.core_judgments.specs.TypeRules.{BaseGives, ArrowGives, ArrowRefuses, AllGives, AllRefuses, OperatorGives, AppliedGives, AppliedRefuses};
-ghost use Rattle.core_rules.specs.Plain.{plain_base, plain_why};
+ghost use Rattle.core_rules.specs.Inner.Plain.{plain_base, plain_why};
 
 use crate::premises::{expect_star, made, part};
 use crate::refusal::CoreRefusal;

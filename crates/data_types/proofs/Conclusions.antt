@@ -3,7 +3,7 @@ use Rattle.std.proofs.Common.{◌≡◌, ◌≢◌, List, ◌∷◌, zero, Optio
 use Rattle.std.proofs.lemmas.Result.{err_from_is_err_and}
 use Rattle.omega_kinds.specs.Kind.{Kind}
 use Rattle.omega_types.specs.Ty.{Ty}
-use Rattle.omega_types.specs.View.{ty_of}
+use Rattle.omega_types.specs.Inner.View.{ty_of}
 use Rattle.omega_types.specs.declared.tree.Ty.{Ty as TyHandle}
 use Rattle.omega_types.specs.declared.tree.TyNode.{TyNode}
 use Rattle.omega_types.specs.declared.tree.TyNode.TheVariants as node
@@ -18,7 +18,7 @@ use Rattle.omega_terms.proofs.NormalTyping.{normal-mu}
 use Rattle.core_judgments.specs.DataRules.{DataWhy, IsNoMu, Unfolds, MuGives, MuRefuses, RollGives, RollRefuses, UnrollGives, UnrollRefuses}
 use Rattle.core_judgments.specs.DataRules.DataWhy.{NotData, Differ, KindDiffer}
 use Rattle.data_types.specs.declared.refusal.DataRefusal.{DataRefusal}
-use Rattle.data_types.specs.Plain.{plain_why, unfolded}
+use Rattle.data_types.specs.Inner.Plain.{plain_why, unfolded}
 
 some-weaker : (o : Option DataWhy) (P Q : DataWhy → Type 0) → ((w : DataWhy) → P w → Q w) → IfSome o P → IfSome o Q
 some-weaker None P Q f h = tt

@@ -4,7 +4,7 @@ ghost use Rattle.omega_kinds.specs.Kind.{Kind as KindTree};
 ghost use Rattle.omega_kinds.specs.View.{kind_tree};
 ghost use Rattle.omega_types.specs.Ty.{Ty as TyTree};
 ghost use Rattle.core_judgments.specs.DataRules.{DataWhy as Why, IsNoMu};
-ghost use Rattle.data_types.specs.Plain.{plain_why, unfolded};
+ghost use Rattle.data_types.specs.Inner.Plain.{plain_why, unfolded};
 
 use crate::refusal::DataRefusal;
 use omega_kinds::Kind;

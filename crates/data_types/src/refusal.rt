@@ -17,7 +17,7 @@ pub enum DataRefusal {
 
 impl From<Mem> for DataRefusal {
     ghost use Rattle.std.specs.Prelude.{◌≡◌};
-    ghost use Rattle.data_types.specs.Plain.{want_of_memory};
+    ghost use Rattle.data_types.specs.Inner.Plain.{want_of_memory};
 
     ghost from_gives = { λ _ e. e ≡ want_of_memory };
 

@@ -4,7 +4,7 @@ ghost use Rattle.omega_kinds.specs.Kind.{Kind as KindTree};
 ghost use Rattle.omega_kinds.specs.View.{kind_tree};
 ghost use Rattle.omega_types.specs.Normality.{Normal};
 ghost use Rattle.core_judgments.specs.DataRules.{MuGives, MuRefuses, RollGives, RollRefuses, UnrollGives, UnrollRefuses};
-ghost use Rattle.data_types.specs.Plain.{plain_why};
+ghost use Rattle.data_types.specs.Inner.Plain.{plain_why};
 
 use crate::premises::{expect_same, expect_star, unfold};
 use crate::refusal::DataRefusal;

@@ -14,7 +14,7 @@ use Rattle.elab_judgments.specs.Judgments.Meaning.{TyMeans, ExpMeans}
 use Rattle.elab_judgments.specs.Refusals.Task.{type_args, operands, args}
 use Rattle.elab_laws.proofs.Kept.{type_ok, exp_ok}
 use Rattle.fing_refusals.specs.declared.refusal.Refusal.{Refusal as CodeRefusal}
-use Rattle.elab_rules.specs.Answered.{RefusedAs}
+use Rattle.elab_rules.specs.Inner.Answered.{RefusedAs}
 
 -- what stands before, at its place
 

@@ -9,7 +9,7 @@ use Rattle.semantic_sigs.specs.declared.made.Kinded.{Kinded}
 use Rattle.semantic_sigs.specs.declared.made.Typed.{Typed}
 use Rattle.fing_text.specs.declared.span.Span.{Span as SpanAt}
 use Rattle.fing_syntax.specs.Phrase.{TyEx, Exp}
-use Rattle.fing_syntax.specs.View.{ty_of, exp_of}
+use Rattle.fing_syntax.specs.Inner.View.{ty_of, exp_of}
 use Rattle.fing_syntax.specs.declared.tree.TyWhat.{TyWhat as TyExNode}
 use Rattle.fing_syntax.specs.declared.tree.TyWhat.TheVariants as ty_what_in
 use Rattle.fing_syntax.specs.declared.tree.ExpWhat.{ExpWhat as ExpNode}

@@ -12,15 +12,15 @@ use Rattle.sig_laws.specs.Good.{OkEnv}
 use Rattle.semantic_sigs.specs.declared.made.Typed.{Typed}
 use Rattle.fing_syntax.specs.Phrase.{Span, SpanName, TyEx, Exp, ExpAt, ExpCase, Branches, NoBranches, MoreBranches}
 use Rattle.fing_syntax.specs.Place.{name_of}
-use Rattle.core_rules.specs.Records.{exp_fields}
+use Rattle.core_rules.specs.Inner.Records.{exp_fields}
 use Rattle.core_judgments.specs.ExpRules.{FieldExp, LabelGives, SumGives, CaseGives, CaseRefuses}
 use Rattle.elab_judgments.specs.Judgments.Meaning.{TyMeans, ExpMeans, BranchesMean}
 use Rattle.elab_judgments.specs.Refusals.Refusal.{of_core}
 use Rattle.elab_judgments.specs.Refusals.Task.{an_exp, branches as task}
 use Rattle.elab_laws.proofs.SumTyping.{label-normal}
 use Rattle.fing_refusals.specs.declared.refusal.Refusal.{Refusal as CodeRefusal}
-use Rattle.elab_rules.specs.Answered.{RefusedAs, ByRule}
-use Rattle.elab_rules.specs.Fields.{names_before}
+use Rattle.elab_rules.specs.Inner.Answered.{RefusedAs, ByRule}
+use Rattle.elab_rules.specs.Inner.Fields.{names_before}
 use Rattle.elab_rules.proofs.Refuse.Sums.{exp_case-branches, exp_case-rule, branch-later}
 use Rattle.elab_phrases.proofs.FieldSteps.{exps-more, names-more}
 

@@ -12,15 +12,15 @@ use Rattle.semantic_sigs.specs.declared.made.Kinded.{Kinded}
 use Rattle.semantic_sigs.specs.declared.made.Typed.{Typed}
 use Rattle.fing_syntax.specs.Phrase.{Span, SpanName, TyEx, TyAt, TyFields, TySum, FieldTyExs, NoFieldTys, MoreFieldTys, Exp, ExpAt, ExpFields, FieldExps, NoFieldExps, MoreFieldExps}
 use Rattle.fing_syntax.specs.Place.{name_of}
-use Rattle.core_rules.specs.Records.{type_fields, exp_fields, RecordTypeIs, SumTypeIs, RecordIs}
+use Rattle.core_rules.specs.Inner.Records.{type_fields, exp_fields, RecordTypeIs, SumTypeIs, RecordIs}
 use Rattle.core_judgments.specs.TypeRules.{FieldTy, RecordTypeGives, RecordTypeRefuses}
 use Rattle.core_judgments.specs.ExpRules.{FieldExp, RecordGives, RecordRefuses}
 use Rattle.elab_judgments.specs.Judgments.Meaning.{TyMeans, FieldTysMean, ExpMeans, FieldExpsMean}
 use Rattle.elab_judgments.specs.Refusals.Refusal.{of_core}
 use Rattle.elab_judgments.specs.Refusals.Task.{a_type, an_exp, type_fields as type_task, fields as exp_task}
 use Rattle.fing_refusals.specs.declared.refusal.Refusal.{Refusal as CodeRefusal}
-use Rattle.elab_rules.specs.Answered.{RefusedAs, ByRule}
-use Rattle.elab_rules.specs.Fields.{names_before}
+use Rattle.elab_rules.specs.Inner.Answered.{RefusedAs, ByRule}
+use Rattle.elab_rules.specs.Inner.Fields.{names_before}
 use Rattle.elab_rules.proofs.Refuse.Types.{ty_fields-parts, ty_fields-rule, ty_field-later, ty_sum-parts, ty_sum-rule}
 use Rattle.elab_rules.proofs.Refuse.Expressions.{exp_fields-parts, exp_fields-rule, exp_field-later}
 

@@ -20,12 +20,12 @@ use Rattle.sig_laws.proofs.Algebra.FormLaws.{kinds-type_vars, module-under}
 use Rattle.sig_laws.proofs.Encoded.EnvTyping.{kinds-named_fields}
 use Rattle.sig_premise_laws.proofs.Environments.{good-module, good-fields, bound-module, bound-fields}
 use Rattle.sig_premise_laws.proofs.NameOrder.{in_order-same}
-use Rattle.semantic_sigs.specs.Fields.{sig_row}
-use Rattle.semantic_sigs.specs.View.{body_of, kinds_of}
+use Rattle.semantic_sigs.specs.Inner.Fields.{sig_row}
+use Rattle.semantic_sigs.specs.Inner.View.{body_of, kinds_of}
 use Rattle.fing_syntax.specs.Phrase.{Span, SigEx, Mod, Bind, BindAt, BindInclude, Binds, NoBinds, MoreBinds}
 use Rattle.fing_syntax.specs.Place.{mod_span}
-use Rattle.fing_syntax.specs.Size.{bind_size, mod_size}
-use Rattle.fing_syntax.specs.View.{bind_of, binds as binds_of}
+use Rattle.fing_syntax.specs.Inner.Size.{bind_size, mod_size}
+use Rattle.fing_syntax.specs.Inner.View.{bind_of, binds as binds_of}
 use Rattle.fing_syntax.specs.declared.tree.BindWhat.{BindWhat as BindNode}
 use Rattle.fing_text.specs.declared.span.Span.{Span as SpanAt}
 use Rattle.refusal_reasons.specs.Refusal.{ElabWhy, NotStructure}
@@ -40,7 +40,7 @@ use Rattle.elab_judgments.specs.Refusals.Task.{a_bind, binds}
 use Rattle.elab_laws.proofs.FieldLaws.{rise-with_names}
 use Rattle.elab_laws.proofs.Kept.{mod_ok, binds_ok}
 use Rattle.fing_refusals.specs.declared.refusal.Refusal.{Refusal as CodeRefusal}
-use Rattle.elab_rules.specs.Answered.{RefusedAs, Placed}
+use Rattle.elab_rules.specs.Inner.Answered.{RefusedAs, Placed}
 use Rattle.elab_rules.proofs.Entering.{left-module, left-fields}
 use Rattle.elab_phrases.proofs.Means.{param-env}
 use Rattle.elab_rules.proofs.Placing.{says-map, by-rule}

@@ -17,7 +17,7 @@ use Rattle.sig_laws.proofs.Formed.Conditions.{explicit-right, abs-body}
 use Rattle.sig_laws.proofs.Formed.WellFormedShape.{kinded}
 use Rattle.sig_laws.proofs.Algebra.FormLaws.{module-under}
 use Rattle.sig_premise_laws.proofs.Environments.{good-module, bound-bind}
-use Rattle.semantic_sigs.specs.View.{body_of, kinds_of}
+use Rattle.semantic_sigs.specs.Inner.View.{body_of, kinds_of}
 use Rattle.fing_syntax.specs.Phrase.{Span, SpanName, TyEx, SigEx, SigAt, SigFun, SigRefine, Decl, Decls, MoreDecls, Mod, ModAt, ModFunctor, Bind, Binds, MoreBinds}
 use Rattle.fing_syntax.specs.Place.{name_of, decl_span}
 use Rattle.sig_judgments.specs.SigRules.{ValueGives, TypeGives, AbstractGives, ModuleGives, SignatureGives, IncludeGives, DistinctRefuses, GenerativeGives as GenerativeSigGives}
@@ -28,9 +28,9 @@ use Rattle.elab_judgments.specs.Refusals.Task.{a_sig, a_mod, decls, binds}
 use Rattle.elab_laws.proofs.FieldLaws.{rise-with_name}
 use Rattle.elab_laws.proofs.Kept.{sig_ok, mod_ok, bind_ok, binds_ok}
 use Rattle.fing_refusals.specs.declared.refusal.Refusal.{Refusal as CodeRefusal}
-use Rattle.elab_rules.specs.Answered.{RefusedAs, ByRule, ByWhere}
-use Rattle.elab_rules.specs.Fields.{fields_in}
-use Rattle.elab_rules.specs.Modules.{FunctorGives, IsSingle}
+use Rattle.elab_rules.specs.Inner.Answered.{RefusedAs, ByRule, ByWhere}
+use Rattle.elab_rules.specs.Inner.Fields.{fields_in}
+use Rattle.elab_rules.specs.Inner.Modules.{FunctorGives, IsSingle}
 use Rattle.elab_rules.proofs.Refuse.Signatures.{sig_fun-result, sig_refine-rule, decls-again, decls-later}
 use Rattle.elab_rules.proofs.Refuse.Modules.{mod_functor-body, binds-later}
 

@@ -6,7 +6,7 @@ use Rattle.fing_syntax.specs.Phrase.{Span, SpanName}
 use Rattle.refusal_reasons.specs.Refusal.{ElabWhy}
 use Rattle.elab_judgments.specs.Refusals.Task.{Task}
 use Rattle.fing_refusals.specs.declared.refusal.Refusal.{Refusal as CodeRefusal}
-use Rattle.elab_rules.specs.Answered.{RefusedAs, ByRule, ByTest, ByInjection, ByRoll}
+use Rattle.elab_rules.specs.Inner.Answered.{RefusedAs, ByRule, ByTest, ByInjection, ByRoll}
 
 pub refused-in : {g h : Env} {a : Task} {e : CodeRefusal} → h ≡ g → RefusedAs h a e → RefusedAs g a e
 refused-in {a = a} {e = e} s r = subst (λ x. RefusedAs x a e) s r

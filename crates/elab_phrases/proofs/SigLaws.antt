@@ -16,26 +16,26 @@ use Rattle.sig_laws.proofs.Formed.Conditions.{explicit-right, str-fields}
 use Rattle.sig_laws.proofs.Formed.WellFormedShape.{kinded}
 use Rattle.sig_laws.proofs.Algebra.FormLaws.{kinds-type_vars}
 use Rattle.sig_premise_laws.proofs.Environments.{good-type_fields}
-use Rattle.semantic_sigs.specs.Fields.{SigPairs, sig_row}
-use Rattle.semantic_sigs.specs.View.{body_of, kinds_of}
+use Rattle.semantic_sigs.specs.Inner.Fields.{SigPairs, sig_row}
+use Rattle.semantic_sigs.specs.Inner.View.{body_of, kinds_of}
 use Rattle.fing_text.specs.declared.span.Span.{Span as SpanAt}
 use Rattle.fing_syntax.specs.declared.leaf.SpanName.{SpanName as NameAt}
 use Rattle.fing_syntax.specs.declared.tree.DeclWhat.{DeclWhat as DeclNode}
 use Rattle.fing_syntax.specs.declared.tree.DeclWhat.TheVariants as decl_what_in
 use Rattle.fing_syntax.specs.Phrase.{Span, SpanName, SigEx, SigAt, SigFun, Mod, Decl, Decls, MoreDecls}
 use Rattle.fing_syntax.specs.Place.{name_of}
-use Rattle.fing_syntax.specs.Size.{decl_size, decls_size}
-use Rattle.fing_syntax.specs.View.{decl_of, decls}
+use Rattle.fing_syntax.specs.Inner.Size.{decl_size, decls_size}
+use Rattle.fing_syntax.specs.Inner.View.{decl_of, decls}
 use Rattle.sig_judgments.specs.SigRules.{AbstractGives, DeclarationsGive}
-use Rattle.sig_rules.specs.Plain.{AreApart}
+use Rattle.sig_rules.specs.Inner.Plain.{AreApart}
 use Rattle.semantic_sigs.proofs.MentionSteps.{length-trees}
 use Rattle.elab_judgments.specs.Judgments.Meaning.{SigMeans, DeclMeans, DeclsMean, ModMeans}
 use Rattle.elab_judgments.specs.Refusals.Task.{decls as decls_task}
 use Rattle.elab_laws.proofs.FieldLaws.{Apart, NoFields, no_fields-end, new-no_fields, no_fields-merge, no_fields-rename, with_names-no_fields}
 use Rattle.elab_laws.proofs.Kept.{decl_ok, mod_ok, sig_ok}
 use Rattle.fing_refusals.specs.declared.refusal.Refusal.{Refusal as CodeRefusal}
-use Rattle.elab_rules.specs.Answered.{RefusedAs}
-use Rattle.elab_rules.specs.Fields.{fields_in}
+use Rattle.elab_rules.specs.Inner.Answered.{RefusedAs}
+use Rattle.elab_rules.specs.Inner.Fields.{fields_in}
 use Rattle.elab_rules.proofs.Entering.{left-type_vars, left-module, left-fields}
 use Rattle.elab_rules.proofs.Given.{ok-map}
 use Rattle.elab_phrases.proofs.Means.{applicative-means, decl-structure, decl-whole, param-env}

@@ -12,7 +12,7 @@ use Rattle.sig_definitions.specs.Signatures.Sig.{Sig, Abs}
 use Rattle.sig_laws.specs.Good.{OkEnv, OkRight, OkAbs, OkSig}
 use Rattle.sig_laws.proofs.Formed.Conditions.{explicit-abs}
 use Rattle.sig_premise_laws.proofs.Environments.{find-good}
-use Rattle.semantic_sigs.specs.View.{kinds_of}
+use Rattle.semantic_sigs.specs.Inner.View.{kinds_of}
 use Rattle.package_judgments.specs.Package.{PackGives}
 use Rattle.fing_syntax.specs.Phrase.{Span, SpanName, SigEx, ExpAt, ExpPack}
 use Rattle.fing_syntax.specs.Place.{name_of, sig_span}
@@ -20,7 +20,7 @@ use Rattle.elab_judgments.specs.Judgments.Meaning.{SigMeans, ExpMeans}
 use Rattle.elab_judgments.specs.Refusals.Task.{an_exp}
 use Rattle.elab_laws.proofs.Kept.{sig_ok}
 use Rattle.fing_refusals.specs.declared.refusal.Refusal.{Refusal as CodeRefusal}
-use Rattle.elab_rules.specs.Answered.{RefusedAs, ByMatch}
+use Rattle.elab_rules.specs.Inner.Answered.{RefusedAs, ByMatch}
 use Rattle.elab_rules.proofs.Refuse.Expressions.{exp_pack-match}
 use Rattle.elab_rules.proofs.Ruled.{match-forms}
 

@@ -2,14 +2,14 @@
 ghost use Rattle.std.specs.Prelude.{◌≡◌, [], IfErr, IfOk, OnOk};
 ghost use Rattle.sig_definitions.specs.Env.{with_module};
 ghost use Rattle.sig_laws.specs.Good.{OkEnv};
-ghost use Rattle.semantic_sigs.specs.Made.{module_of};
-ghost use Rattle.semantic_sigs.specs.View.{body_of, kinds_of};
+ghost use Rattle.semantic_sigs.specs.Inner.Made.{module_of};
+ghost use Rattle.semantic_sigs.specs.Inner.View.{body_of, kinds_of};
 ghost use Rattle.elab_judgments.specs.Judgments.Meaning.{ModMeans};
 ghost use Rattle.elab_judgments.specs.Refusals.Task.{a_mod};
-ghost use Rattle.fing_syntax.specs.Leaves.{spelled};
+ghost use Rattle.fing_syntax.specs.Inner.Leaves.{spelled};
 ghost use Rattle.fing_syntax.specs.Phrase.{ModAt, ModFunctor, ModProject, ModSeal, ModStruct, ModUnpack, Span as Place};
-ghost use Rattle.fing_syntax.specs.View.{binds as binds_of};
-ghost use Rattle.elab_rules.specs.Answered.{RefusedAs};
+ghost use Rattle.fing_syntax.specs.Inner.View.{binds as binds_of};
+ghost use Rattle.elab_rules.specs.Inner.Answered.{RefusedAs};
 
 use crate::bindings::binds;
 use crate::expressions::exp;

@@ -2,10 +2,10 @@
 ghost use Rattle.std.specs.Prelude.{◌≡◌, IfErr, IfOk, OnOk};
 ghost use Rattle.omega_kinds.specs.View.{kind_tree};
 ghost use Rattle.sig_laws.specs.Good.{OkEnv};
-ghost use Rattle.semantic_sigs.specs.Made.{module_of};
+ghost use Rattle.semantic_sigs.specs.Inner.Made.{module_of};
 ghost use Rattle.elab_judgments.specs.Judgments.Meaning.{ExpMeans, ModMeans, SigMeans, TyMeans};
 ghost use Rattle.elab_judgments.specs.Refusals.Task.{a_mod, a_sig, a_type, an_exp};
-ghost use Rattle.elab_rules.specs.Answered.{RefusedAs};
+ghost use Rattle.elab_rules.specs.Inner.Answered.{RefusedAs};
 
 use crate::expressions::exp;
 use crate::modules::module;

@@ -2,13 +2,13 @@
 ghost use Rattle.std.specs.Prelude.{◌≡◌, IfErr, IfOk, OnOk, map};
 ghost use Rattle.sig_definitions.specs.Env.{with_module};
 ghost use Rattle.sig_laws.specs.Good.{OkEnv};
-ghost use Rattle.semantic_sigs.specs.View.{body_of, kinds_of};
+ghost use Rattle.semantic_sigs.specs.Inner.View.{body_of, kinds_of};
 ghost use Rattle.elab_judgments.specs.Judgments.Meaning.{SigMeans};
 ghost use Rattle.elab_judgments.specs.Refusals.Task.{a_sig};
-ghost use Rattle.fing_syntax.specs.Leaves.{place, spelled};
+ghost use Rattle.fing_syntax.specs.Inner.Leaves.{place, spelled};
 ghost use Rattle.fing_syntax.specs.Phrase.{PathSig, SigAt, SigDecls, SigFun, SigRefine, Span as Place};
-ghost use Rattle.fing_syntax.specs.View.{decls as decls_of};
-ghost use Rattle.elab_rules.specs.Answered.{RefusedAs};
+ghost use Rattle.fing_syntax.specs.Inner.View.{decls as decls_of};
+ghost use Rattle.elab_rules.specs.Inner.Answered.{RefusedAs};
 
 use crate::declarations::decls;
 use crate::modules::module;

@@ -4,9 +4,9 @@ ghost use Rattle.omega_kinds.specs.View.{kind_tree};
 ghost use Rattle.sig_laws.specs.Good.{OkEnv};
 ghost use Rattle.elab_judgments.specs.Judgments.Meaning.{ExpMeans, TyMeans};
 ghost use Rattle.elab_judgments.specs.Refusals.Task.{a_type, an_exp};
-ghost use Rattle.fing_syntax.specs.Leaves.{place, spelled};
+ghost use Rattle.fing_syntax.specs.Inner.Leaves.{place, spelled};
 ghost use Rattle.fing_syntax.specs.Phrase.{ExpAt, ExpPack, PathExp, PathTy, Span as Place, TyAt, TyPack};
-ghost use Rattle.elab_rules.specs.Answered.{RefusedAs};
+ghost use Rattle.elab_rules.specs.Inner.Answered.{RefusedAs};
 
 use crate::modules::module;
 use crate::sigs::sig;

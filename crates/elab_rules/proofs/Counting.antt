@@ -2,16 +2,16 @@
 use Rattle.std.proofs.Common.{◌≡◌, ◌≢◌, List, Option, Some, None, length, refl, sym, ap, ◌∙◌}
 use Rattle.std.specs.Prelude.{MatchOption}
 use Rattle.omega_kinds.specs.declared.kind.Kind.{Kind}
-use Rattle.omega_types.specs.Scope.{scope_of}
+use Rattle.omega_types.specs.Inner.Scope.{scope_of}
 use Rattle.sig_definitions.specs.Env.{Env, kinds}
-use Rattle.fing_syntax.specs.Leaves.{place}
+use Rattle.fing_syntax.specs.Inner.Leaves.{place}
 use Rattle.fing_text.specs.declared.span.Span.{Span}
 use Rattle.semantic_sigs.proofs.SlotSteps.{length-scope}
-use Rattle.fing_refusals.specs.Plain.{plain_reason, refused}
+use Rattle.fing_refusals.specs.Inner.Plain.{plain_reason, refused}
 use Rattle.fing_refusals.specs.declared.refusal.ElabWhy.{ElabWhy}
 use Rattle.fing_refusals.specs.declared.refusal.ElabWhy.TheVariants as reason
 use Rattle.refusal_reasons.specs.Refusal.{Refuse, ElabWhy as PlainWhy}
-use Rattle.elab_rules.specs.Answered.{Placed}
+use Rattle.elab_rules.specs.Inner.Answered.{Placed}
 
 -- want of memory alone is no reason
 no-reason : (why : ElabWhy) → plain_reason why ≡ None → why ≡ reason.Mem

@@ -7,8 +7,8 @@ use Rattle.omega_kinds.specs.View.{kind_tree}
 use Rattle.omega_kinds.specs.declared.kind.Kind.{Kind as KindHandle}
 use Rattle.sig_definitions.specs.Signatures.Sig.{Sig}
 use Rattle.sig_definitions.specs.Env.{Env, TypeVar, Named, type_vars, with_module, named_fields}
-use Rattle.semantic_sigs.specs.Entries.{entry_of}
-use Rattle.semantic_sigs.specs.Fields.{sig_row}
+use Rattle.semantic_sigs.specs.Inner.Entries.{entry_of}
+use Rattle.semantic_sigs.specs.Inner.Fields.{sig_row}
 use Rattle.semantic_sigs.specs.declared.env.Entry.{Entry as CodeEntry}
 
 tail-drop : {A : Type 0} (n : ℕ) (xs ys : List A) (x : A) → drop n xs ≡ x ∷ ys → drop (suc n) xs ≡ ys

@@ -15,7 +15,7 @@ use Rattle.elab_judgments.specs.Judgments.Meaning.{TyMeans}
 use Rattle.elab_judgments.specs.Refusals.Task.{a_type}
 use Rattle.elab_laws.proofs.Kept.{type_ok}
 use Rattle.fing_refusals.specs.declared.refusal.Refusal.{Refusal as CodeRefusal}
-use Rattle.elab_rules.specs.Answered.{RefusedAs, ByTest, NoValueType}
+use Rattle.elab_rules.specs.Inner.Answered.{RefusedAs, ByTest, NoValueType}
 use Rattle.elab_rules.proofs.Placing.{says-map}
 
 -- the exit with a refusal

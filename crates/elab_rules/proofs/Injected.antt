@@ -12,8 +12,8 @@ use Rattle.core_judgments.specs.DataRules.{DataWhy, IsNoMu, RollRefuses}
 use Rattle.core_judgments.specs.ExpRules.{InjectionRefuses, LabelGives, LabelRefuses, SumGives, SumRefuses}
 use Rattle.elab_judgments.specs.Refusals.Refusal.{of_core, of_data, refuse}
 use Rattle.fing_refusals.specs.declared.refusal.Refusal.{Refusal as CodeRefusal}
-use Rattle.elab_rules.specs.Answered.{ByInjection, ByRoll, InjectionRefused, Placed, RollRefused}
-use Rattle.elab_rules.specs.Places.{injection_at, roll_at}
+use Rattle.elab_rules.specs.Inner.Answered.{ByInjection, ByRoll, InjectionRefused, Placed, RollRefused}
+use Rattle.elab_rules.specs.Inner.Places.{injection_at, roll_at}
 use Rattle.elab_rules.proofs.Placing.{says-map}
 
 -- the reason that a refusal of a place has

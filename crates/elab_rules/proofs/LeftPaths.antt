@@ -6,23 +6,23 @@ use Rattle.omega_kinds.specs.Name.{Name}
 use Rattle.omega_types.specs.Ty.{Ty}
 use Rattle.sig_definitions.specs.Env.{Env}
 use Rattle.sig_definitions.specs.Signatures.Sig.{Sig, Abs, SigRow, HasField}
-use Rattle.semantic_sigs.specs.View.{body_of, kinds_of}
+use Rattle.semantic_sigs.specs.Inner.View.{body_of, kinds_of}
 use Rattle.fing_syntax.specs.Phrase.{Span, SpanName, TyEx}
 use Rattle.fing_syntax.specs.Place.{name_of, name_span, ty_span}
-use Rattle.fing_syntax.specs.Leaves.{place, spelled}
+use Rattle.fing_syntax.specs.Inner.Leaves.{place, spelled}
 use Rattle.fing_syntax.specs.declared.leaf.SpanName.{SpanName as NameAt}
 use Rattle.refusal_reasons.specs.Refusal.{ElabWhy}
 use Rattle.sig_judgments.specs.Refinement.{Lacks, LeavesAt}
 use Rattle.sig_judgments.specs.SigRules.{WhereRefuses}
 use Rattle.sig_judgments.specs.SigWhy.{SigWhy}
-use Rattle.sig_rules.specs.Hidden.{IsAt}
+use Rattle.sig_rules.specs.Inner.Hidden.{IsAt}
 use Rattle.elab_judgments.specs.Operators.{names_of}
 use Rattle.elab_judgments.specs.Refusals.Refusal.{of_sig, refuse}
 use Rattle.elab_judgments.specs.Refusals.Steps.{WhereAt}
 use Rattle.fing_refusals.specs.declared.refusal.Refusal.{Refusal as CodeRefusal}
 use Rattle.sig_laws.proofs.Algebra.PathLaws.{no-field, one-field}
-use Rattle.elab_rules.specs.Answered.{Placed, ByWhere}
-use Rattle.elab_rules.specs.Leaving.{LeftAt, StandsAt}
+use Rattle.elab_rules.specs.Inner.Answered.{Placed, ByWhere}
+use Rattle.elab_rules.specs.Inner.Leaving.{LeftAt, StandsAt}
 use Rattle.elab_rules.proofs.Placing.{says-map}
 use Rattle.elab_rules.proofs.Slices.{empty, first-rest, rest-of}
 

@@ -7,9 +7,9 @@ use Rattle.sig_definitions.specs.Env.{Env}
 use Rattle.fing_syntax.specs.Phrase.{Span}
 use Rattle.refusal_reasons.specs.Refusal.{ElabWhy, Refusal}
 use Rattle.elab_judgments.specs.Refusals.Refusal.{refuse}
-use Rattle.fing_refusals.specs.Plain.{Says, plain_refusal, want_of_memory}
+use Rattle.fing_refusals.specs.Inner.Plain.{Says, plain_refusal, want_of_memory}
 use Rattle.fing_refusals.specs.declared.refusal.Refusal.{Refusal as CodeRefusal}
-use Rattle.elab_rules.specs.Answered.{Placed, ByRule, ByTest}
+use Rattle.elab_rules.specs.Inner.Answered.{Placed, ByRule, ByTest}
 
 pub if_some-map : {A : Type 0} {P Q : A → Type 0} (o : Option A) → ((a : A) → P a → Q a) → IfSome o P → IfSome o Q
 if_some-map None f h = tt

@@ -12,18 +12,18 @@ use Rattle.sig_definitions.specs.Explicit.SigPath.{SigPath}
 use Rattle.sig_definitions.specs.Matching.MatchRefusal.{MatchRefusal}
 use Rattle.sig_definitions.specs.Matching.Subtyping.{Match}
 use Rattle.sig_definitions.specs.Signatures.Sig.{made, Sig, SigRow, Abs}
-use Rattle.semantic_sigs.specs.View.{body_of, kinds_of}
+use Rattle.semantic_sigs.specs.Inner.View.{body_of, kinds_of}
 use Rattle.semantic_sigs.specs.declared.made.Why.{Why as CodeWhy}
 use Rattle.semantic_sigs.specs.declared.made.Why.TheVariants as clash
-use Rattle.sig_match.specs.Refusals.{plain_why}
+use Rattle.sig_match.specs.Inner.Refusals.{plain_why}
 use Rattle.module_judgments.specs.ModRules.{FunctorRefuses, IncludeRefuses, NamedGives, PartsGive}
 use Rattle.module_judgments.specs.ModWhy.{ModWhy}
 use Rattle.refusal_reasons.specs.Refusal.{ElabWhy, Refuse}
-use Rattle.fing_syntax.specs.Leaves.{place}
+use Rattle.fing_syntax.specs.Inner.Leaves.{place}
 use Rattle.fing_text.specs.declared.span.Span.{Span as SpanAt}
-use Rattle.fing_refusals.specs.Plain.{plain_clash}
+use Rattle.fing_refusals.specs.Inner.Plain.{plain_clash}
 use Rattle.fing_refusals.specs.declared.refusal.ElabWhy.TheVariants as reason
-use Rattle.elab_rules.specs.Modules.{MatchPlaced}
+use Rattle.elab_rules.specs.Inner.Modules.{MatchPlaced}
 
 -- a name
 pub named-found : {g : Env} {l : Name} {f : Effect} {y : Abs} {ts : List Ty} {d : Term} → NamedGives g l (made f y ts d) → find g l ≡ Some (body_of y, d)

@@ -18,7 +18,7 @@ use Rattle.elab_judgments.specs.Refusals.Rule.{Fails, Enters}
 use Rattle.elab_judgments.specs.Refusals.Steps.{steps, WhereAt}
 use Rattle.elab_judgments.specs.Refusals.Refused.{Refused, here, inside}
 use Rattle.fing_refusals.specs.declared.refusal.Refusal.{Refusal as CodeRefusal}
-use Rattle.elab_rules.specs.Answered.{RefusedAs, ByRule, ByTest, ByMatch, ByWhere, NoValueType, ByInjection, InjectionRefused, ByRoll, RollRefused}
+use Rattle.elab_rules.specs.Inner.Answered.{RefusedAs, ByRule, ByTest, ByMatch, ByWhere, NoValueType, ByInjection, InjectionRefused, ByRoll, RollRefused}
 use Rattle.elab_rules.proofs.Placing.{says-map}
 
 -- a premise is refused

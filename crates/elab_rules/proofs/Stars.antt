@@ -6,7 +6,7 @@ use Rattle.fing_syntax.specs.Phrase.{Span}
 use Rattle.refusal_reasons.specs.Refusal.{KindDiffer}
 use Rattle.std.proofs.Common.{Some}
 use Rattle.fing_refusals.specs.declared.refusal.Refusal.{Refusal as CodeRefusal}
-use Rattle.elab_rules.specs.Answered.{Placed, ByTest}
+use Rattle.elab_rules.specs.Inner.Answered.{Placed, ByTest}
 use Rattle.elab_rules.proofs.Placing.{by-test}
 
 pub no-star : {k a b : Kind} → k ≡ Kind.Arrow a b → k ≢ Kind.Star

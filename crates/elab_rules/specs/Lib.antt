@@ -1,5 +1,1 @@
-pub mod Answered
-pub mod Fields
-pub mod Leaving
-pub mod Modules
-pub mod Places
+pub mod Inner

@@ -6,8 +6,8 @@ ghost use Rattle.omega_types.specs.Normality.{Normal};
 ghost use Rattle.sig_definitions.specs.Env.{kinds as kinds_in};
 ghost use Rattle.core_judgments.specs.DataRules.{MuGives, MuRefuses, RollGives, UnrollGives, UnrollRefuses};
 ghost use Rattle.elab_judgments.specs.Refusals.Refusal.{of_data};
-ghost use Rattle.fing_syntax.specs.Leaves.{place};
-ghost use Rattle.elab_rules.specs.Answered.{ByRoll, ByRule};
+ghost use Rattle.fing_syntax.specs.Inner.Leaves.{place};
+ghost use Rattle.elab_rules.specs.Inner.Answered.{ByRoll, ByRule};
 
 use crate::places::roll_place;
 use crate::refusing::data_refusal;

@@ -5,15 +5,15 @@ ghost use Rattle.omega_kinds.specs.View.{kind_tree};
 ghost use Rattle.omega_types.specs.Normality.{Normal};
 ghost use Rattle.omega_types.specs.Ty.{Row, Ty as TyTree};
 ghost use Rattle.sig_definitions.specs.Env.{kinds as kinds_in};
-ghost use Rattle.core_rules.specs.Plain.{plain_literal};
-ghost use Rattle.core_rules.specs.Records.{RecordIs, exp_fields};
+ghost use Rattle.core_rules.specs.Inner.Plain.{plain_literal};
+ghost use Rattle.core_rules.specs.Inner.Records.{RecordIs, exp_fields};
 ghost use Rattle.core_judgments.specs.ExpRules.{LiteralGives, FunctionGives, FunctionRefuses, TypeFunctionGives, CallGives, CallRefuses, InstanceGives, InstanceRefuses, GetGives, GetRefuses, IfGives, IfRefuses, OperationGives, OperationRefuses, FixGives, FixRefuses, RecordRefuses};
 ghost use Rattle.elab_judgments.specs.Operators.{omega_op as omega_op_of};
 ghost use Rattle.elab_judgments.specs.Refusals.Refusal.{of_core};
 ghost use Rattle.refusal_reasons.specs.Refusal.{Differ, NotArrow, NotAll, NotRecord};
-ghost use Rattle.fing_syntax.specs.Leaves.{op_of, place};
-ghost use Rattle.fing_refusals.specs.Plain.{want_of_memory};
-ghost use Rattle.elab_rules.specs.Answered.{ByRule, ByTest};
+ghost use Rattle.fing_syntax.specs.Inner.Leaves.{op_of, place};
+ghost use Rattle.fing_refusals.specs.Inner.Plain.{want_of_memory};
+ghost use Rattle.elab_rules.specs.Inner.Answered.{ByRule, ByTest};
 
 use crate::refusing::{core_refusal, refuse};
 use core_rules::{

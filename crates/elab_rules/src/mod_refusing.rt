@@ -1,14 +1,14 @@
 // How the rules of modules and packages, and matching, are refused at a place, in an environment.
 ghost use Rattle.std.specs.Prelude.{◌≡◌};
 ghost use Rattle.std.specs.Option.{option_map};
-ghost use Rattle.module_rules.specs.Plain.{plain_why as mod_why};
-ghost use Rattle.packages.specs.Plain.{plain_why as unpack_why};
-ghost use Rattle.sig_match.specs.Refusals.{plain_refusal as match_why};
+ghost use Rattle.module_rules.specs.Inner.Plain.{plain_why as mod_why};
+ghost use Rattle.packages.specs.Inner.Plain.{plain_why as unpack_why};
+ghost use Rattle.sig_match.specs.Inner.Refusals.{plain_refusal as match_why};
 ghost use Rattle.elab_judgments.specs.Refusals.Refusal.{of_mod, of_unpack};
-ghost use Rattle.fing_syntax.specs.Leaves.{place};
-ghost use Rattle.fing_refusals.specs.Plain.{plain_reason};
-ghost use Rattle.elab_rules.specs.Answered.{Placed};
-ghost use Rattle.elab_rules.specs.Modules.{MatchPlaced};
+ghost use Rattle.fing_syntax.specs.Inner.Leaves.{place};
+ghost use Rattle.fing_refusals.specs.Inner.Plain.{plain_reason};
+ghost use Rattle.elab_rules.specs.Inner.Answered.{Placed};
+ghost use Rattle.elab_rules.specs.Inner.Modules.{MatchPlaced};
 
 use crate::refusing::refuse;
 use fing_refusals::{ElabWhy, Refusal};

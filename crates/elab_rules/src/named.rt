@@ -1,12 +1,12 @@
 // Modules of names alone: a name, and a name applied to another.
 ghost use Rattle.std.specs.Prelude.{IfErr, IfOk};
 ghost use Rattle.sig_laws.specs.Good.{OkEnv};
-ghost use Rattle.semantic_sigs.specs.Made.{module_of};
+ghost use Rattle.semantic_sigs.specs.Inner.Made.{module_of};
 ghost use Rattle.elab_judgments.specs.Judgments.Meaning.{ModMeans};
 ghost use Rattle.elab_judgments.specs.Refusals.Task.{a_mod};
-ghost use Rattle.fing_syntax.specs.Leaves.{spelled};
+ghost use Rattle.fing_syntax.specs.Inner.Leaves.{spelled};
 ghost use Rattle.fing_syntax.specs.Phrase.{ModApply, ModAt, ModName, Span as Place};
-ghost use Rattle.elab_rules.specs.Answered.{RefusedAs};
+ghost use Rattle.elab_rules.specs.Inner.Answered.{RefusedAs};
 
 use crate::mod_rules::{apply_rule, match_rule, named_rule, parts_rule};
 use fing_refusals::Refusal;

@@ -2,9 +2,9 @@
 ghost use Rattle.std.specs.Prelude.{◌≡◌, ◌↔◌, ◌++◌, ◌∷◌, [], IfErr, IsTrue, OnOk, map};
 ghost use Rattle.sig_definitions.specs.Signatures.RecordOrder.{IsNew};
 ghost use Rattle.refusal_reasons.specs.Refusal.{DuplicateField};
-ghost use Rattle.fing_syntax.specs.Leaves.{place};
-ghost use Rattle.elab_rules.specs.Answered.{ByTest};
-ghost use Rattle.elab_rules.specs.Fields.{names_before};
+ghost use Rattle.fing_syntax.specs.Inner.Leaves.{place};
+ghost use Rattle.elab_rules.specs.Inner.Answered.{ByTest};
+ghost use Rattle.elab_rules.specs.Inner.Fields.{names_before};
 
 use crate::refusing::refuse;
 use fing_refusals::{ElabWhy, Refusal};

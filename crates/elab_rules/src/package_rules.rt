@@ -1,10 +1,10 @@
 // The rule of modules unpacked, refused at a place in an environment.
 ghost use Rattle.std.specs.Prelude.{IfErr, IfOk};
-ghost use Rattle.semantic_sigs.specs.Made.{module_of};
+ghost use Rattle.semantic_sigs.specs.Inner.Made.{module_of};
 ghost use Rattle.package_judgments.specs.Package.{UnpackGives, UnpackRefuses};
 ghost use Rattle.elab_judgments.specs.Refusals.Refusal.{of_unpack};
-ghost use Rattle.fing_syntax.specs.Leaves.{place};
-ghost use Rattle.elab_rules.specs.Answered.{ByRule};
+ghost use Rattle.fing_syntax.specs.Inner.Leaves.{place};
+ghost use Rattle.elab_rules.specs.Inner.Answered.{ByRule};
 
 use crate::mod_refusing::unpack_refusal;
 use fing_refusals::Refusal;

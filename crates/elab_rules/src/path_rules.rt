@@ -3,12 +3,12 @@ ghost use Rattle.std.specs.Prelude.{IfErr, IfOk};
 ghost use Rattle.omega_kinds.specs.View.{kind_tree};
 ghost use Rattle.sig_definitions.specs.Env.{kinds as kinds_in};
 ghost use Rattle.sig_laws.specs.Good.{KindedModule};
-ghost use Rattle.semantic_sigs.specs.Made.{module_of};
+ghost use Rattle.semantic_sigs.specs.Inner.Made.{module_of};
 ghost use Rattle.module_judgments.specs.ModRules.{SigPathRefuses, TypePathRefuses, ValuePathRefuses};
 ghost use Rattle.module_judgments.specs.PathUse.{SigOfPath, TypeOfPath, ValueOfPath};
 ghost use Rattle.elab_judgments.specs.Refusals.Refusal.{of_mod};
-ghost use Rattle.fing_syntax.specs.Leaves.{place};
-ghost use Rattle.elab_rules.specs.Answered.{ByRule};
+ghost use Rattle.fing_syntax.specs.Inner.Leaves.{place};
+ghost use Rattle.elab_rules.specs.Inner.Answered.{ByRule};
 
 use crate::mod_refusing::mod_refusal;
 use fing_refusals::Refusal;

@@ -1,12 +1,12 @@
 // Where a fixed type is refused, an injection, a rolled value, the label of a declaration, and what a branch gives.
 ghost use Rattle.std.specs.Prelude.{◌≡◌, ◌∷◌, IfSome, map};
-ghost use Rattle.core_rules.specs.Plain.{plain_why as core_why};
-ghost use Rattle.data_types.specs.Plain.{plain_why as data_why};
-ghost use Rattle.sig_rules.specs.Plain.{plain_why};
-ghost use Rattle.fing_syntax.specs.Leaves.{place, spelled};
+ghost use Rattle.core_rules.specs.Inner.Plain.{plain_why as core_why};
+ghost use Rattle.data_types.specs.Inner.Plain.{plain_why as data_why};
+ghost use Rattle.sig_rules.specs.Inner.Plain.{plain_why};
+ghost use Rattle.fing_syntax.specs.Inner.Leaves.{place, spelled};
 ghost use Rattle.fing_syntax.specs.Place.{decl_span, exp_span, path_span};
-ghost use Rattle.elab_rules.specs.Leaving.{LeftAt, StandsAt};
-ghost use Rattle.elab_rules.specs.Places.{injection_at, roll_at};
+ghost use Rattle.elab_rules.specs.Inner.Leaving.{LeftAt, StandsAt};
+ghost use Rattle.elab_rules.specs.Inner.Places.{injection_at, roll_at};
 
 use crate::naming::up_to;
 use core_rules::CoreRefusal;

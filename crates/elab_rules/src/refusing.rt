@@ -1,12 +1,12 @@
 // Refusals at a place, in an environment, for the reasons of the rules of types, expressions and recursive types.
 ghost use Rattle.std.specs.Prelude.{◌≡◌};
 ghost use Rattle.std.specs.Option.{option_map};
-ghost use Rattle.core_rules.specs.Plain.{plain_why as core_why};
-ghost use Rattle.data_types.specs.Plain.{plain_why as data_why};
+ghost use Rattle.core_rules.specs.Inner.Plain.{plain_why as core_why};
+ghost use Rattle.data_types.specs.Inner.Plain.{plain_why as data_why};
 ghost use Rattle.elab_judgments.specs.Refusals.Refusal.{of_core, of_data};
-ghost use Rattle.fing_syntax.specs.Leaves.{place};
-ghost use Rattle.fing_refusals.specs.Plain.{plain_reason};
-ghost use Rattle.elab_rules.specs.Answered.{Placed};
+ghost use Rattle.fing_syntax.specs.Inner.Leaves.{place};
+ghost use Rattle.fing_refusals.specs.Inner.Plain.{plain_reason};
+ghost use Rattle.elab_rules.specs.Inner.Answered.{Placed};
 
 use core_rules::CoreRefusal;
 use data_types::DataRefusal;

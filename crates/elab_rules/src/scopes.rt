@@ -3,10 +3,10 @@ ghost use Rattle.std.specs.Prelude.{◌≡◌, ◌∷◌, OnOk, drop};
 ghost use Rattle.omega_kinds.specs.View.{kind_tree};
 ghost use Rattle.sig_definitions.specs.Env.{Value, named_fields, type_vars as type_vars_after, with_module};
 ghost use Rattle.sig_definitions.specs.Signatures.Sig.{Str};
-ghost use Rattle.semantic_sigs.specs.Fields.{sig_row};
-ghost use Rattle.semantic_sigs.specs.View.{body_of, kinds_of};
+ghost use Rattle.semantic_sigs.specs.Inner.Fields.{sig_row};
+ghost use Rattle.semantic_sigs.specs.Inner.View.{body_of, kinds_of};
 ghost use Rattle.elab_judgments.specs.Operators.{include_name, with_type as with_type_after};
-ghost use Rattle.elab_rules.specs.Fields.{fields_in};
+ghost use Rattle.elab_rules.specs.Inner.Fields.{fields_in};
 
 use omega_kinds::{Kind, Kinds, Mem, Name, name_of};
 use semantic_sigs::{Abs, Entry, Env, SigFields, SigNode};

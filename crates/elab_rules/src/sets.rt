@@ -1,7 +1,7 @@
 // Sets of names, with the names of fields.
 ghost use Rattle.std.specs.Prelude.{◌≡◌, IfOk};
 ghost use Rattle.sig_definitions.specs.Signatures.FieldOrder.{with_names as with_names_of};
-ghost use Rattle.semantic_sigs.specs.Fields.{sig_row};
+ghost use Rattle.semantic_sigs.specs.Inner.Fields.{sig_row};
 
 use omega_kinds::Mem;
 use semantic_sigs::SigFields;

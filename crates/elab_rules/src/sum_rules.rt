@@ -3,12 +3,12 @@ ghost use Rattle.std.specs.Prelude.{◌≡◌, [], IfErr, IfOk, OnOk};
 ghost use Rattle.omega_kinds.specs.Kind.{Kind as KindTree};
 ghost use Rattle.omega_kinds.specs.View.{kind_tree};
 ghost use Rattle.omega_types.specs.Ty.{Row};
-ghost use Rattle.core_rules.specs.Records.{SumTypeIs, exp_fields, type_fields};
+ghost use Rattle.core_rules.specs.Inner.Records.{SumTypeIs, exp_fields, type_fields};
 ghost use Rattle.core_judgments.specs.TypeRules.{RecordTypeRefuses};
 ghost use Rattle.core_judgments.specs.ExpRules.{CaseGives, CaseRefuses, InjectionGives, LabelGives, LabelRefuses, SumGives, SumRefuses};
 ghost use Rattle.elab_judgments.specs.Refusals.Refusal.{of_core};
-ghost use Rattle.fing_syntax.specs.Leaves.{place, spelled};
-ghost use Rattle.elab_rules.specs.Answered.{ByInjection, ByRule};
+ghost use Rattle.fing_syntax.specs.Inner.Leaves.{place, spelled};
+ghost use Rattle.elab_rules.specs.Inner.Answered.{ByInjection, ByRule};
 
 use crate::places::injection_place;
 use crate::refusing::core_refusal;

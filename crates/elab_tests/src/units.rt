@@ -3,7 +3,7 @@ ghost use Rattle.std.specs.Prelude.{◌≡◌, [], ◌∷◌, IfOk};
 ghost use Rattle.sig_laws.specs.Good.{OkEnv};
 ghost use Rattle.unit_judgments.specs.Interfaces.{env_of as env_in};
 ghost use Rattle.unit_judgments.specs.Link.{OkUnit, interface_of};
-ghost use Rattle.fing_units.specs.Units.{unit_of};
+ghost use Rattle.fing_units.specs.Inner.Units.{unit_of};
 
 use fing_elab::elab_unit;
 use fing_lexer::tokens;

@@ -12,8 +12,8 @@ use Rattle.fing_top.specs.Reply.{Reply, Replies, IsOnlyReply}
 use Rattle.fing_top.specs.declared.status.Status.{Status}
 use Rattle.fing_top.specs.declared.status.Status.TheVariants as status
 use Rattle.fing_top.proofs.Replies.{one_reply}
-use Rattle.fing_c.specs.Drafted.{Drafted, draft_told}
-use Rattle.fing_c.specs.Returns.{IsWhole, IsCut, Replied, IsGiven, IsReplied, Returns}
+use Rattle.fing_c.specs.Inner.Drafted.{Drafted, draft_told}
+use Rattle.fing_c.specs.Inner.Returns.{IsWhole, IsCut, Replied, IsGiven, IsReplied, Returns}
 
 -- a draft with nothing written
 abbrev pub empty : ℕ → Drafted

@@ -1,2 +1,1 @@
-pub mod Drafted
-pub mod Returns
+pub mod Inner

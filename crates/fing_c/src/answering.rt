@@ -9,7 +9,7 @@ ghost use Rattle.fing_top.specs.Answer.{limit};
 ghost use Rattle.fing_top.specs.Exit.{exit_number};
 ghost use Rattle.fing_top.specs.Words.{IsSized};
 ghost use Rattle.fing_top.specs.declared.status.Status.TheVariants as answer;
-ghost use Rattle.fing_c.specs.Returns.{Replied, Returns, ReturnsNumber};
+ghost use Rattle.fing_c.specs.Inner.Returns.{Replied, Returns, ReturnsNumber};
 
 use crate::draft::Draft;
 use fing_gen::source_of;

@@ -1,7 +1,7 @@
 // The sink that gathers a reply for a page.
 ghost use Rattle.std.specs.Prelude.{◌≡◌, ◌↔◌, ◌≤◌, [], IsTrue, length, take, drop};
 ghost use Rattle.fing_text.specs.Writes.{Writes};
-ghost use Rattle.fing_c.specs.Drafted.{draft_told};
+ghost use Rattle.fing_c.specs.Inner.Drafted.{draft_told};
 
 use fing_text::{Failed, Sink};
 use std::alloc::Global;
@@ -19,7 +19,7 @@ pub struct Draft {
 
 impl Model for Draft {
     ghost use Rattle.std.specs.Prelude.{length, ◌≤◌};
-    ghost use Rattle.fing_c.specs.Drafted.{Drafted};
+    ghost use Rattle.fing_c.specs.Inner.Drafted.{Drafted};
 
     ghost Value = { Drafted };
 

@@ -6,7 +6,7 @@
 #![tactic(auto)]
 
 ghost use Rattle.std.specs.Prelude.{◌≡◌, ◌≤◌, length, take, drop};
-ghost use Rattle.fing_c.specs.Returns.{ReturnsNumber};
+ghost use Rattle.fing_c.specs.Inner.Returns.{ReturnsNumber};
 
 mod answering;
 mod draft;

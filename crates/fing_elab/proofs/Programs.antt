@@ -23,12 +23,12 @@ use Rattle.elab_exact.proofs.Theorems.{each-program}
 use Rattle.elab_spelling.specs.Legible.{TyLegible, TermLegible}
 use Rattle.elab_spelling.specs.Phrases.{BindsSpelled}
 use Rattle.elab_spelling.proofs.Theorems.{encodings_are_legible, programs_mean_legible}
-use Rattle.fing_refusals.specs.Plain.{Says}
+use Rattle.fing_refusals.specs.Inner.Plain.{Says}
 use Rattle.fing_refusals.specs.declared.refusal.Refusal.{Refusal as CodeRefusal}
-use Rattle.elab_rules.specs.Answered.{RefusedAs}
+use Rattle.elab_rules.specs.Inner.Answered.{RefusedAs}
 use Rattle.elab_rules.proofs.Placing.{says-map}
 use Rattle.fing_elab.specs.declared.whole.Elaborated.{Elaborated}
-use Rattle.fing_elab.specs.Exactly.{module_in, Means, IsRefused}
+use Rattle.fing_elab.specs.Inner.Exactly.{module_in, Means, IsRefused}
 
 -- from an environment, names and bindings to the empty ones and the program
 pub entered : (P : Env → List Name → Binds → Type 0) {g : Env} {ns : List Name} {bs program : Binds} → g ≡ [] → ns ≡ [] → bs ≡ program → P g ns bs → P [] [] program

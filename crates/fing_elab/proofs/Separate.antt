@@ -12,8 +12,8 @@ use Rattle.sig_definitions.specs.Signatures.Sig.{Abs, Module, Sig, SigRow, made}
 use Rattle.sig_definitions.specs.Verdict.{holds, refuses}
 use Rattle.sig_laws.specs.Good.{KindedModule, Names, OkEnv, OkModule}
 use Rattle.sig_laws.proofs.Formed.WellFormedShape.{kinded}
-use Rattle.semantic_sigs.specs.Made.{module_of}
-use Rattle.semantic_sigs.specs.View.{kinds_of}
+use Rattle.semantic_sigs.specs.Inner.Made.{module_of}
+use Rattle.semantic_sigs.specs.Inner.View.{kinds_of}
 use Rattle.semantic_sigs.specs.declared.made.Module.{Module as CodeModule}
 use Rattle.fing_syntax.specs.Phrase.{Span, Spelled, Mod, ModAt, ModSeal, SigEx}
 use Rattle.fing_syntax.specs.Units.{UnitTree}
@@ -21,7 +21,7 @@ use Rattle.module_judgments.specs.ModRules.{ProjectRefuses}
 use Rattle.module_judgments.specs.ModWhy.{ModWhy}
 use Rattle.module_judgments.specs.Projection.{Projected}
 use Rattle.module_judgments.specs.Sequence.{Collected, Seq}
-use Rattle.module_rules.specs.Plain.{plain_why, want_of_memory}
+use Rattle.module_rules.specs.Inner.Plain.{plain_why, want_of_memory}
 use Rattle.module_rules.specs.declared.refusal.ModRefusal.{ModRefusal}
 use Rattle.module_rules.specs.declared.refusal.ModRefusal.TheVariants as refusal
 use Rattle.refusal_reasons.specs.Refusal.{Refusal}
@@ -29,9 +29,9 @@ use Rattle.elab_judgments.specs.Judgments.Meaning.{ModMeans}
 use Rattle.elab_judgments.specs.Refusals.Task.{a_mod}
 use Rattle.elab_exact.specs.Claims.{Exactly}
 use Rattle.elab_exact.proofs.Theorems.{each-answered}
-use Rattle.fing_refusals.specs.Plain.{Says}
+use Rattle.fing_refusals.specs.Inner.Plain.{Says}
 use Rattle.fing_refusals.specs.declared.refusal.Refusal.{Refusal as CodeRefusal}
-use Rattle.elab_rules.specs.Answered.{RefusedAs}
+use Rattle.elab_rules.specs.Inner.Answered.{RefusedAs}
 use Rattle.elab_phrases.proofs.Included.{left-under}
 use Rattle.elab_rules.proofs.Placing.{says-map}
 use Rattle.unit_judgments.specs.Interfaces.{hidden_in, sig_in, with_interface}
@@ -39,11 +39,11 @@ use Rattle.unit_judgments.specs.Link.{LinkGives}
 use Rattle.unit_judgments.proofs.Sequences.{seq-ok}
 use Rattle.fing_units.proofs.Linked.{hidden-kinds}
 use Rattle.unit_laws.specs.Derived.{UnitMeans, UnitRefused}
-use Rattle.unit_laws.specs.Sealing.{Joins}
+use Rattle.unit_laws.specs.Inner.Sealing.{Joins}
 use Rattle.unit_laws.specs.Units.{sealed, sealing_name, unit_mod, unit_result}
 use Rattle.unit_laws.proofs.Composed.{after_body, after_both, body-env, both-names, Parts, unit-found, unit-of}
 use Rattle.unit_laws.proofs.Sealed.{body-refused, sealing-refused}
-use Rattle.fing_elab.specs.Units.{MeansUnit, UnitIsRefused}
+use Rattle.fing_elab.specs.Inner.Units.{MeansUnit, UnitIsRefused}
 
 pub unit-meaning : (g : Env) (u : UnitTree) (m : Module) → OkEnv g → UnitMeans g u m → MeansUnit g u m
 unit-meaning g u m h p = go (each-answered g (a_mod (unit_mod u)) h tt)

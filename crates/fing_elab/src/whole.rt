@@ -5,11 +5,11 @@ ghost use Rattle.omega_terms.specs.declared.version.Version.{Version};
 ghost use Rattle.sig_definitions.specs.Packing.{Packed};
 ghost use Rattle.sig_definitions.specs.Signatures.Encoding.{enc_abs};
 ghost use Rattle.sig_laws.specs.Good.{KindedModule};
-ghost use Rattle.semantic_sigs.specs.Made.{module_of};
+ghost use Rattle.semantic_sigs.specs.Inner.Made.{module_of};
 ghost use Rattle.elab_spelling.specs.Legible.{TermLegible, TyLegible};
 ghost use Rattle.elab_spelling.specs.Phrases.{BindsSpelled};
-ghost use Rattle.fing_refusals.specs.Plain.{Says};
-ghost use Rattle.fing_elab.specs.Exactly.{Means, IsRefused};
+ghost use Rattle.fing_refusals.specs.Inner.Plain.{Says};
+ghost use Rattle.fing_elab.specs.Inner.Exactly.{Means, IsRefused};
 
 use elab_phrases::{NameSet, structure};
 use fing_refusals::Refusal;

@@ -8,7 +8,7 @@ use Rattle.std.specs.Option.{option_map}
 use Rattle.std.specs.Char.{is_ascii_digit}
 use Rattle.fing_lexer.specs.declared.token.Mark.{Mark}
 use Rattle.fing_lexer.specs.declared.token.What.TheVariants as what
-use Rattle.fing_lexer.specs.Lexing.{IsOther, long_mark}
+use Rattle.fing_lexer.specs.Inner.Lexing.{IsOther, long_mark}
 use Rattle.fing_lexer.specs.Lexeme.{lexeme, is_name_start, is_name_byte, word_or_name, entry, words, marks, value_behind}
 use Rattle.fing_lexer.specs.Tokens.{Stands, Found, NoByte, skipped, is_in_range}
 use Rattle.fing_lexer.proofs.Classes.{name_found, number_found, letter_not_skipped, negative_found, tilde_alone, tilde_not_skipped, digit_not_skipped, if_false}

@@ -7,7 +7,7 @@ use Rattle.fing_lexer.specs.declared.token.What.{What}
 use Rattle.fing_lexer.specs.declared.token.Token.{Token}
 use Rattle.fing_lexer.specs.Nest.{Nest, whole_file, counted, opened, total, is_opener, empty_level}
 use Rattle.fing_lexer.specs.Tokens.{Stands, Front, End, Skip, Found, NoByte, NoText, step, Done, Go, Outcome, Good, Bad, prepend, Lexes, done, go, TokensOf, RefusalOf, token_at, is_in_range, skipped, line_length, is_blank, begins_with}
-use Rattle.fing_lexer.specs.Lexing.{IsWide}
+use Rattle.fing_lexer.specs.Inner.Lexing.{IsWide}
 use Rattle.fing_lexer.specs.declared.lexer.LexRefusal.TheVariants.{BadByte, BadText, Wide, TooDeep}
 use Rattle.fing_lexer.proofs.Laws.{some_none, no_empty}
 

@@ -5,7 +5,7 @@ use Rattle.std.specs.Prelude.{Option, Some, None, nat_eq, if◌then◌else◌}
 use Rattle.std.specs.Option.{option_map}
 use Rattle.fing_lexer.specs.declared.token.What.TheVariants as what
 use Rattle.fing_lexer.specs.Lexeme.{lexeme, meaning, escaped, is_plain, cons_both}
-use Rattle.fing_lexer.specs.Lexing.{EndsText, spelled}
+use Rattle.fing_lexer.specs.Inner.Lexing.{EndsText, spelled}
 use Rattle.fing_lexer.specs.Tokens.{Stands, Found, NoText, Longest}
 use Rattle.fing_lexer.proofs.Classes.{quote_not_skipped, if_true, if_false}
 

@@ -1,4 +1,4 @@
 pub mod Lexeme
 pub mod Nest
 pub mod Tokens
-pub mod Lexing
+pub mod Inner

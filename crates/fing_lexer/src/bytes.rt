@@ -3,7 +3,7 @@ ghost use Rattle.std.specs.Prelude.{◌≡◌, ◌<◌, ◌≤◌, ◌^◌, [], 
 ghost use Rattle.std.specs.List.{prefix_len};
 ghost use Rattle.std.specs.Char as char;
 ghost use Rattle.fing_lexer.specs.Lexeme as plain;
-ghost use Rattle.fing_lexer.specs.Lexing as steps;
+ghost use Rattle.fing_lexer.specs.Inner.Lexing as steps;
 ghost use Rattle.fing_lexer.specs.Tokens as whole;
 ghost use Rattle.fing_lexer.specs.declared.token.What.TheVariants as number;
 

@@ -3,7 +3,7 @@ ghost use Rattle.std.specs.Prelude.{◌≡◌, ◌<◌, length, slice_index, tru
 ghost use Rattle.std.specs.Char.{is_ascii_digit};
 ghost use Rattle.fing_lexer.specs.Lexeme as plain;
 ghost use Rattle.fing_lexer.specs.Tokens.{skipped};
-ghost use Rattle.fing_lexer.specs.Lexing.{StandsAs, EndsText, IsOther};
+ghost use Rattle.fing_lexer.specs.Inner.Lexing.{StandsAs, EndsText, IsOther};
 
 use crate::bytes::{
     digits, digits_len, is_name_start, long_mark, name_len, negative, positive, short_mark,

@@ -3,12 +3,12 @@ use Rattle.std.proofs.Common.{◌≡◌, List, [], ◌∷◌, ◌++◌, refl, sy
 use Rattle.std.specs.Prelude.{Option, None, Some, option_map}
 use Rattle.parse_grammar.specs.Grammar.{Class, Units, OneUnit, Binds, Bind, Decls, Decl, TypeOf, K, KArrow, KA, P, Dots, T, TArrow, TC, TArgs, TA, TFields, MoreTFields, S, SArrow, Wheres, SA, M, MArgs, Seals, MA, E, Lam, EBranches, MoreEBranches, Compare, ES, Sums, EM, Products, EP, Args, EA, Gets, EB, EFields, MoreEFields, Symbol, token, phrase, Rule, rhs}
 use Rattle.parse_grammar.specs.Meaning.{Value, Values, act}
-use Rattle.parse_grammar.specs.Moves.{Move, shift, by, track}
+use Rattle.parse_grammar.specs.Inner.Moves.{Move, shift, by, track}
 use Rattle.parse_grammar.specs.Tree.{Trees, end, leaf, node, spelling, values, Phrase}
 use Rattle.fing_lexer.specs.declared.token.Token.{Token}
-use Rattle.parse_grammar.specs.View.{any}
-use Rattle.parse_stack.specs.Item.{Item, TokenItem, item, as_value}
-use Rattle.parse_stack.specs.Play.{and_then, top, taken, played, play_all, told}
+use Rattle.parse_grammar.specs.Inner.View.{any}
+use Rattle.parse_stack.specs.Inner.Item.{Item, TokenItem, item, as_value}
+use Rattle.parse_stack.specs.Inner.Play.{and_then, top, taken, played, play_all, told}
 
 -- the items of values in order
 abbrev all : (ss : List Symbol) → Values ss → List Item

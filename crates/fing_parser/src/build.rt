@@ -1,11 +1,11 @@
 // Trees out of the steps in which tokens are read. The steps are played from the last to the first.
 ghost use Rattle.std.specs.Prelude.{◌≡◌, [], ◌∷◌, Some, None, IfOk, IfErr, OnOk};
-ghost use Rattle.fing_syntax.specs.View.{binds as binds_of};
+ghost use Rattle.fing_syntax.specs.Inner.View.{binds as binds_of};
 ghost use Rattle.parse_grammar.specs.Grammar as the;
-ghost use Rattle.parse_grammar.specs.Steps.{move_in, moves};
-ghost use Rattle.parse_stack.specs.Item.{TokenItem};
-ghost use Rattle.parse_stack.specs.Part.{held};
-ghost use Rattle.parse_stack.specs.Play.{play, play_all, told};
+ghost use Rattle.parse_grammar.specs.Inner.Steps.{move_in, moves};
+ghost use Rattle.parse_stack.specs.Inner.Item.{TokenItem};
+ghost use Rattle.parse_stack.specs.Inner.Part.{held};
+ghost use Rattle.parse_stack.specs.Inner.Play.{play, play_all, told};
 ghost use Rattle.parse_stack.specs.declared.refusal.BuildRefusal.TheVariants.{Mem as WantOfMemory, Misfit};
 
 use fing_lexer::Token;

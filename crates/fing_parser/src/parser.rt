@@ -1,7 +1,7 @@
 // Programs and lists of separate units, out of tokens.
 ghost use Rattle.std.specs.Prelude.{◌≤◌, length, IfOk, IfErr};
 ghost use Rattle.parse_grammar.specs.Grammar as the;
-ghost use Rattle.parse_grammar.specs.Refusal.{Refuses};
+ghost use Rattle.parse_grammar.specs.Inner.Refusal.{Refuses};
 ghost use Rattle.parse_grammar.specs.Tree.{Phrase};
 
 use crate::build::{build_binds, build_units};

@@ -3,11 +3,11 @@ use Rattle.std.proofs.Common.{◌≡◌, ℕ, zero, suc, ◌<◌, List, [], ◌�
 use Rattle.std.specs.Prelude.{flat_map, codes}
 use Rattle.std.proofs.lemmas.List.{append-nil}
 use Rattle.omega_kinds.specs.Text.{◌then◌}
-use Rattle.semantic_sigs.specs.Items.{item_of}
+use Rattle.semantic_sigs.specs.Inner.Items.{item_of}
 use Rattle.semantic_sigs.specs.declared.path.Item.{Item as CodeItem}
 use Rattle.fing_refusals.specs.declared.pieces.Piece.{Piece}
 use Rattle.fing_refusals.specs.Line.{item_text, more_items_text}
-use Rattle.fing_refusals.specs.Pieces.{piece_text, pieces_text, PieceInScope, PiecesInScope}
+use Rattle.fing_refusals.specs.Inner.Pieces.{piece_text, pieces_text, PieceInScope, PiecesInScope}
 
 abbrev pub dotted_text : CodeItem → List ℕ
 dotted_text a = codes "." then item_text (item_of a)

@@ -1,4 +1,2 @@
-pub mod Plain
 pub mod Line
-pub mod InScope
-pub mod Pieces
+pub mod Inner

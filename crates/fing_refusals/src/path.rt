@@ -2,7 +2,7 @@
 ghost use Rattle.std.specs.Prelude.{codes, map};
 ghost use Rattle.fing_text.specs.Writes.{Wrote};
 ghost use Rattle.omega_kinds.specs.Text.{◌then◌};
-ghost use Rattle.semantic_sigs.specs.Items.{item_of};
+ghost use Rattle.semantic_sigs.specs.Inner.Items.{item_of};
 ghost use Rattle.fing_refusals.specs.Line.{item_text, item_list_text, more_items_text, path_text};
 
 use fing_text::{Sink, WriteFault, put};

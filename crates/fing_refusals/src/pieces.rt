@@ -1,7 +1,7 @@
 // Pieces of a line, written one after the other.
 ghost use Rattle.std.specs.Prelude.{decimal};
 ghost use Rattle.fing_text.specs.Writes.{Wrote};
-ghost use Rattle.fing_refusals.specs.Pieces.{piece_text, pieces_text, PieceInScope, PiecesInScope};
+ghost use Rattle.fing_refusals.specs.Inner.Pieces.{piece_text, pieces_text, PieceInScope, PiecesInScope};
 
 use crate::path::write_path;
 use fing_text::{Sink, WriteFault, put};

@@ -68,7 +68,7 @@ pub struct Refusal {
 
 impl From<Mem> for Refusal {
     ghost use Rattle.std.specs.Prelude.{◌≡◌};
-    ghost use Rattle.fing_refusals.specs.Plain.{want_of_memory};
+    ghost use Rattle.fing_refusals.specs.Inner.Plain.{want_of_memory};
 
     ghost from_gives = { λ _ e. e ≡ want_of_memory };
 

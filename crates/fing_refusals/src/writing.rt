@@ -2,12 +2,12 @@
 ghost use Rattle.std.specs.Prelude.{codes};
 ghost use Rattle.fing_text.specs.Writes.{Wrote};
 ghost use Rattle.omega_kinds.specs.Text.{◌then◌};
-ghost use Rattle.fing_syntax.specs.Leaves.{place};
+ghost use Rattle.fing_syntax.specs.Inner.Leaves.{place};
 ghost use Rattle.omega_terms.specs.InScope.{TyInScope};
-ghost use Rattle.fing_refusals.specs.InScope.{ClashInScope, HasLine};
+ghost use Rattle.fing_refusals.specs.Inner.InScope.{ClashInScope, HasLine};
 ghost use Rattle.fing_refusals.specs.Line.{clash_text, front_text, line_of, path_text, two_types_text};
-ghost use Rattle.fing_refusals.specs.Pieces.{given_text, piece_text, whole_text, GivenInScope, PieceInScope};
-ghost use Rattle.fing_refusals.specs.Plain.{plain_clash, plain_reason, plain_refusal};
+ghost use Rattle.fing_refusals.specs.Inner.Pieces.{given_text, piece_text, whole_text, GivenInScope, PieceInScope};
+ghost use Rattle.fing_refusals.specs.Inner.Plain.{plain_clash, plain_reason, plain_refusal};
 
 use crate::path::write_path;
 use crate::pieces::{Piece, write_pieces};

@@ -2,7 +2,7 @@
 ghost use Rattle.std.specs.Prelude.{◌≡◌, ◌⊎◌, ◌≤◌, IfOk, length};
 ghost use Rattle.fing_lexer.specs.declared.lexer.LexRefusal.TheVariants.{Mem as WantOfMemory};
 ghost use Rattle.fing_lexer.specs.Tokens.{RefusalOf};
-ghost use Rattle.fing_show.specs.Judged.{IsReported, Judges, JudgesProgram, JudgesTokens};
+ghost use Rattle.fing_show.specs.Inner.Judged.{IsReported, Judges, JudgesProgram, JudgesTokens};
 
 use crate::pages::{Given, Named, accepted_page, lexical_page, refused_page, syntax_page};
 use crate::places::names_at;

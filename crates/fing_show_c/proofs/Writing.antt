@@ -2,7 +2,7 @@
 use Rattle.std.proofs.Common.{◌≡◌, ℕ, ◌<◌, ◌≤◌, List, ◌++◌, length, take, drop, arith, sym, ap, ◌∙◌}
 use Rattle.std.proofs.lemmas.List.{length-drop, length-take-le, take-append-drop, take_all}
 use Rattle.fing_show.specs.declared.showing.Verdict.{Verdict}
-use Rattle.fing_show_c.specs.Returns.{IsWritten, page_status}
+use Rattle.fing_show_c.specs.Inner.Returns.{IsWritten, page_status}
 use Rattle.fing_show_c.specs.declared.answering.Status.TheVariants as status
 
 module _ (v : Verdict) (text written : List ℕ) (count room : ℕ) (same : written ≡ take count text) where

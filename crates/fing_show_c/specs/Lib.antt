@@ -1,1 +1,1 @@
-pub mod Returns
+pub mod Inner

@@ -1,6 +1,6 @@
 // The answer to a view and a source: a status, and the page in its room.
 ghost use Rattle.std.specs.Prelude.{◌≡◌, ◌≤◌, ◌<◌, MatchOption, ℕ, length, take, drop};
-ghost use Rattle.fing_show_c.specs.Returns.{IsWritten, Returns, exit_number, page_status};
+ghost use Rattle.fing_show_c.specs.Inner.Returns.{IsWritten, Returns, exit_number, page_status};
 
 use fing_show::{Shown, Verdict, View, show};
 use fing_text::SOURCE_LIMIT;

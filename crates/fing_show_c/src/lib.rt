@@ -5,7 +5,7 @@
 #![tactic(auto)]
 
 ghost use Rattle.std.specs.Prelude.{◌≡◌, ◌≤◌, length, take, drop};
-ghost use Rattle.fing_show_c.specs.Returns.{ReturnsNumber};
+ghost use Rattle.fing_show_c.specs.Inner.Returns.{ReturnsNumber};
 
 mod answering;
 

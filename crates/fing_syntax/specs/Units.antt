@@ -5,8 +5,8 @@ use denote.Struct.Codes.{itself}
 use Rattle.std.specs.Coded.{Coded, code_by, coded_list}
 use Rattle.omega_kinds.specs.Name.{Name}
 use Rattle.fing_text.specs.declared.span.Span.{Span as SpanAt}
-use Rattle.fing_syntax.specs.Code.{stored_span, restored_span, span_again, stored_name, restored_name, name_again, stored_sig, restored_sig, sig_again, stored_mod, restored_mod, mod_again, no_sig, no_mod}
-use Rattle.fing_syntax.specs.Leaves.{place}
+use Rattle.fing_syntax.specs.Inner.Code.{stored_span, restored_span, span_again, stored_name, restored_name, name_again, stored_sig, restored_sig, sig_again, stored_mod, restored_mod, mod_again, no_sig, no_mod}
+use Rattle.fing_syntax.specs.Inner.Leaves.{place}
 use Rattle.fing_syntax.specs.Phrase.{Span, Bytes, SpanName, Spelled, Mod, SigEx}
 
 -- the place of the whole unit, its name where it stands, its signature, and its body from `struct` to `end`

@@ -10,13 +10,13 @@ pub struct Program {
 
 impl Model for Program {
     ghost use Rattle.fing_syntax.specs.Phrase.{Binds};
-    ghost use Rattle.fing_syntax.specs.Code.{binds_code};
+    ghost use Rattle.fing_syntax.specs.Inner.Code.{binds_code};
 
     ghost Value = { Binds };
 
     ghost coded = { binds_code };
 
-    ghost use Rattle.fing_syntax.specs.View.{binds as binds_of};
+    ghost use Rattle.fing_syntax.specs.Inner.View.{binds as binds_of};
 
     ghost view = { λ p. binds_of p.binds.items };
 }

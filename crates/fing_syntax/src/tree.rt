@@ -195,126 +195,126 @@ pub enum Arg {
 
 impl Model for Mod {
     ghost use Rattle.fing_syntax.specs.Phrase as tree;
-    ghost use Rattle.fing_syntax.specs.Code.{mod_code};
+    ghost use Rattle.fing_syntax.specs.Inner.Code.{mod_code};
 
     ghost Value = { tree.Mod };
 
     ghost coded = { mod_code };
 
-    ghost use Rattle.fing_syntax.specs.Size.{mod_size};
+    ghost use Rattle.fing_syntax.specs.Inner.Size.{mod_size};
 
     ghost size = { mod_size };
 
-    ghost use Rattle.fing_syntax.specs.View.{mod_of};
+    ghost use Rattle.fing_syntax.specs.Inner.View.{mod_of};
 
     ghost view = { λ n. mod_of n.span n.what };
 
-    ghost use Rattle.fing_syntax.specs.Falls.{mod_falls};
+    ghost use Rattle.fing_syntax.specs.Inner.Falls.{mod_falls};
 
     ghost size_decreases = { λ n _. mod_falls n.span n.what };
 }
 
 impl Model for Bind {
     ghost use Rattle.fing_syntax.specs.Phrase as tree;
-    ghost use Rattle.fing_syntax.specs.Code.{bind_code};
+    ghost use Rattle.fing_syntax.specs.Inner.Code.{bind_code};
 
     ghost Value = { tree.Bind };
 
     ghost coded = { bind_code };
 
-    ghost use Rattle.fing_syntax.specs.Size.{bind_size};
+    ghost use Rattle.fing_syntax.specs.Inner.Size.{bind_size};
 
     ghost size = { bind_size };
 
-    ghost use Rattle.fing_syntax.specs.View.{bind_of};
+    ghost use Rattle.fing_syntax.specs.Inner.View.{bind_of};
 
     ghost view = { λ n. bind_of n.span n.what };
 
-    ghost use Rattle.fing_syntax.specs.Falls.{bind_falls};
+    ghost use Rattle.fing_syntax.specs.Inner.Falls.{bind_falls};
 
     ghost size_decreases = { λ n _. bind_falls n.span n.what };
 }
 
 impl Model for SigEx {
     ghost use Rattle.fing_syntax.specs.Phrase as tree;
-    ghost use Rattle.fing_syntax.specs.Code.{sig_code};
+    ghost use Rattle.fing_syntax.specs.Inner.Code.{sig_code};
 
     ghost Value = { tree.SigEx };
 
     ghost coded = { sig_code };
 
-    ghost use Rattle.fing_syntax.specs.Size.{sig_size};
+    ghost use Rattle.fing_syntax.specs.Inner.Size.{sig_size};
 
     ghost size = { sig_size };
 
-    ghost use Rattle.fing_syntax.specs.View.{sig_of};
+    ghost use Rattle.fing_syntax.specs.Inner.View.{sig_of};
 
     ghost view = { λ n. sig_of n.span n.what };
 
-    ghost use Rattle.fing_syntax.specs.Falls.{sig_falls};
+    ghost use Rattle.fing_syntax.specs.Inner.Falls.{sig_falls};
 
     ghost size_decreases = { λ n _. sig_falls n.span n.what };
 }
 
 impl Model for Decl {
     ghost use Rattle.fing_syntax.specs.Phrase as tree;
-    ghost use Rattle.fing_syntax.specs.Code.{decl_code};
+    ghost use Rattle.fing_syntax.specs.Inner.Code.{decl_code};
 
     ghost Value = { tree.Decl };
 
     ghost coded = { decl_code };
 
-    ghost use Rattle.fing_syntax.specs.Size.{decl_size};
+    ghost use Rattle.fing_syntax.specs.Inner.Size.{decl_size};
 
     ghost size = { decl_size };
 
-    ghost use Rattle.fing_syntax.specs.View.{decl_of};
+    ghost use Rattle.fing_syntax.specs.Inner.View.{decl_of};
 
     ghost view = { λ n. decl_of n.span n.what };
 
-    ghost use Rattle.fing_syntax.specs.Falls.{decl_falls};
+    ghost use Rattle.fing_syntax.specs.Inner.Falls.{decl_falls};
 
     ghost size_decreases = { λ n _. decl_falls n.span n.what };
 }
 
 impl Model for TyEx {
     ghost use Rattle.fing_syntax.specs.Phrase as tree;
-    ghost use Rattle.fing_syntax.specs.Code.{ty_code};
+    ghost use Rattle.fing_syntax.specs.Inner.Code.{ty_code};
 
     ghost Value = { tree.TyEx };
 
     ghost coded = { ty_code };
 
-    ghost use Rattle.fing_syntax.specs.Size.{ty_size};
+    ghost use Rattle.fing_syntax.specs.Inner.Size.{ty_size};
 
     ghost size = { ty_size };
 
-    ghost use Rattle.fing_syntax.specs.View.{ty_of};
+    ghost use Rattle.fing_syntax.specs.Inner.View.{ty_of};
 
     ghost view = { λ n. ty_of n.span n.what };
 
-    ghost use Rattle.fing_syntax.specs.Falls.{ty_falls};
+    ghost use Rattle.fing_syntax.specs.Inner.Falls.{ty_falls};
 
     ghost size_decreases = { λ n _. ty_falls n.span n.what };
 }
 
 impl Model for Exp {
     ghost use Rattle.fing_syntax.specs.Phrase as tree;
-    ghost use Rattle.fing_syntax.specs.Code.{exp_code};
+    ghost use Rattle.fing_syntax.specs.Inner.Code.{exp_code};
 
     ghost Value = { tree.Exp };
 
     ghost coded = { exp_code };
 
-    ghost use Rattle.fing_syntax.specs.Size.{exp_size};
+    ghost use Rattle.fing_syntax.specs.Inner.Size.{exp_size};
 
     ghost size = { exp_size };
 
-    ghost use Rattle.fing_syntax.specs.View.{exp_of};
+    ghost use Rattle.fing_syntax.specs.Inner.View.{exp_of};
 
     ghost view = { λ n. exp_of n.span n.what };
 
-    ghost use Rattle.fing_syntax.specs.Falls.{exp_falls};
+    ghost use Rattle.fing_syntax.specs.Inner.Falls.{exp_falls};
 
     ghost size_decreases = { λ n _. exp_falls n.span n.what };
 }

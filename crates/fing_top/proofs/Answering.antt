@@ -24,26 +24,26 @@ use Rattle.fing_lexer.proofs.Slices.{sliced}
 use Rattle.fing_syntax.specs.Phrase.{Binds as Program}
 use Rattle.parse_grammar.specs.declared.refusal.ParseRefusal.{ParseRefusal}
 use Rattle.parse_grammar.specs.declared.refusal.ParseRefusal.TheVariants as parse
-use Rattle.parse_grammar.specs.Refusal.{Refuses as TokensRefuse}
+use Rattle.parse_grammar.specs.Inner.Refusal.{Refuses as TokensRefuse}
 use Rattle.fing_words.specs.CommandLines.{IsCommandLine}
 use Rattle.fing_words.specs.declared.command_line.CommandLine.{CommandLine}
 use Rattle.fing_words.specs.declared.command_line.CommandLine.TheVariants as command
 use Rattle.fing_words.proofs.OneLine.{one_line}
 use Rattle.refusal_reasons.specs.Refusal.{Refusal as PlainRefusal}
-use Rattle.fing_refusals.specs.InScope.{HasLine as RefusalHasLine}
+use Rattle.fing_refusals.specs.Inner.InScope.{HasLine as RefusalHasLine}
 use Rattle.fing_refusals.specs.Line.{line_of as program_line}
-use Rattle.fing_refusals.specs.Plain.{Says, plain_refusal, want_of_memory}
+use Rattle.fing_refusals.specs.Inner.Plain.{Says, plain_refusal, want_of_memory}
 use Rattle.fing_refusals.specs.declared.refusal.Refusal.{Refusal}
 use Rattle.elab_judgments.specs.Judgments.Program.{ProgramRefused}
-use Rattle.fing_elab.specs.Exactly.{Means, IsRefused as MeansNothing}
+use Rattle.fing_elab.specs.Inner.Exactly.{Means, IsRefused as MeansNothing}
 use Rattle.fing_elab.specs.declared.whole.Elaborated.{Elaborated}
-use Rattle.fing_top.specs.Compiled.{meaning_of, IsCompiled, IsConfirmed, IsEmission, IsRefused}
-use Rattle.omega_machine.specs.Outcomes.{fault_of, Tells as Ends}
+use Rattle.fing_top.specs.Inner.Compiled.{meaning_of, IsCompiled, IsConfirmed, IsEmission, IsRefused}
+use Rattle.omega_machine.specs.Inner.Outcomes.{fault_of, Tells as Ends}
 use Rattle.omega_terms.specs.ValueText.{value_text}
 use Rattle.omega_machine.specs.declared.outcome.End.{End}
 use Rattle.omega_machine.specs.declared.outcome.End.TheVariants as ending
 use Rattle.fing_top.specs.Counts.{bind_count, node_count, counts_line}
-use Rattle.fing_top.specs.Ending.{ending_status, ending_text, counted_text}
+use Rattle.fing_top.specs.Inner.Ending.{ending_status, ending_text, counted_text}
 use Rattle.fing_top.specs.Meaning.{Form, one_program, separate_units, class_of, Spells, BytesRefusal, BytesRefused}
 use Rattle.fing_top.specs.Refusing.{untokened, unparsed, numbered, refusal_line, HasLine}
 use Rattle.fing_top.specs.declared.compiling.Compiled.{Compiled}
@@ -52,7 +52,7 @@ use Rattle.fing_top.specs.declared.refusing.Refused.TheVariants.{Program as InPr
 use Rattle.fing_top.specs.declared.status.Status.{Status}
 use Rattle.fing_top.specs.declared.status.Status.TheVariants as status
 use Rattle.fing_top.specs.Reply.{Reply, answered, accepted, emitted, omega_reply, refused, reply_of, Telling, TellsTerm, TellsOutcome, TellsCounts, fault_line, Refuses, ProgramReplies, Replies, VerifyReplies}
-use Rattle.fing_top.specs.Verdict.{unread, verdict_line, HasLine as HasVerdict}
+use Rattle.fing_top.specs.Inner.Verdict.{unread, verdict_line, HasLine as HasVerdict}
 use Rattle.fing_top.specs.Answer.{limit, Change, Stands, Output, Confirms, IsWritten, AnswersBytes, IsAnswered, Untouched, Takes, Spares, IsReplied, Answers, IsHanded, Completes}
 use Rattle.fing_top.specs.Words.{IsReadingLine}
 use Rattle.fing_top.proofs.Replies.{one_reply}

@@ -1,7 +1,7 @@
 -- How many bindings a program has.
 use Rattle.std.proofs.Common.{◌≡◌, suc, List, [], ◌∷◌, length, refl, ap}
 use Rattle.fing_syntax.specs.Phrase.{Bind}
-use Rattle.fing_syntax.specs.View.{binds as binds_of}
+use Rattle.fing_syntax.specs.Inner.View.{binds as binds_of}
 use Rattle.fing_top.specs.Counts.{bind_count}
 
 -- a list of bindings, seen as a program, has as many

@@ -17,13 +17,13 @@ use Rattle.omega_checker.specs.Judgment.{Judgment, Derived}
 use Rattle.sig_definitions.specs.Signatures.Sig.{Sig, Abs, SigRow, made}
 use Rattle.sig_definitions.specs.Signatures.Alike.{NormalSig, NormalAbs, NormalSigRow}
 use Rattle.sig_definitions.specs.Signatures.Encoding.{enc, enc_abs, enc_row, one_part}
-use Rattle.semantic_sigs.specs.Height.{sig_height, abs_height, sig_row_height}
-use Rattle.sig_text.specs.SigInScope.{SigInScope, AbsInScope, SigRowInScope}
+use Rattle.semantic_sigs.specs.Inner.Height.{sig_height, abs_height, sig_row_height}
+use Rattle.sig_text.specs.Inner.SigInScope.{SigInScope, AbsInScope, SigRowInScope}
 use Rattle.fing_syntax.specs.Phrase.{Binds as Program}
 use Rattle.elab_judgments.specs.Judgments.Program.{ProgramMeans}
 use Rattle.elab_laws.proofs.Kept.{binds_ok}
 use Rattle.elab_spelling.proofs.Scopes.{ty-scope, closed-type, closed-term}
-use Rattle.fing_top.specs.Compiled.{IsCompiled}
+use Rattle.fing_top.specs.Inner.Compiled.{IsCompiled}
 use Rattle.fing_top.specs.declared.compiling.Compiled.{Compiled}
 
 all-high : (ks : List Kind) (t : Ty) → height (all_over ks t) ≡ length ks + height t

@@ -27,15 +27,15 @@ use Rattle.unit_laws.specs.Derived.{UnitMeans, UnitRefused, DerivedUnder, UnitsM
 use Rattle.unit_laws.specs.Units.{unit_name, program_of}
 use Rattle.unit_laws.proofs.InOrder.{so-far, one-more, first-stop}
 use Rattle.unit_laws.proofs.Apart.{derived-under-is-good, first-is-refused, linked-is-derived, linked-means}
-use Rattle.semantic_sigs.specs.Made.{module_of}
+use Rattle.semantic_sigs.specs.Inner.Made.{module_of}
 use Rattle.semantic_sigs.specs.declared.made.Module.{Module as CodeModule}
-use Rattle.fing_refusals.specs.Plain.{Says, plain_refusal, want_of_memory}
+use Rattle.fing_refusals.specs.Inner.Plain.{Says, plain_refusal, want_of_memory}
 use Rattle.fing_refusals.specs.declared.refusal.Refusal.{Refusal}
-use Rattle.fing_elab.specs.Units.{MeansUnit, UnitIsRefused}
-use Rattle.fing_units.specs.Units.{unit_of, units_of}
+use Rattle.fing_elab.specs.Inner.Units.{MeansUnit, UnitIsRefused}
+use Rattle.fing_units.specs.Inner.Units.{unit_of, units_of}
 use Rattle.fing_units.specs.declared.unit_module.UnitModule.{UnitModule as CodeUnit}
-use Rattle.fing_top.specs.Compiled.{IsConfirmed}
-use Rattle.fing_top.specs.Linked.{IsNext}
+use Rattle.fing_top.specs.Inner.Compiled.{IsConfirmed}
+use Rattle.fing_top.specs.Inner.Linked.{IsNext}
 use Rattle.fing_top.specs.Meaning.{separate_units, Spells}
 
 -- ---- one unit after the other

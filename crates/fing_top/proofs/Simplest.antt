@@ -8,9 +8,9 @@ use Rattle.omega_checker.specs.Judgment.{Judgment}
 use Rattle.omega_simplify_laws.specs.Simplified.{simplified}
 use Rattle.omega_simplify_laws.proofs.Kept.{kept}
 use Rattle.fing_syntax.specs.Phrase.{Binds as Program}
-use Rattle.fing_elab.specs.Exactly.{Means}
+use Rattle.fing_elab.specs.Inner.Exactly.{Means}
 use Rattle.fing_elab.specs.declared.whole.Elaborated.{Elaborated}
-use Rattle.fing_top.specs.Compiled.{meaning_of, IsCompiled, IsConfirmed}
+use Rattle.fing_top.specs.Inner.Compiled.{meaning_of, IsCompiled, IsConfirmed}
 use Rattle.fing_top.specs.declared.compiling.Compiled.{Compiled}
 use Rattle.fing_top.specs.Meaning.{one_program, Spells}
 

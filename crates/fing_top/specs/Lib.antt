@@ -4,10 +4,6 @@ pub mod Refusing
 pub mod Counts
 pub mod Meaning
 pub mod Reply
-pub mod Compiled
-pub mod Linked
-pub mod Ending
-pub mod Verdict
 pub mod Answer
 pub mod Emission
-pub mod Page
+pub mod Inner

@@ -4,10 +4,10 @@ use Rattle.fing_lexer.specs.declared.lexer.LexRefusal.{LexRefusal}
 use Rattle.fing_lexer.specs.declared.lexer.LexRefusal.TheVariants as lex
 use Rattle.parse_grammar.specs.declared.refusal.ParseRefusal.{ParseRefusal}
 use Rattle.parse_grammar.specs.declared.refusal.ParseRefusal.TheVariants as parse
-use Rattle.fing_refusals.specs.InScope.{HasLine as RefusalHasLine}
+use Rattle.fing_refusals.specs.Inner.InScope.{HasLine as RefusalHasLine}
 use Rattle.fing_refusals.specs.Line.{line_of}
-use Rattle.fing_refusals.specs.Plain.{plain_reason, plain_refusal}
-use Rattle.sig_scopes.specs.ReasonScoped.{given_depth}
+use Rattle.fing_refusals.specs.Inner.Plain.{plain_reason, plain_refusal}
+use Rattle.sig_scopes.specs.Inner.ReasonScoped.{given_depth}
 use Rattle.fing_top.specs.declared.refusing.Refused.{Refused}
 use Rattle.fing_top.specs.declared.refusing.Refused.TheVariants.{BadByte, BadText, Wide, TooDeep, Syntax, Program, Mem}
 

@@ -1,14 +1,14 @@
 // Units elaborated apart and linked, as a build does it, by the calls `env_of`, `elab_unit` and `link`.
 ghost use Rattle.std.specs.Prelude.{◌≡◌, ◌<◌, ◌^◌, ◌++◌, ◌∷◌, [], List, length, vec_len, IfErr, IfOk, OnOk};
 ghost use Rattle.omega_terms.specs.Term.{Term};
-ghost use Rattle.semantic_sigs.specs.Made.{module_of};
-ghost use Rattle.fing_refusals.specs.Plain.{Says};
+ghost use Rattle.semantic_sigs.specs.Inner.Made.{module_of};
+ghost use Rattle.fing_refusals.specs.Inner.Plain.{Says};
 ghost use Rattle.fing_syntax.specs.Units.{UnitTree as Tree};
 ghost use Rattle.unit_judgments.specs.Interfaces.{env_of as env_in};
 ghost use Rattle.unit_judgments.specs.Link.{Links, UnitModule as ModuleOfUnit, interface_of};
 ghost use Rattle.unit_laws.specs.Derived.{DerivedUnder, DerivesUnits, FirstRefused, RefusesUnits, UnitRefused, UnitsMean};
-ghost use Rattle.fing_units.specs.Units.{unit_of, units_of};
-ghost use Rattle.fing_top.specs.Linked.{IsNext};
+ghost use Rattle.fing_units.specs.Inner.Units.{unit_of, units_of};
+ghost use Rattle.fing_top.specs.Inner.Linked.{IsNext};
 
 use fing_elab::elab_unit;
 use fing_refusals::Refusal;

@@ -3,7 +3,7 @@ ghost use Rattle.std.specs.Prelude.{◌≡◌, ◌≤◌, [], length, true, IfOk
 ghost use Rattle.omega_terms.specs.Typing.{HasType};
 ghost use Rattle.sig_definitions.specs.Signatures.Encoding.{enc_abs};
 ghost use Rattle.fing_top.specs.Answer.{limit};
-ghost use Rattle.fing_top.specs.Compiled.{IsCompiled, IsConfirmed, IsRefused};
+ghost use Rattle.fing_top.specs.Inner.Compiled.{IsCompiled, IsConfirmed, IsRefused};
 ghost use Rattle.fing_top.specs.Counts.{bind_count};
 ghost use Rattle.fing_top.specs.Meaning.{one_program, Spells};
 

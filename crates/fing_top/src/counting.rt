@@ -4,7 +4,7 @@ ghost use Rattle.fing_text.specs.Writes.{Wrote};
 ghost use Rattle.fing_words.specs.declared.command_line.CommandLine.TheVariants as command;
 ghost use Rattle.fing_top.specs.Answer.{limit, AnswersBytes, change, output};
 ghost use Rattle.fing_top.specs.Counts.{node_count, counts_line};
-ghost use Rattle.fing_top.specs.Ending.{counted_text};
+ghost use Rattle.fing_top.specs.Inner.Ending.{counted_text};
 
 use crate::compiling::Compiled;
 use crate::refusing::{has_line, write_line};

@@ -5,7 +5,7 @@ ghost use Rattle.omega_terms.specs.OmegaText.{omega_text};
 ghost use Rattle.fing_words.specs.declared.command_line.CommandLine.{CommandLine};
 ghost use Rattle.fing_words.specs.declared.command_line.CommandLine.TheVariants as command;
 ghost use Rattle.fing_top.specs.Answer.{limit, AnswersBytes, change, output};
-ghost use Rattle.fing_top.specs.Compiled.{IsConfirmed, IsEmission, IsRefused};
+ghost use Rattle.fing_top.specs.Inner.Compiled.{IsConfirmed, IsEmission, IsRefused};
 ghost use Rattle.fing_top.specs.Meaning.{one_program};
 
 use crate::compiling::{compile, compile_simplified};

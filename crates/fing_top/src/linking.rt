@@ -1,16 +1,16 @@
 // `link`: separate units, each elaborated apart under the names and signatures of those before it, and linked.
 ghost use Rattle.std.specs.Prelude.{◌≡◌, ◌≤◌, ◌++◌, ◌∷◌, [], length, false, IfErr, IfOk, OnOk};
-ghost use Rattle.semantic_sigs.specs.Made.{module_of};
-ghost use Rattle.fing_refusals.specs.Plain.{Says};
+ghost use Rattle.semantic_sigs.specs.Inner.Made.{module_of};
+ghost use Rattle.fing_refusals.specs.Inner.Plain.{Says};
 ghost use Rattle.unit_judgments.specs.Interfaces.{env_of as env_in, sig_in, with_interface};
 ghost use Rattle.unit_judgments.specs.Link.{interface_of};
 ghost use Rattle.unit_laws.specs.Derived.{DerivedUnder, UnitRefused, UnitsMean, FirstRefused};
 ghost use Rattle.unit_laws.specs.Units.{program_of};
-ghost use Rattle.fing_units.specs.Units.{unit_of, units_of};
+ghost use Rattle.fing_units.specs.Inner.Units.{unit_of, units_of};
 ghost use Rattle.fing_words.specs.declared.command_line.CommandLine.TheVariants as command;
 ghost use Rattle.fing_top.specs.Answer.{limit, AnswersBytes, change, output};
-ghost use Rattle.fing_top.specs.Compiled.{IsConfirmed, IsRefused};
-ghost use Rattle.fing_top.specs.Linked.{IsNext};
+ghost use Rattle.fing_top.specs.Inner.Compiled.{IsConfirmed, IsRefused};
+ghost use Rattle.fing_top.specs.Inner.Linked.{IsNext};
 ghost use Rattle.fing_top.specs.Meaning.{separate_units, Spells};
 
 use crate::compiling::confirm;

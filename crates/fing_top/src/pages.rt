@@ -1,10 +1,10 @@
 // The replies of `check` and `emit`, which are gathered on a page and handed to the sink as a whole.
 ghost use Rattle.std.specs.Prelude.{◌≡◌, [], IfSome, Some};
 ghost use Rattle.fing_text.specs.Writes.{Wrote};
-ghost use Rattle.fing_top.specs.Page.{page_told};
+ghost use Rattle.fing_top.specs.Inner.Page.{page_told};
 ghost use Rattle.omega_terms.specs.InScope.{TermInScope, TyInScope};
 ghost use Rattle.omega_terms.specs.OmegaText.{omega_text};
-ghost use Rattle.sig_text.specs.SigInScope.{AbsInScope};
+ghost use Rattle.sig_text.specs.Inner.SigInScope.{AbsInScope};
 ghost use Rattle.sig_text.specs.SigText.{elab_text};
 
 use fing_text::{Failed, Sink, WriteFault, put};

@@ -1,11 +1,11 @@
 // `run`: the outcome of a program's whole term within a budget of steps.
 ghost use Rattle.std.specs.Prelude.{◌≡◌, ◌≤◌, length, IfErr, IfOk};
 ghost use Rattle.fing_text.specs.Writes.{Wrote};
-ghost use Rattle.omega_machine.specs.Outcomes.{Tells};
+ghost use Rattle.omega_machine.specs.Inner.Outcomes.{Tells};
 ghost use Rattle.fing_top.specs.Answer.{limit, AnswersBytes, change, output};
-ghost use Rattle.fing_top.specs.Compiled.{IsCompiled, IsRefused};
+ghost use Rattle.fing_top.specs.Inner.Compiled.{IsCompiled, IsRefused};
 ghost use Rattle.fing_top.specs.Meaning.{one_program};
-ghost use Rattle.fing_top.specs.Ending.{ending_status, ending_text};
+ghost use Rattle.fing_top.specs.Inner.Ending.{ending_status, ending_text};
 ghost use Rattle.fing_words.specs.declared.command_line.CommandLine.TheVariants as command;
 
 use crate::compiling::{Compiled, compile};

@@ -3,7 +3,7 @@ ghost use Rattle.std.specs.Prelude.{codes, IfOk, IfErr};
 ghost use Rattle.fing_text.specs.Writes.{Wrote};
 ghost use Rattle.fing_top.specs.Reply.{accepted, refused, VerifyReplies};
 ghost use Rattle.fing_top.specs.Answer.{AnswersBytes, change, output};
-ghost use Rattle.fing_top.specs.Verdict.{HasLine, verdict_line};
+ghost use Rattle.fing_top.specs.Inner.Verdict.{HasLine, verdict_line};
 ghost use Rattle.fing_words.specs.declared.command_line.CommandLine.TheVariants as command;
 
 use crate::status::{Status, status_of};
@@ -33,7 +33,7 @@ pub enum Unverified {
 
 impl From<ReadRefusal> for Unverified {
     ghost use Rattle.std.specs.Prelude.{◌≡◌};
-    ghost use Rattle.fing_top.specs.Verdict.{unread};
+    ghost use Rattle.fing_top.specs.Inner.Verdict.{unread};
 
     ghost from_gives = { λ refusal e. e ≡ unread refusal };
 

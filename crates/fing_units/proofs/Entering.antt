@@ -6,7 +6,7 @@ use Rattle.omega_kinds.specs.View.{kind_tree}
 use Rattle.omega_kinds.specs.declared.kind.Kind.{Kind as KindHandle}
 use Rattle.sig_definitions.specs.Signatures.Sig.{Abs}
 use Rattle.sig_definitions.specs.Env.{Env, TypeVar, Named, type_vars}
-use Rattle.semantic_sigs.specs.View.{body_of, kinds_of}
+use Rattle.semantic_sigs.specs.Inner.View.{body_of, kinds_of}
 use Rattle.unit_judgments.specs.Interfaces.{Interface, with_interface, with_interfaces}
 
 -- the item at an index, before the items after it

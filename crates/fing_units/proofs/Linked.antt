@@ -14,14 +14,14 @@ use Rattle.sig_definitions.specs.Signatures.FieldOrder.{with_name}
 use Rattle.sig_definitions.specs.Signatures.Sig.{Abs, Module, Sig, SigRow, made}
 use Rattle.sig_laws.specs.Good.{KindedModule}
 use Rattle.sig_laws.proofs.Formed.WellFormedShape.{kinded}
-use Rattle.semantic_sigs.specs.Made.{module_of}
-use Rattle.semantic_sigs.specs.View.{kinds_of}
+use Rattle.semantic_sigs.specs.Inner.Made.{module_of}
+use Rattle.semantic_sigs.specs.Inner.View.{kinds_of}
 use Rattle.module_judgments.specs.Sequence.{Collected, Seq}
 use Rattle.unit_judgments.specs.Interfaces.{hidden_in, with_interface, env_of}
 use Rattle.unit_judgments.specs.Link.{UnitModule, interface_of, names_after, Differs, Foreign, Links, OkUnits}
 use Rattle.unit_judgments.proofs.Places.{own-at, ok-at, differs-not, differs-below, foreign-at, front-all}
 use Rattle.unit_judgments.proofs.Steps.{LinkedFrom, env-next, names-next, unit-good, rest-good, linked-all, linked-end, linked-next}
-use Rattle.fing_units.specs.Units.{unit_of, units_of}
+use Rattle.fing_units.specs.Inner.Units.{unit_of, units_of}
 use Rattle.fing_units.specs.declared.unit_module.UnitModule.{UnitModule as CodeUnit}
 use Rattle.fing_units.proofs.Entering.{first-of}
 

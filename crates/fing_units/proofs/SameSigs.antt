@@ -1,8 +1,8 @@
 -- Signatures are the same where their parts are.
 use Rattle.std.proofs.Common.{◌≡◌, ◌↔◌, [], ◌∷◌, length, refl}
 use Rattle.sig_definitions.specs.Signatures.Sig.{Abs}
-use Rattle.semantic_sigs.specs.Fields.{SigPairs, sig_row}
-use Rattle.semantic_sigs.specs.View.{body_of, kinds_of}
+use Rattle.semantic_sigs.specs.Inner.Fields.{SigPairs, sig_row}
+use Rattle.semantic_sigs.specs.Inner.View.{body_of, kinds_of}
 
 -- the same structures have as many fields
 pub row-length : (xs ys : SigPairs) → sig_row xs ≡ sig_row ys → length xs ≡ length ys

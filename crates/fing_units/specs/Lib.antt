@@ -1,3 +1,1 @@
-pub mod Code
-pub mod Plain
-pub mod Units
+pub mod Inner

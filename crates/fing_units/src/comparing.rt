@@ -1,7 +1,7 @@
 // Equality of signatures.
 ghost use Rattle.std.specs.Prelude.{◌≡◌, ◌↔◌, IsTrue};
 ghost use Rattle.omega_kinds.specs.declared.effect.Effect.{Effect as EffectTree};
-ghost use Rattle.semantic_sigs.specs.Fields.{sig_row};
+ghost use Rattle.semantic_sigs.specs.Inner.Fields.{sig_row};
 
 use omega_kinds::{Effect, Kinds, same_kind, same_name};
 use semantic_sigs::{Abs, Sig, SigFields, SigNode};

@@ -20,7 +20,7 @@ pub struct Interfaces {
 impl Model for Interfaces {
     ghost use Rattle.std.specs.Prelude.{List};
     ghost use Rattle.unit_judgments.specs.Interfaces.{Interface};
-    ghost use Rattle.fing_units.specs.Code.{interfaces_code};
+    ghost use Rattle.fing_units.specs.Inner.Code.{interfaces_code};
 
     ghost Value = { List Interface };
 

@@ -4,12 +4,12 @@ ghost use Rattle.omega_kinds.specs.declared.effect.Effect.TheVariants.{Pure};
 ghost use Rattle.omega_terms.specs.Term.{Fields, TermRow};
 ghost use Rattle.sig_definitions.specs.Signatures.Sig.{Abs as AbsTree, SigRow, Str, made};
 ghost use Rattle.sig_laws.specs.Good.{Names as GoodNames};
-ghost use Rattle.semantic_sigs.specs.Made.{module_of};
+ghost use Rattle.semantic_sigs.specs.Inner.Made.{module_of};
 ghost use Rattle.module_judgments.specs.Sequence.{Collected};
 ghost use Rattle.unit_judgments.specs.Interfaces.{env_of as env_in};
 ghost use Rattle.unit_judgments.specs.Link.{Differs, Foreign, Links, OkUnits, interface_of, names_after};
-ghost use Rattle.fing_units.specs.Plain.{foreign_index};
-ghost use Rattle.fing_units.specs.Units.{units_of};
+ghost use Rattle.fing_units.specs.Inner.Plain.{foreign_index};
+ghost use Rattle.fing_units.specs.Inner.Units.{units_of};
 
 use crate::comparing::same_abs;
 use crate::interfaces::Interfaces;

@@ -13,7 +13,7 @@ pub enum LinkRefusal {
 
 impl From<Mem> for LinkRefusal {
     ghost use Rattle.std.specs.Prelude.{◌≡◌};
-    ghost use Rattle.fing_units.specs.Plain.{want_of_memory};
+    ghost use Rattle.fing_units.specs.Inner.Plain.{want_of_memory};
 
     ghost from_gives = { λ _ e. e ≡ want_of_memory };
 

@@ -14,8 +14,8 @@ use Rattle.sig_definitions.specs.Env.{Env, find}
 use Rattle.sig_definitions.specs.Signatures.RecordOrder.{BeforeNames, NamesRise}
 use Rattle.sig_definitions.specs.Signatures.Sig.{Sig, SigRow, Abs, made}
 use Rattle.sig_laws.specs.Good.{Found, Bound}
-use Rattle.semantic_sigs.specs.Fields.{SigPairs, sig_row, MayFollow}
-use Rattle.semantic_sigs.specs.Made.{module_of}
+use Rattle.semantic_sigs.specs.Inner.Fields.{SigPairs, sig_row, MayFollow}
+use Rattle.semantic_sigs.specs.Inner.Made.{module_of}
 use Rattle.semantic_sigs.specs.declared.made.Module.{Module}
 use Rattle.module_judgments.specs.Sequence.{Collected}
 

@@ -10,7 +10,7 @@ use Rattle.omega_terms.specs.Shorthands.{let_in}
 use Rattle.omega_terms.proofs.Unchanged.{ap₃}
 use Rattle.sig_definitions.specs.Signatures.Sig.{Sig}
 use Rattle.sig_definitions.specs.Signatures.Encoding.{enc}
-use Rattle.semantic_sigs.specs.Fields.{SigPairs, sig_row}
+use Rattle.semantic_sigs.specs.Inner.Fields.{SigPairs, sig_row}
 use Rattle.module_judgments.specs.Sequence.{field_lets}
 
 lets-drop : (fields : SigPairs) (n i : ℕ) (d : Name × Sig) (body : Term) → n < length fields → field_lets i (sig_row (drop n fields)) body ≡ let_in (enc (get_or fields n d).1) (Term.Get (Term.Var i) (Label.Name (get_or fields n d).0)) (field_lets (suc i) (sig_row (drop (suc n) fields)) body)

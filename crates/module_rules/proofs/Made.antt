@@ -31,19 +31,19 @@ use Rattle.sig_laws.specs.Good.{Distinct, DistinctRow, KindedAbs, KindedModule, 
 use Rattle.sig_laws.proofs.Algebra.BinderLaws.{extend-append}
 use Rattle.sig_laws.proofs.Encoded.EncodingTyping.{distinct-normal, distinct_abs-normal}
 use Rattle.sig_laws.proofs.Algebra.PathLaws.{no-field, field-normal}
-use Rattle.semantic_sigs.specs.Changes.{ty_in, putting}
-use Rattle.semantic_sigs.specs.Fields.{sig_row}
+use Rattle.semantic_sigs.specs.Inner.Changes.{ty_in, putting}
+use Rattle.semantic_sigs.specs.Inner.Fields.{sig_row}
 use Rattle.semantic_sigs.specs.declared.tree.SigNode.{SigNode}
 use Rattle.semantic_sigs.specs.declared.tree.SigNode.TheVariants as node
-use Rattle.semantic_sigs.specs.View.{kinds_of, body_of, sig_of}
+use Rattle.semantic_sigs.specs.Inner.View.{kinds_of, body_of, sig_of}
 use Rattle.omega_kinds.specs.View.{kind_tree}
 use Rattle.module_judgments.specs.ModWhy.{Unbound, NoPart, NotStructure, NotFunctor, WrongPath, Escapes}
 use Rattle.module_judgments.specs.ModRules.{NamedGives, NamedRefuses, ProjectRefuses, TypePathRefuses, ValuePathRefuses, SigPathRefuses, GenerativeGives, PartsGive, FunctorRefuses, ApplyGives, SealGives, IncludeGives, IncludeRefuses}
 use Rattle.module_judgments.specs.PathUse.{TypeOfPath, ValueOfPath, SigOfPath, value_of}
 use Rattle.module_judgments.specs.Projection.{Projected}
 use Rattle.module_judgments.specs.Sequence.{Seq, joined, past_opens, field_lets}
-use Rattle.omega_shorthands.specs.Packed.{Fills}
-use Rattle.module_rules.specs.Shown.{PackedAgain, OpenedTerm}
+use Rattle.omega_shorthands.specs.Inner.Packed.{Fills}
+use Rattle.module_rules.specs.Inner.Shown.{PackedAgain, OpenedTerm}
 use Rattle.module_rules.proofs.Own.{types-put}
 use Rattle.module_rules.proofs.Packs.{fills_own, fills_raised, fills_both, shift-raise}
 use Rattle.module_rules.proofs.Outside.{type-outside, type-inside, sig-outside, sig-inside}

@@ -13,7 +13,7 @@ use Rattle.omega_types.specs.Index.{bump, shift}
 use Rattle.omega_types.specs.Binders.{extend, past, vars, puts, NormalForms}
 use Rattle.omega_types.proofs.Algebra.{rename-weaken}
 use Rattle.omega_types.proofs.BinderPuts.{past-plus, NormalTypes, forms-types}
-use Rattle.semantic_sigs.specs.Changes.{ty_in, putting}
+use Rattle.semantic_sigs.specs.Inner.Changes.{ty_in, putting}
 use Rattle.semantic_sigs.proofs.HeadLaws.{Good, in-normal, good-puts, good-vars}
 use Rattle.semantic_sigs.proofs.MentionSteps.{length-trees}
 

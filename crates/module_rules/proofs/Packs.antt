@@ -18,8 +18,8 @@ use Rattle.sig_laws.specs.Good.{DistinctAbs}
 use Rattle.sig_laws.proofs.Encoded.EncodingTyping.{distinct_abs-normal}
 use Rattle.omega_terms.specs.Term.{Term}
 use Rattle.omega_terms.specs.Shorthands.{Packs}
-use Rattle.omega_shorthands.specs.Packed.{Fills}
-use Rattle.module_rules.specs.Shown.{PackedAgain}
+use Rattle.omega_shorthands.specs.Inner.Packed.{Fills}
+use Rattle.module_rules.specs.Inner.Shown.{PackedAgain}
 
 pub fills_own : (ctx ks : List Kind) (s : Sig) (ts : List Ty) → DistinctAbs (Abs.Ex ks s) → NormalAbs ctx (Abs.Ex ks s) → NormalForms ctx ts ks ts → Fills ctx ts (enc_abs (Abs.Ex ks s))
 fills_own ctx ks s ts d n ns = (ks, enc s, refl, distinct_abs-normal (Abs.Ex ks s) d n, ns)

@@ -9,7 +9,7 @@ use Rattle.omega_types.specs.Index.{taken, kept, raised, slot, bump}
 use Rattle.omega_types.specs.Binders.{past}
 use Rattle.omega_types.proofs.Algebra.{substitute-rename, substitute-vars}
 use Rattle.omega_types.proofs.BinderPuts.{past-plus}
-use Rattle.omega_terms.specs.Bound.{type_bound, term_bound}
+use Rattle.omega_terms.specs.Inner.Bound.{type_bound, term_bound}
 use Rattle.omega_terms.specs.Shorthands.{past_opened}
 use Rattle.omega_terms.specs.Term.{Term, TermRow}
 use Rattle.omega_terms.specs.TermSubst.{ren_term, ren_fields, sub_term, sub_fields, same_index, under_type, up_term, fill_term, put_at, put_term, shift_term}

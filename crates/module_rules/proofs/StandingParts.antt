@@ -10,7 +10,7 @@ use Rattle.sig_definitions.specs.Signatures.Sig.{Abs, HasField, NoField, Sig, Si
 use Rattle.sig_definitions.specs.Signatures.SigSubst.{rename_sig, rename_sig_row}
 use Rattle.sig_laws.proofs.Algebra.PathLaws.{no-field}
 use Rattle.sig_laws.proofs.Encoded.EncodingTyping.{no_field-rename}
-use Rattle.semantic_sigs.specs.Standing.{standing_module}
+use Rattle.semantic_sigs.specs.Inner.Standing.{standing_module}
 use Rattle.semantic_sigs.specs.declared.standing.Standing.{Standing}
 use Rattle.module_judgments.specs.ModRules.{ProjectRefuses}
 use Rattle.module_judgments.specs.ModWhy.{NoPart, NotStructure}

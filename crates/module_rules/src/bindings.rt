@@ -10,8 +10,8 @@ ghost use Rattle.sig_definitions.specs.Signatures.FieldOrder.{in_order};
 ghost use Rattle.sig_definitions.specs.Signatures.RecordOrder.{NamesRise};
 ghost use Rattle.sig_definitions.specs.Signatures.Sig.{Str, SigRow, Abs as AbsTree, made};
 ghost use Rattle.sig_laws.specs.Good.{Bound};
-ghost use Rattle.semantic_sigs.specs.Fields.{sig_row};
-ghost use Rattle.semantic_sigs.specs.Made.{module_of};
+ghost use Rattle.semantic_sigs.specs.Inner.Fields.{sig_row};
+ghost use Rattle.semantic_sigs.specs.Inner.Made.{module_of};
 ghost use Rattle.module_judgments.specs.ModRules.{ValueGives, TypeGives, SignatureGives};
 ghost use Rattle.module_judgments.specs.Sequence.{Collected};
 

@@ -14,10 +14,10 @@ ghost use Rattle.sig_definitions.specs.Signatures.Encoding.{enc};
 ghost use Rattle.sig_definitions.specs.Signatures.Alike.{NormalSig};
 ghost use Rattle.sig_definitions.specs.Signatures.Sig.{Fun, Sig as SigTree, Abs as AbsTree};
 ghost use Rattle.sig_laws.specs.Good.{KindedModule};
-ghost use Rattle.semantic_sigs.specs.Made.{module_of};
-ghost use Rattle.semantic_sigs.specs.View.{kinds_of, body_of};
+ghost use Rattle.semantic_sigs.specs.Inner.Made.{module_of};
+ghost use Rattle.semantic_sigs.specs.Inner.View.{kinds_of, body_of};
 ghost use Rattle.module_judgments.specs.ModRules.{GenerativeGives, PartsGive, FunctorRefuses, ApplyGives, SealGives};
-ghost use Rattle.module_rules.specs.Plain.{plain_why};
+ghost use Rattle.module_rules.specs.Inner.Plain.{plain_why};
 
 use crate::naming::open_module;
 use crate::projecting::packed_term;

@@ -5,7 +5,7 @@ ghost use Rattle.omega_types.specs.Binders.{vars};
 ghost use Rattle.omega_types.specs.EtaLong.{eta};
 ghost use Rattle.omega_types.specs.Index.{shift};
 ghost use Rattle.omega_types.specs.Ty.{Var};
-ghost use Rattle.module_rules.specs.Shown.{MentionsHidden, SigMentionsHidden, IsOutside, SigIsOutside};
+ghost use Rattle.module_rules.specs.Inner.Shown.{MentionsHidden, SigMentionsHidden, IsOutside, SigIsOutside};
 
 use omega_kinds::{Kind, Kinds, Mem};
 use omega_types::{Ty, TyNode};

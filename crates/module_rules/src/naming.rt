@@ -2,9 +2,9 @@
 ghost use Rattle.std.specs.Prelude.{◌≡◌, [], IfErr, IfOk, IfSome};
 ghost use Rattle.omega_kinds.specs.declared.effect.Effect.TheVariants.{Pure};
 ghost use Rattle.sig_definitions.specs.Signatures.Sig.{Abs as AbsTree, made};
-ghost use Rattle.semantic_sigs.specs.Made.{module_of};
+ghost use Rattle.semantic_sigs.specs.Inner.Made.{module_of};
 ghost use Rattle.module_judgments.specs.ModRules.{NamedGives, NamedRefuses};
-ghost use Rattle.module_rules.specs.Plain.{plain_why};
+ghost use Rattle.module_rules.specs.Inner.Plain.{plain_why};
 
 use crate::refusal::ModRefusal;
 use omega_kinds::{Effect, Kinds, Mem, Name};

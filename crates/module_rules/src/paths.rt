@@ -5,11 +5,11 @@ ghost use Rattle.omega_kinds.specs.View.{kind_tree};
 ghost use Rattle.omega_kinds.specs.declared.effect.Effect.TheVariants.{Impure};
 ghost use Rattle.sig_definitions.specs.Signatures.Encoding.{enc_abs};
 ghost use Rattle.sig_laws.specs.Good.{KindedModule};
-ghost use Rattle.semantic_sigs.specs.Made.{module_of};
-ghost use Rattle.semantic_sigs.specs.View.{kinds_of};
+ghost use Rattle.semantic_sigs.specs.Inner.Made.{module_of};
+ghost use Rattle.semantic_sigs.specs.Inner.View.{kinds_of};
 ghost use Rattle.module_judgments.specs.ModRules.{TypePathRefuses, ValuePathRefuses, SigPathRefuses};
 ghost use Rattle.module_judgments.specs.PathUse.{TypeOfPath, ValueOfPath, SigOfPath, value_of as value_of_path};
-ghost use Rattle.module_rules.specs.Plain.{plain_why};
+ghost use Rattle.module_rules.specs.Inner.Plain.{plain_why};
 
 use crate::hidden::{count_of, outside, outside_sig};
 use crate::projecting::opened;

@@ -22,7 +22,7 @@ pub enum ModRefusal {
 
 impl From<Mem> for ModRefusal {
     ghost use Rattle.std.specs.Prelude.{◌≡◌};
-    ghost use Rattle.module_rules.specs.Plain.{want_of_memory};
+    ghost use Rattle.module_rules.specs.Inner.Plain.{want_of_memory};
 
     ghost from_gives = { λ _ e. e ≡ want_of_memory };
 

@@ -1,11 +1,11 @@
 // Modules at the places of their names: their parts there, and what they are at the end of the environment.
 ghost use Rattle.std.specs.Prelude.{◌≡◌, List, IfErr, IfOk, IfSome};
 ghost use Rattle.omega_kinds.specs.Kind.{Kind as KindTree};
-ghost use Rattle.semantic_sigs.specs.Made.{module_of};
-ghost use Rattle.semantic_sigs.specs.Standing.{standing_module};
+ghost use Rattle.semantic_sigs.specs.Inner.Made.{module_of};
+ghost use Rattle.semantic_sigs.specs.Inner.Standing.{standing_module};
 ghost use Rattle.module_judgments.specs.ModRules.{ProjectRefuses};
 ghost use Rattle.module_judgments.specs.Projection.{Projected};
-ghost use Rattle.module_rules.specs.Plain.{plain_why};
+ghost use Rattle.module_rules.specs.Inner.Plain.{plain_why};
 
 use crate::naming::open_module;
 use crate::projecting::named_part;

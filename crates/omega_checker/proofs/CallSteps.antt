@@ -3,12 +3,12 @@ use Rattle.std.proofs.Common.{◌≡◌, List, ◌∷◌, Option, Some, None, Bo
 use Rattle.omega_kinds.specs.Kind.{Kind}
 use Rattle.omega_types.specs.Ty.{Ty}
 use Rattle.omega_terms.specs.Term.{Term}
-use Rattle.omega_terms.specs.View.{term_of}
+use Rattle.omega_terms.specs.Inner.View.{term_of}
 use Rattle.omega_terms.specs.declared.tree.TermNode.{TermNode}
 use Rattle.omega_terms.specs.declared.tree.TermNode.TheVariants as node
 use Rattle.omega_checker.specs.Found.{normal_at, call_type, let_type, synth_in}
 use Rattle.omega_checker.specs.SameTy.{same_ty}
-use Rattle.omega_checker.specs.Vars.{Vars, types_of}
+use Rattle.omega_checker.specs.Inner.Vars.{Vars, types_of}
 
 no-argument : (o : Option Ty) → call_type o None ≡ None
 no-argument None = refl

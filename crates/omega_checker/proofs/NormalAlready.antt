@@ -11,7 +11,7 @@ use Rattle.omega_types.proofs.KindsFound.{lookup-found, found-lookup, fresh-soun
 use Rattle.omega_types.proofs.LawProofs.{normal_of_normal}
 use Rattle.omega_types.proofs.Preservation.{normal-kind}
 use Rattle.omega_checker.specs.Found.{normal_at}
-use Rattle.omega_checker.specs.IsNormal.{at_star, at_arrow, with_arg, is_normal, are_normal, neutral_kind}
+use Rattle.omega_checker.specs.Inner.IsNormal.{at_star, at_arrow, with_arg, is_normal, are_normal, neutral_kind}
 use Rattle.omega_checker.proofs.Trees.{no, both-true, kind_eq-yes, kind_eq-self}
 
 -- ---- the small steps

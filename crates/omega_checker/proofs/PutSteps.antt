@@ -3,7 +3,7 @@ use Rattle.std.proofs.Common.{◌≡◌, ℕ, zero, suc, ◌+◌, ◌≤◌, ◌
 use Rattle.std.proofs.lemmas.List.{length-map}
 use Rattle.omega_kinds.specs.Kind.{Kind}
 use Rattle.omega_types.specs.Ty.{Ty}
-use Rattle.omega_types.specs.Bound.{bound_of}
+use Rattle.omega_types.specs.Inner.Bound.{bound_of}
 use Rattle.omega_types.specs.Fields.{Pairs, row}
 use Rattle.omega_types.specs.Index.{Slot, taken, kept, slot, shift}
 use Rattle.omega_types.specs.Normaliser.{Args, Part, stuck, whole, tree, apply_part, args, fill_part, hsubst, put_in, put_in_row}

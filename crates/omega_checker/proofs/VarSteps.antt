@@ -7,7 +7,7 @@ use Rattle.omega_types.specs.Index.{shift}
 use Rattle.omega_types.specs.Ty.{Ty}
 use Rattle.omega_types.proofs.Single.{shift-zero, shift-shift}
 use Rattle.omega_terms.specs.Typing.{shift_all}
-use Rattle.omega_checker.specs.Vars.{Vars, AreBound, type_under, types_of, with_var, without_var, with_type, without_type, IsLastType}
+use Rattle.omega_checker.specs.Inner.Vars.{Vars, AreBound, type_under, types_of, with_var, without_var, with_type, without_type, IsLastType}
 use Rattle.omega_checker.proofs.ForCode.{raised-vars}
 
 -- ---- a term variable

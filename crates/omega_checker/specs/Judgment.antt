@@ -2,9 +2,9 @@
 use Rattle.std.specs.Prelude.{[], refl}
 use Rattle.std.specs.Coded.{Coded, code_by, coded×}
 use Rattle.omega_types.specs.Ty.{Ty}
-use Rattle.omega_types.specs.Code.{ty_code}
+use Rattle.omega_types.specs.Inner.Code.{ty_code}
 use Rattle.omega_terms.specs.Term.{Term}
-use Rattle.omega_terms.specs.Code.{term_code}
+use Rattle.omega_terms.specs.Inner.Code.{term_code}
 use Rattle.omega_terms.specs.Typing.{HasType}
 
 pub record Judgment : Type 0 where

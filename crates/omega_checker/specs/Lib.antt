@@ -1,5 +1,4 @@
 pub mod SameTy
 pub mod Found
-pub mod IsNormal
 pub mod Judgment
-pub mod Vars
+pub mod Inner

@@ -6,8 +6,8 @@ ghost use Rattle.omega_kinds.specs.View.{kind_tree};
 ghost use Rattle.omega_types.specs.Fields.{row};
 ghost use Rattle.omega_types.specs.KindIn.{are_distinct};
 ghost use Rattle.omega_types.specs.Normality.{Normal};
-ghost use Rattle.omega_types.specs.Scope.{scope_of};
-ghost use Rattle.omega_checker.specs.IsNormal.{are_normal as are_normal_of, is_normal as is_normal_of, neutral_kind as neutral_kind_of, scope_below, with_arg as with_arg_of};
+ghost use Rattle.omega_types.specs.Inner.Scope.{scope_of};
+ghost use Rattle.omega_checker.specs.Inner.IsNormal.{are_normal as are_normal_of, is_normal as is_normal_of, neutral_kind as neutral_kind_of, scope_below, with_arg as with_arg_of};
 
 use omega_kinds::{Kind, Mem, same_kind};
 use omega_types::{Ty, TyFields, TyNode, is_star, variable_kind};

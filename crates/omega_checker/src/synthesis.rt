@@ -3,13 +3,13 @@ ghost use Rattle.std.specs.Prelude.{◌≡◌, ◌∷◌, [], IfOk, OnOk, if◌t
 ghost use Rattle.std.specs.Option.{option_map};
 ghost use Rattle.omega_kinds.specs.View.{kind_tree};
 ghost use Rattle.omega_types.specs.Fields.{row};
-ghost use Rattle.omega_types.specs.Scope.{scope_of};
+ghost use Rattle.omega_types.specs.Inner.Scope.{scope_of};
 ghost use Rattle.omega_types.specs.Ty.{Ty as TyTree};
 ghost use Rattle.omega_terms.specs.Fields.{term_row};
 ghost use Rattle.omega_terms.specs.Term.{Term as TermTree};
 ghost use Rattle.omega_terms.specs.Typing.{shift_all};
 ghost use Rattle.omega_checker.specs.Found.{synth_in, synth_row, and_then, call_type, of_package, lowered as lowered_of, fix_type, labels_differ, case_type, synth_branches as synth_branches_of, is_found as is_found_of};
-ghost use Rattle.omega_checker.specs.Vars.{types_of};
+ghost use Rattle.omega_checker.specs.Inner.Vars.{types_of};
 
 use crate::forms::{
     agree, arrow, called, chosen, computed, field_type, fixed, injected, instantiated, is_found,

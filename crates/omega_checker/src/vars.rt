@@ -1,7 +1,7 @@
 // The term variables in scope.
 ghost use Rattle.std.specs.Prelude.{◌≡◌, ◌∷◌, [], IfOk, OnOk, slice_get};
 ghost use Rattle.omega_terms.specs.Typing.{shift_all};
-ghost use Rattle.omega_checker.specs.Vars.{types_of, with_var, without_var, with_type, without_type, IsLastType};
+ghost use Rattle.omega_checker.specs.Inner.Vars.{types_of, with_var, without_var, with_type, without_type, IsLastType};
 
 use omega_kinds::Mem;
 use omega_types::next_level;
@@ -19,7 +19,7 @@ pub(crate) struct Vars {
 }
 
 impl Model for Vars {
-    ghost use Rattle.omega_checker.specs.Vars.{Vars as VarsTree, vars_code, AreBound};
+    ghost use Rattle.omega_checker.specs.Inner.Vars.{Vars as VarsTree, vars_code, AreBound};
 
     ghost Value = { VarsTree };
 

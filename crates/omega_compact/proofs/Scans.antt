@@ -2,7 +2,7 @@
 use Rattle.std.proofs.Common.{◌≡◌, ℕ, zero, suc, ◌+◌, ◌<◌, ◌≤◌, Bool, true, false, cond, List, [], ◌∷◌, ◌++◌, length, get_or, take, drop, refl, sym, ap, ◌∙◌, arith}
 use Rattle.std.specs.Prelude.{not, ◌==◌, ◌||◌}
 use Rattle.std.proofs.lemmas.Bool.Decides.{nat_tests}
-use Rattle.omega_compact.specs.Escapes.{ends, escapes}
+use Rattle.omega_compact.specs.Inner.Escapes.{ends, escapes}
 use Rattle.omega_compact.specs.Tokens.{Token, Open, Close, Word, Quoted, Unended, Spot, Between, Comment, InWord, InText, Escaped, is_blank, in_word, with_first, from_byte, tokens_from}
 
 equal : (a b : ℕ) → a ≡ b → (a == b) ≡ true

@@ -1,5 +1,4 @@
 pub mod Tokens
-pub mod Escapes
 pub mod Spelling
 pub mod Denotes
-pub mod Plain
+pub mod Inner

@@ -1,7 +1,7 @@
 // From bytes to tokens.
 ghost use Rattle.std.specs.Prelude.{◌≡◌, ◌≤◌, ◌<◌, ◌+◌, ◌∷◌, [], length, take, drop, slice_index, true, MatchOption, IfOk};
-ghost use Rattle.omega_compact.specs.Escapes.{ends, escapes};
-ghost use Rattle.omega_compact.specs.Plain.{plain_left, plain_tokens, token_before};
+ghost use Rattle.omega_compact.specs.Inner.Escapes.{ends, escapes};
+ghost use Rattle.omega_compact.specs.Inner.Plain.{plain_left, plain_tokens, token_before};
 ghost use Rattle.omega_compact.specs.Tokens.{Between, Comment, InWord, InText, Word, Quoted, Unended, tokens_from, tokens_of};
 ghost use Rattle.omega_compact.specs.Tokens as the;
 

@@ -1,6 +1,6 @@
 // From tokens to compact text.
 ghost use Rattle.std.specs.Prelude.{◌≡◌, ◌+◌, ◌<◌, ◌^◌, ◌++◌, IfOk, OnOk};
-ghost use Rattle.omega_compact.specs.Plain.{plain, plain_left, plain_tokens};
+ghost use Rattle.omega_compact.specs.Inner.Plain.{plain, plain_left, plain_tokens};
 ghost use Rattle.omega_compact.specs.Spelling.{before, compacted, ending, gap, open_after, spelled, token_text};
 ghost use Rattle.omega_compact.specs.Spelling as the;
 

@@ -19,7 +19,7 @@ impl Model for Kinds {
     ghost use Rattle.std.specs.Prelude.{List, map};
     ghost use Rattle.omega_kinds.specs.Kind.{Kind as KindTree};
     ghost use Rattle.omega_kinds.specs.View.{kind_tree};
-    ghost use Rattle.omega_kinds.specs.Code.{kinds_code};
+    ghost use Rattle.omega_kinds.specs.Inner.Code.{kinds_code};
 
     ghost Value = { List KindTree };
 

@@ -12,14 +12,14 @@ use Rattle.omega_terms.specs.declared.op.Op.{Op}
 use Rattle.omega_terms.specs.Term.{Term, TermRow}
 use Rattle.omega_terms.specs.Typing.{HasType}
 use Rattle.omega_terms.specs.Steps.{IsValue, AreValues, HasField, Step, Faults}
-use Rattle.omega_terms.specs.View.{term_of}
+use Rattle.omega_terms.specs.Inner.View.{term_of}
 use Rattle.omega_terms.proofs.TypingLaws.{good-none}
 use Rattle.omega_laws.proofs.Common.{Form, Canon}
 use Rattle.omega_laws.proofs.Unique.{Own, invert}
 use Rattle.omega_laws.proofs.Progress.{Progress, canon, progress}
 use Rattle.omega_laws.proofs.Determined.{value_step, value_fault}
-use Rattle.omega_machine.specs.Contexts.{result_of, branches_of, case_of}
-use Rattle.omega_machine.specs.Moves.{IsTyped}
+use Rattle.omega_machine.specs.Inner.Contexts.{result_of, branches_of, case_of}
+use Rattle.omega_machine.specs.Inner.Moves.{IsTyped}
 
 int_some : Form.the_int ≢ Form.no_form
 int_some p = cc

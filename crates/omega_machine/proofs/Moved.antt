@@ -14,16 +14,16 @@ use Rattle.omega_terms.specs.declared.tree.TermNode.{TermNode}
 use Rattle.omega_terms.specs.declared.tree.TermNode.TheVariants as node
 use Rattle.omega_terms.specs.Term.{Term}
 use Rattle.omega_terms.specs.Fields.{TermPairs, term_row}
-use Rattle.omega_terms.specs.Size.{term_size, pairs_size}
+use Rattle.omega_terms.specs.Inner.Size.{term_size, pairs_size}
 use Rattle.omega_terms.specs.Steps.{IsValue, AreValues}
-use Rattle.omega_terms.specs.View.{term_of}
+use Rattle.omega_terms.specs.Inner.View.{term_of}
 use Rattle.omega_machine.specs.declared.frames.Waiting.{Waiting}
 use Rattle.omega_machine.specs.declared.frames.Waiting.TheVariants as waiting
 use Rattle.omega_machine.specs.declared.frames.Frame.TheVariants as frame
 use Rattle.omega_machine.specs.declared.refocus.Move.{Move}
 use Rattle.omega_machine.specs.declared.refocus.Move.TheVariants as move
-use Rattle.omega_machine.specs.Contexts.{row_pairs, fields_of, left, rest, with_done, with_first, fill_waiting}
-use Rattle.omega_machine.specs.Moves.{Begun, waiting_work, Moves}
+use Rattle.omega_machine.specs.Inner.Contexts.{row_pairs, fields_of, left, rest, with_done, with_first, fill_waiting}
+use Rattle.omega_machine.specs.Inner.Moves.{Begun, waiting_work, Moves}
 use Rattle.omega_machine.proofs.Reduced.{is-form}
 
 -- ---- up with a value

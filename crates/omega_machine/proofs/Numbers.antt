@@ -10,10 +10,10 @@ use Rattle.omega_terms.specs.declared.tree.TermNode.{TermNode}
 use Rattle.omega_terms.specs.declared.tree.TermNode.TheVariants as node
 use Rattle.omega_terms.specs.Term.{Term}
 use Rattle.omega_terms.specs.Steps.{IsValue, Answer, Fault, fits, if_fits, is_zero, compute}
-use Rattle.omega_terms.specs.View.{term_of}
+use Rattle.omega_terms.specs.Inner.View.{term_of}
 use Rattle.omega_machine.specs.declared.outcome.Arith.{Arith}
 use Rattle.omega_machine.specs.declared.outcome.Arith.TheVariants as fault
-use Rattle.omega_machine.specs.Outcomes.{fault_of}
+use Rattle.omega_machine.specs.Inner.Outcomes.{fault_of}
 
 -- ---- the range
 

@@ -15,8 +15,8 @@ use Rattle.omega_machine.specs.declared.frames.Ready.{Ready}
 use Rattle.omega_machine.specs.declared.frames.Ready.TheVariants as ready
 use Rattle.omega_machine.specs.declared.frames.Frame.{Frame}
 use Rattle.omega_machine.specs.declared.frames.Frame.TheVariants as frame
-use Rattle.omega_machine.specs.Contexts.{fields_of, left, with_first, result_of, branches_of, fill_waiting, fill_ready, fill, plug}
-use Rattle.omega_machine.specs.Moves.{IsTyped, IsSoundWaiting, IsSoundReady, IsSound, AreSound, frame_work, work}
+use Rattle.omega_machine.specs.Inner.Contexts.{fields_of, left, with_first, result_of, branches_of, fill_waiting, fill_ready, fill, plug}
+use Rattle.omega_machine.specs.Inner.Moves.{IsTyped, IsSoundWaiting, IsSoundReady, IsSound, AreSound, frame_work, work}
 
 -- ---- one more frame inside
 

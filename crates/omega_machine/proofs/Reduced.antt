@@ -13,9 +13,9 @@ use Rattle.omega_terms.specs.Fields.{TermPairs, term_row}
 use Rattle.omega_terms.specs.Term.{Term, TermRow}
 use Rattle.omega_terms.specs.TermSubst.{put_term, put_type, shift_term}
 use Rattle.omega_terms.specs.Steps.{IsValue, HasField, Step, Faults, Answer, Fault, compute}
-use Rattle.omega_terms.specs.View.{term_of}
-use Rattle.omega_machine.specs.Contexts.{result_of, branches_of, case_of}
-use Rattle.omega_machine.specs.Moves.{IsTyped}
+use Rattle.omega_terms.specs.Inner.View.{term_of}
+use Rattle.omega_machine.specs.Inner.Contexts.{result_of, branches_of, case_of}
+use Rattle.omega_machine.specs.Inner.Moves.{IsTyped}
 use Rattle.omega_machine.proofs.Puts.{put-arg, put-ty, put-both, put-fix}
 use Rattle.omega_machine.proofs.Canonical.{fields-values, body-value, injected-value, rolled-value, value-at, has-field, has-branch}
 

@@ -1,7 +1,7 @@
 -- The loop that looks for the next redex.
 use Rattle.std.proofs.Common.{◌≡◌, ℕ, ◌+◌, ◌*◌, ◌<◌, List, [], ◌∷◌, ◌++◌, length, refl, sym, ap, ◌∙◌, subst, arith}
 use Rattle.omega_terms.specs.Term.{Term}
-use Rattle.omega_terms.specs.Size.{term_size}
+use Rattle.omega_terms.specs.Inner.Size.{term_size}
 use Rattle.omega_terms.specs.Steps.{IsValue}
 use Rattle.omega_machine.specs.declared.frames.Waiting.{Waiting}
 use Rattle.omega_machine.specs.declared.frames.Ready.{Ready}
@@ -11,8 +11,8 @@ use Rattle.omega_machine.specs.declared.frames.Focus.{Focus}
 use Rattle.omega_machine.specs.declared.frames.Focus.TheVariants as focus
 use Rattle.omega_machine.specs.declared.refocus.Move.{Move}
 use Rattle.omega_machine.specs.declared.refocus.Move.TheVariants as move
-use Rattle.omega_machine.specs.Contexts.{fill, fill_waiting, fill_ready, plug, term_in}
-use Rattle.omega_machine.specs.Moves.{IsTyped, IsSound, IsSoundWaiting, IsSoundReady, AreSound, IsSoundFocus, IsSoundMove, waiting_work, frame_work, focus_work, move_work, work, moved, Moves}
+use Rattle.omega_machine.specs.Inner.Contexts.{fill, fill_waiting, fill_ready, plug, term_in}
+use Rattle.omega_machine.specs.Inner.Moves.{IsTyped, IsSound, IsSoundWaiting, IsSoundReady, AreSound, IsSoundFocus, IsSoundMove, waiting_work, frame_work, focus_work, move_work, work, moved, Moves}
 use Rattle.omega_machine.proofs.Plugs.{plug-more, sound-more, sound-less, work-more, plug-typed}
 
 -- the focus stands in sound frames, and the whole is the term

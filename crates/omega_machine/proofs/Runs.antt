@@ -22,10 +22,10 @@ use Rattle.omega_machine.specs.declared.redexes.Step.TheVariants as reduct
 use Rattle.omega_machine.specs.declared.outcome.Arith.{Arith}
 use Rattle.omega_machine.specs.declared.outcome.End.{End as Answer}
 use Rattle.omega_machine.specs.declared.outcome.End.TheVariants as answer
-use Rattle.omega_machine.specs.Contexts.{fill_ready, plug, term_in}
-use Rattle.omega_machine.specs.Moves.{IsTyped, AreSound, IsSoundFocus, IsSoundReady, Finds}
-use Rattle.omega_machine.specs.Reducts.{Reduces}
-use Rattle.omega_machine.specs.Outcomes.{fault_of, Tells, StillGoes, NeverStuck, HasOneOutcome, ValuesFit}
+use Rattle.omega_machine.specs.Inner.Contexts.{fill_ready, plug, term_in}
+use Rattle.omega_machine.specs.Inner.Moves.{IsTyped, AreSound, IsSoundFocus, IsSoundReady, Finds}
+use Rattle.omega_machine.specs.Inner.Reducts.{Reduces}
+use Rattle.omega_machine.specs.Inner.Outcomes.{fault_of, Tells, StillGoes, NeverStuck, HasOneOutcome, ValuesFit}
 use Rattle.omega_terms.specs.ValueText.{value_text}
 use Rattle.omega_machine.proofs.Plugs.{plug-typed, plug-step, plug-fault}
 use Rattle.omega_machine.proofs.PackedValues.{packed-value}

@@ -1,4 +1,1 @@
-pub mod Contexts
-pub mod Moves
-pub mod Outcomes
-pub mod Reducts
+pub mod Inner

@@ -1,8 +1,8 @@
 // Operators on two numbers.
 ghost use Rattle.std.specs.Prelude.{◌≡◌, MatchResult, MatchOption, Ok, Err};
 ghost use Rattle.omega_terms.specs.Steps.{IsValue, Answer, compute as compute_of};
-ghost use Rattle.omega_terms.specs.View.{term_of};
-ghost use Rattle.omega_machine.specs.Outcomes.{fault_of};
+ghost use Rattle.omega_terms.specs.Inner.View.{term_of};
+ghost use Rattle.omega_machine.specs.Inner.Outcomes.{fault_of};
 
 use crate::outcome::Arith;
 use omega_terms::{Op, TermNode};

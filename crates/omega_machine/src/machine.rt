@@ -1,7 +1,7 @@
 // Runs: the steps of a checked term, counted.
 ghost use Rattle.std.specs.Prelude.{◌≡◌, ◌↔◌, ◌+◌, ◌-◌, ◌^◌, ◌<◌, IfOk};
-ghost use Rattle.omega_machine.specs.Moves.{IsTyped};
-ghost use Rattle.omega_machine.specs.Outcomes.{Tells, StillGoes, NeverStuck, HasOneOutcome, ValuesFit};
+ghost use Rattle.omega_machine.specs.Inner.Moves.{IsTyped};
+ghost use Rattle.omega_machine.specs.Inner.Outcomes.{Tells, StillGoes, NeverStuck, HasOneOutcome, ValuesFit};
 ghost use Rattle.omega_terms.specs.ValueText.{value_text};
 
 use crate::frames::Focus;

@@ -2,9 +2,9 @@
 ghost use Rattle.std.specs.Prelude.{◌≡◌, IfOk};
 ghost use Rattle.omega_terms.specs.Steps.{IsValue, Step as StepsTo};
 ghost use Rattle.omega_terms.specs.Term.{Term as TermTree};
-ghost use Rattle.omega_machine.specs.Contexts.{fill_ready, case_of};
-ghost use Rattle.omega_machine.specs.Moves.{IsTyped, IsSoundReady};
-ghost use Rattle.omega_machine.specs.Reducts.{Reduces};
+ghost use Rattle.omega_machine.specs.Inner.Contexts.{fill_ready, case_of};
+ghost use Rattle.omega_machine.specs.Inner.Moves.{IsTyped, IsSoundReady};
+ghost use Rattle.omega_machine.specs.Inner.Reducts.{Reduces};
 
 use crate::arithmetic::compute;
 use crate::frames::{Focus, Ready};

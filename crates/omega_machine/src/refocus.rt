@@ -1,10 +1,10 @@
 // From what stands in the hole to the next redex, or to the value of the whole.
 ghost use Rattle.std.specs.Prelude.{◌≡◌, ◌+◌, ◌*◌, ◌<◌, ◌≤◌, IfOk, length, slice_get};
 ghost use Rattle.std.specs.Option.{option_map};
-ghost use Rattle.omega_terms.specs.Size.{term_size, pairs_size};
+ghost use Rattle.omega_terms.specs.Inner.Size.{term_size, pairs_size};
 ghost use Rattle.omega_terms.specs.Steps.{IsValue};
-ghost use Rattle.omega_machine.specs.Contexts.{fields_of, left, rest, with_done, fill_waiting, plug, term_in};
-ghost use Rattle.omega_machine.specs.Moves.{IsTyped, Begun, IsSoundWaiting, AreSound, IsSoundFocus, waiting_work, Moves, Finds};
+ghost use Rattle.omega_machine.specs.Inner.Contexts.{fields_of, left, rest, with_done, fill_waiting, plug, term_in};
+ghost use Rattle.omega_machine.specs.Inner.Moves.{IsTyped, Begun, IsSoundWaiting, AreSound, IsSoundFocus, waiting_work, Moves, Finds};
 ghost use Rattle.omega_machine.specs.declared.frames.Waiting.TheVariants as waiting;
 
 use crate::frames::{Focus, Frame, Ready, Waiting};

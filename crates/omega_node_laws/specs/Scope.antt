@@ -3,12 +3,12 @@
 use Rattle.std.specs.Prelude.{◌≡◌, ℕ, ◌+◌, ◌-◌, ◌≤◌, ◌<◌, List, [], ◌∷◌, ◌++◌, All, Option, Some, None, length, map, reverse, take, refl, Bool as Truth, true, if◌then◌else◌}
 use Rattle.std.specs.Option.{option_map}
 use Rattle.std.specs.Coded.{Coded, code_by, coded×, coded_ℕ, coded_list}
-use Rattle.omega_kinds.specs.Code.{kind_code}
+use Rattle.omega_kinds.specs.Inner.Code.{kind_code}
 use Rattle.omega_kinds.specs.Kind.{Kind}
 use Rattle.omega_kinds.specs.View.{kind_tree}
 use Rattle.omega_kinds.specs.declared.kind.Kind.{Kind as SharedKind}
 use Rattle.omega_types.specs.Fields.{Rises}
-use Rattle.omega_types.specs.Code.{ty_code}
+use Rattle.omega_types.specs.Inner.Code.{ty_code}
 use Rattle.omega_types.specs.Index.{shift}
 use Rattle.omega_types.specs.Ty.{Ty, Row}
 use Rattle.omega_terms.specs.Term.{Term, TermRow}

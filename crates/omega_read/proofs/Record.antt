@@ -9,8 +9,8 @@ use Rattle.omega_terms.specs.Fields.{TermPairs, term_row}
 use Rattle.omega_spelling.specs.Reading.{◌>>=◌, Reader, strip, follows, field_at, fields_at}
 use Rattle.omega_read.specs.declared.left.Stop.{Stop}
 use Rattle.omega_read.specs.declared.left.Stop.TheVariants.{Mem, NotOmega}
-use Rattle.omega_read.specs.Gives.{Stops}
-use Rattle.omega_read.specs.Onto.{last_of, onto, with_front}
+use Rattle.omega_read.specs.Inner.Gives.{Stops}
+use Rattle.omega_read.specs.Inner.Onto.{last_of, onto, with_front}
 
 pub MayFollow_from : {T : Type 0} (xs : List (Label × T)) (l : Label) → follows (last_of xs) l ≡ true → MayFollow xs l
 MayFollow_from [] l e = tt

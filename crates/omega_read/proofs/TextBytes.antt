@@ -2,7 +2,7 @@
 use Rattle.std.proofs.Common.{◌≡◌, ℕ, zero, suc, ◌+◌, ◌<◌, ◌≤◌, Bool, true, false, List, [], ◌∷◌, ◌++◌, length, get_or, drop, Option, Some, None, refl, sym, ap, ◌∙◌, append_assoc, arith}
 use Rattle.omega_spelling.specs.Reading.{◌>>=◌}
 use Rattle.omega_spelling.specs.TermReading.{chars_at, with_byte}
-use Rattle.omega_read.specs.Chars.{after_char}
+use Rattle.omega_read.specs.Inner.Chars.{after_char}
 use Rattle.omega_read.specs.declared.texts.Char.{Char}
 use Rattle.omega_read.specs.declared.texts.Char.TheVariants.{End, Escape, Byte, Bad}
 use Rattle.omega_read.proofs.Items.{drop_here}

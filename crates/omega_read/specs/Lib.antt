@@ -1,5 +1,2 @@
-pub mod Gives
-pub mod Onto
-pub mod Chars
-pub mod Scan
 pub mod ReadAs
+pub mod Inner

@@ -1,7 +1,7 @@
 // Whether too many parentheses are open at once.
 ghost use Rattle.std.specs.Prelude.{◌≡◌, ◌≤◌};
 ghost use Rattle.omega_spelling.specs.Refusals.{after, opens, closes, is_too_deep};
-ghost use Rattle.omega_read.specs.Scan.{place_of};
+ghost use Rattle.omega_read.specs.Inner.Scan.{place_of};
 
 // Where a byte stands: outside texts, in one, or in one behind a backslash that is not itself behind one.
 #[derive(Clone, Copy, Debug)]

@@ -1,7 +1,7 @@
 // The order of fields.
 ghost use Rattle.std.specs.Prelude.{◌≡◌};
 ghost use Rattle.omega_spelling.specs.Reading.{follows};
-ghost use Rattle.omega_read.specs.Onto.{last_of};
+ghost use Rattle.omega_read.specs.Inner.Onto.{last_of};
 
 use omega_kinds::{Label, compare};
 use omega_terms::TermFields;

@@ -3,7 +3,7 @@ ghost use Rattle.std.specs.Prelude.{◌≡◌};
 ghost use Rattle.omega_kinds.specs.Kind.{Arrow};
 ghost use Rattle.omega_kinds.specs.View.{kind_tree};
 ghost use Rattle.omega_spelling.specs.Reading.{kind_at, two};
-ghost use Rattle.omega_read.specs.Gives.{Gives};
+ghost use Rattle.omega_read.specs.Inner.Gives.{Gives};
 
 use crate::left::{Left, Stop};
 use omega_kinds::{Kind, arrow};

@@ -1,7 +1,7 @@
 // Labels read from text.
 ghost use Rattle.std.specs.Prelude.{◌≡◌, ◌≤◌, length, take, drop, map};
 ghost use Rattle.omega_spelling.specs.Reading.{run, in_name, begins_name, is_keyword, is_one_of, is_name, hidden_at, name_at, label_at};
-ghost use Rattle.omega_read.specs.Gives.{Gives};
+ghost use Rattle.omega_read.specs.Inner.Gives.{Gives};
 
 use crate::left::{Left, Stop};
 use omega_kinds::{Label, name_of};

@@ -3,7 +3,7 @@ ghost use Rattle.std.specs.Prelude.{◌≡◌, ◌≤◌, ◌<◌, ◌-◌, ◌^
 ghost use Rattle.std.specs.Char.{is_ascii_digit};
 ghost use Rattle.omega_spelling.specs.Reading.{run, number_at, value_of, is_plain};
 ghost use Rattle.omega_spelling.specs.TermReading.{negative_at, positive_at, signed_at};
-ghost use Rattle.omega_read.specs.Gives.{Gives};
+ghost use Rattle.omega_read.specs.Inner.Gives.{Gives};
 
 use crate::left::{Left, Stop};
 

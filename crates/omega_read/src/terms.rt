@@ -4,7 +4,7 @@ ghost use Rattle.omega_terms.specs.Term.{Arith, Call, End, Fix, Get, If, Inj, In
 ghost use Rattle.omega_terms.specs.Fields.{term_row};
 ghost use Rattle.omega_spelling.specs.Reading.{one, two, kind_at, ty_at, label_at, field_at, fields_at};
 ghost use Rattle.omega_spelling.specs.TermReading.{three, term_var_at, int_at, text_at, term_leaf_at, op_at, arith_at, case_at, later_term_node_at, term_node_at, term_record_at, term_at};
-ghost use Rattle.omega_read.specs.Gives.{Gives};
+ghost use Rattle.omega_read.specs.Inner.Gives.{Gives};
 
 use crate::fields::term_may_follow;
 use crate::kinds::kind_of;

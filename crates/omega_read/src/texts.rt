@@ -1,8 +1,8 @@
 // The bytes of a text.
 ghost use Rattle.std.specs.Prelude.{◌≡◌, ◌∷◌, List, ℕ, false};
 ghost use Rattle.omega_spelling.specs.TermReading.{chars_at};
-ghost use Rattle.omega_read.specs.Gives.{Gives};
-ghost use Rattle.omega_read.specs.Chars.{after_char};
+ghost use Rattle.omega_read.specs.Inner.Gives.{Gives};
+ghost use Rattle.omega_read.specs.Inner.Chars.{after_char};
 
 use crate::left::{Left, Stop};
 use omega_kinds::{Name, name_of};

@@ -3,7 +3,7 @@ ghost use Rattle.std.specs.Prelude.{◌≡◌, ◌+◌, ◌<◌, ◌≤◌, ◌^
 ghost use Rattle.omega_types.specs.Ty.{Arrow, Apply, Fields, Sum, All, Ex, Mu, Lam, End, More};
 ghost use Rattle.omega_types.specs.Fields.{row};
 ghost use Rattle.omega_spelling.specs.Reading.{number_at, var_at, leaf_at, one, two, kind_at, node_at, later_node_at, row_at, field_at, fields_at, ty_at};
-ghost use Rattle.omega_read.specs.Gives.{Gives};
+ghost use Rattle.omega_read.specs.Inner.Gives.{Gives};
 
 use crate::fields::type_may_follow;
 use crate::kinds::kind_of;

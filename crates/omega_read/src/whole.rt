@@ -9,7 +9,7 @@ ghost use Rattle.omega_spelling.specs.Spelled.{TySpelled};
 ghost use Rattle.omega_spelling.specs.TermReading.{TermSpelled};
 ghost use Rattle.omega_spelling.specs.Omega.{version_at, omega_at};
 ghost use Rattle.omega_spelling.specs.Refusals.{is_version, other_version, is_too_deep};
-ghost use Rattle.omega_read.specs.Gives.{Gives, GivesAll};
+ghost use Rattle.omega_read.specs.Inner.Gives.{Gives, GivesAll};
 ghost use Rattle.omega_read.specs.ReadAs.{ReadAs, RefusedAs};
 
 use crate::depth::too_deep;

@@ -3,7 +3,7 @@ ghost use Rattle.std.specs.Prelude.{◌≡◌, ◌≤◌, ◌++◌, nat_lt, [], 
 ghost use Rattle.std.specs.Char.{is_ascii_digit};
 ghost use Rattle.omega_spelling.specs.Reading.{passes, value_of};
 ghost use Rattle.omega_spelling.specs.Refusals.{Outside, in_item, goes_on, some_digits, is_number, is_wide, zeroed_item, zeroed_from, wide_from, lines_cut, has_wide, zeroed};
-ghost use Rattle.omega_read.specs.Scan.{place_of};
+ghost use Rattle.omega_read.specs.Inner.Scan.{place_of};
 
 use crate::depth::{Spot, spot_after};
 use crate::numbers::value;

@@ -5,8 +5,8 @@ use Rattle.std.proofs.lemmas.Bool.Decides.{nat_tests}
 use Rattle.omega_types.specs.Ty.{Ty, Row}
 use Rattle.omega_terms.specs.Term.{Term, TermRow}
 use Rattle.omega_terms.specs.InScope.{IndexInScope, TyInScope, RowInScope, TermInScope, TermRowInScope}
-use Rattle.omega_scopes.specs.Scoped.{fits, ty_scoped, row_scoped, term_scoped, term_row_scoped}
-use Rattle.omega_scopes.specs.Depth.{ty_depth, row_depth, type_depth, row_type_depth, term_depth, row_term_depth}
+use Rattle.omega_scopes.specs.Inner.Scoped.{fits, ty_scoped, row_scoped, term_scoped, term_row_scoped}
+use Rattle.omega_scopes.specs.Inner.Depth.{ty_depth, row_depth, type_depth, row_type_depth, term_depth, row_term_depth}
 
 -- a test on numbers, and tests one after the other
 

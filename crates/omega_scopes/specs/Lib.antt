@@ -1,2 +1,1 @@
-pub mod Scoped
-pub mod Depth
+pub mod Inner

@@ -3,8 +3,8 @@ ghost use Rattle.std.specs.Prelude.{◌≡◌, ◌+◌, ◌^◌, ◌<◌, ◌&&�
 ghost use Rattle.omega_types.specs.Fields.{row};
 ghost use Rattle.omega_terms.specs.Fields.{term_row};
 ghost use Rattle.omega_terms.specs.InScope.{TyInScope, TermInScope};
-ghost use Rattle.omega_scopes.specs.Depth.{ty_depth, type_depth, term_depth};
-ghost use Rattle.omega_scopes.specs.Scoped.{fits, ty_scoped, row_scoped, term_scoped, term_row_scoped};
+ghost use Rattle.omega_scopes.specs.Inner.Depth.{ty_depth, type_depth, term_depth};
+ghost use Rattle.omega_scopes.specs.Inner.Scoped.{fits, ty_scoped, row_scoped, term_scoped, term_row_scoped};
 
 use omega_terms::{Term, TermFields, TermNode};
 use omega_types::{Ty, TyFields, TyNode};

@@ -18,7 +18,7 @@ use Rattle.omega_types.proofs.BinderPuts.NormalTypes.{none, next}
 use Rattle.omega_terms.specs.Term.{Term}
 use Rattle.omega_terms.specs.Shorthands.{Packs, opens_after, opens, ty_lam_over}
 use Rattle.omega_terms.proofs.NormalTyping.{normal-ex}
-use Rattle.omega_shorthands.specs.Packed.{pack_up, opened_times, opened, Fills}
+use Rattle.omega_shorthands.specs.Inner.Packed.{pack_up, opened_times, opened, Fills}
 
 pack_up-packs : {ctx : List Kind} {ts : List Ty} {ks : List Kind} (e : Term) (b : Ty) → NormalTypes ctx ts ks → Normal ctx (ex_over ks b) Kind.Star → Packs ctx ts e (ex_over ks b) (pack_up ts e (ex_over ks b))
 pack_up-packs e b none n = Packs.none

@@ -4,7 +4,7 @@ ghost use Rattle.omega_kinds.specs.Kind.{Kind as KindTree};
 ghost use Rattle.omega_terms.specs.PartTerms.{one_field as one_field_of};
 ghost use Rattle.omega_terms.specs.Shorthands.{insts as insts_of, ty_lam_over as ty_lam_over_of, let_in as let_in_of, opens as opens_of, Packs};
 ghost use Rattle.omega_terms.specs.Term.{Var};
-ghost use Rattle.omega_shorthands.specs.Packed.{opened, opened_times, pack_up as pack_up_of, Fills};
+ghost use Rattle.omega_shorthands.specs.Inner.Packed.{opened, opened_times, pack_up as pack_up_of, Fills};
 
 use omega_kinds::{Extent, Kinds, Label, Mem, NOTHING};
 use omega_terms::{Term, TermFields, TermNode};

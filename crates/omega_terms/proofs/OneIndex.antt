@@ -11,8 +11,8 @@ use Rattle.omega_types.specs.Fields.{Rises, MayFollow}
 use Rattle.omega_types.proofs.Single.{bump-below, bump-above, put-below, put-under, shift-suc}
 use Rattle.omega_terms.specs.Term.{Term, TermRow}
 use Rattle.omega_terms.specs.Fields.{TermPairs, term_row}
-use Rattle.omega_terms.specs.Size.{pairs_size}
-use Rattle.omega_terms.specs.Bound.{type_bound, term_bound}
+use Rattle.omega_terms.specs.Inner.Size.{pairs_size}
+use Rattle.omega_terms.specs.Inner.Bound.{type_bound, term_bound}
 use Rattle.omega_terms.specs.TermSubst.{ren_term, ren_fields, sub_term, sub_fields, under_type, up_term, same_index, fill_term, put_at, put_term, put_type, shift_term}
 use Rattle.omega_terms.proofs.Unchanged.{ren_term-unchanged, sub_term-unchanged}
 

@@ -7,9 +7,9 @@ use Rattle.omega_types.proofs.Algebra.{substitute-id}
 use Rattle.omega_types.proofs.Single.{shift-zero, shift-shift}
 use Rattle.omega_types.proofs.Unchanged.{substitute_at-unchanged}
 use Rattle.omega_terms.specs.Term.{Term, TermRow}
-use Rattle.omega_terms.specs.Bound.{type_bound, term_bound}
+use Rattle.omega_terms.specs.Inner.Bound.{type_bound, term_bound}
 use Rattle.omega_terms.specs.TermSubst.{sub_term, sub_fields, up_term, under_type, fill_term, put_at, put_term, put_type, shift_term}
-use Rattle.omega_terms.specs.Walk.{walked, walked_row}
+use Rattle.omega_terms.specs.Inner.Walk.{walked, walked_row}
 use Rattle.omega_terms.proofs.Unchanged.{ap₃}
 use Rattle.omega_terms.proofs.TermAlgebra.{shift-shift_term}
 use Rattle.omega_terms.proofs.Raises.{shift-none}

@@ -4,9 +4,9 @@ use Rattle.omega_types.specs.Ty.{Ty}
 use Rattle.omega_types.specs.Index.{bump, shift}
 use Rattle.omega_types.proofs.Single.{bump-below}
 use Rattle.omega_terms.specs.Term.{Term, TermRow}
-use Rattle.omega_terms.specs.Bound.{type_bound, term_bound}
+use Rattle.omega_terms.specs.Inner.Bound.{type_bound, term_bound}
 use Rattle.omega_terms.specs.TermSubst.{ren_term, ren_fields, shift_term}
-use Rattle.omega_terms.specs.Walk.{walked, walked_row}
+use Rattle.omega_terms.specs.Inner.Walk.{walked, walked_row}
 use Rattle.omega_terms.proofs.Unchanged.{ap₃, ren_term-unchanged}
 use Rattle.omega_terms.proofs.OneIndex.{ren-under_term, ren-row_under_term, ren-under_type, ren-under_both, ren-under_two}
 

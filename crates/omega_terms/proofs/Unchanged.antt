@@ -5,7 +5,7 @@ use Rattle.omega_types.specs.Substitution.{rename, under}
 use Rattle.omega_types.proofs.Unchanged.{rename-unchanged, substitute-unchanged}
 use Rattle.omega_terms.specs.Term.{Term, TermRow}
 use Rattle.omega_terms.specs.TermSubst.{ren_term, ren_fields, sub_term, sub_fields, under_type, up_term, same_index}
-use Rattle.omega_terms.specs.Bound.{type_bound, row_type_bound, term_bound, row_term_bound}
+use Rattle.omega_terms.specs.Inner.Bound.{type_bound, row_type_bound, term_bound, row_term_bound}
 
 pub ap₃ : {A B C D : Type 0} (f : A → B → C → D) {a b : A} {p q : B} {x y : C} → a ≡ b → p ≡ q → x ≡ y → f a p x ≡ f b q y
 ap₃ f d e g = λ i. f (d i) (e i) (g i)

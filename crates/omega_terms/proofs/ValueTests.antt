@@ -4,7 +4,7 @@ use Rattle.omega_kinds.specs.declared.label.Label.{Label}
 use Rattle.omega_terms.specs.Fields.{TermPairs, term_row}
 use Rattle.omega_terms.specs.Term.{Term, TermRow}
 use Rattle.omega_terms.specs.Steps.{IsValue, AreValues}
-use Rattle.omega_terms.specs.ValueTest.{value_test, values_test}
+use Rattle.omega_terms.specs.Inner.ValueTest.{value_test, values_test}
 
 no : IsTrue false → ⊥
 no p = cc

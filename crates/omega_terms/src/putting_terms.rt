@@ -1,7 +1,7 @@
 // Substitution of a term for a term variable.
 ghost use Rattle.std.specs.Prelude.{◌≡◌, ◌+◌, ◌≤◌, IfOk, IsTrue};
 ghost use Rattle.omega_types.specs.Index.{slot};
-ghost use Rattle.omega_terms.specs.Bound.{term_bound};
+ghost use Rattle.omega_terms.specs.Inner.Bound.{term_bound};
 ghost use Rattle.omega_terms.specs.TermSubst.{fill_term, put_term, shift_term};
 
 use crate::inner::{Inner, OUTSIDE};

@@ -1,7 +1,7 @@
 // Substitution of a type for a type variable in terms.
 ghost use Rattle.std.specs.Prelude.{◌≡◌, ◌+◌, ◌≤◌, IfOk, IsTrue};
 ghost use Rattle.omega_types.specs.Index.{shift, substitute_at};
-ghost use Rattle.omega_terms.specs.Bound.{type_bound};
+ghost use Rattle.omega_terms.specs.Inner.Bound.{type_bound};
 ghost use Rattle.omega_terms.specs.Term.{Var as TermVar};
 ghost use Rattle.omega_terms.specs.TermSubst.{put_type};
 

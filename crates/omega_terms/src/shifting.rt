@@ -1,7 +1,7 @@
 // Shifts of terms.
 ghost use Rattle.std.specs.Prelude.{◌≡◌, ◌⊎◌, ◌≤◌, IfOk, IsTrue};
 ghost use Rattle.omega_types.specs.Index.{bump, shift};
-ghost use Rattle.omega_terms.specs.Bound.{type_bound, term_bound};
+ghost use Rattle.omega_terms.specs.Inner.Bound.{type_bound, term_bound};
 ghost use Rattle.omega_terms.specs.Term.{Var as TermVar};
 ghost use Rattle.omega_terms.specs.TermSubst.{shift_term};
 

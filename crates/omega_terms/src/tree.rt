@@ -2,11 +2,11 @@
 ghost use Rattle.std.specs.Prelude.{◌≡◌, ◌↔◌, ◌≤◌, ◌+◌, ◌++◌, ◌∷◌, [], IsTrue, IfOk, OnOk, OnErr, slice_get};
 ghost use Rattle.std.specs.Option.{option_copied};
 ghost use Rattle.omega_types.specs.Fields.{Rises, MayFollow, at_label};
-ghost use Rattle.omega_terms.specs.Bound.{type_bound, term_bound, pairs_type_bound, pairs_term_bound};
+ghost use Rattle.omega_terms.specs.Inner.Bound.{type_bound, term_bound, pairs_type_bound, pairs_term_bound};
 ghost use Rattle.omega_terms.specs.Height.{term_height};
 ghost use Rattle.omega_terms.specs.Steps.{IsValue};
-ghost use Rattle.omega_terms.specs.ValueTest.{value_test};
-ghost use Rattle.omega_terms.specs.View.{term_of};
+ghost use Rattle.omega_terms.specs.Inner.ValueTest.{value_test};
+ghost use Rattle.omega_terms.specs.Inner.View.{term_of};
 
 use crate::op::Op;
 use omega_kinds::{Extent, Kind, Label, Mem, NOTHING, Name};
@@ -81,26 +81,26 @@ pub struct TermFields {
 impl Model for Term {
     ghost use Rattle.std.specs.Prelude.{◌≡◌, ◌≤◌};
     ghost use Rattle.omega_terms.specs.Term.{Term as TermTree};
-    ghost use Rattle.omega_terms.specs.Code.{term_code};
+    ghost use Rattle.omega_terms.specs.Inner.Code.{term_code};
 
     ghost Value = { TermTree };
 
     ghost coded = { term_code };
 
-    ghost use Rattle.omega_terms.specs.Size.{term_size};
+    ghost use Rattle.omega_terms.specs.Inner.Size.{term_size};
 
     ghost size = { term_size };
 
-    ghost use Rattle.omega_terms.specs.Bound.{type_bound as type_bound_of, term_bound as term_bound_of};
+    ghost use Rattle.omega_terms.specs.Inner.Bound.{type_bound as type_bound_of, term_bound as term_bound_of};
     ghost use Rattle.omega_terms.specs.Height.{term_height};
-    ghost use Rattle.omega_terms.specs.ValueTest.{value_test};
-    ghost use Rattle.omega_terms.specs.View.{term_of};
+    ghost use Rattle.omega_terms.specs.Inner.ValueTest.{value_test};
+    ghost use Rattle.omega_terms.specs.Inner.View.{term_of};
 
     ghost view = { λ e. term_of e.made.value.node };
 
     ghost invariant = { λ e. (e.type_bound ≡ type_bound_of (term_of e.made.value.node)) × (e.term_bound ≡ term_bound_of (term_of e.made.value.node)) × (term_height (term_of e.made.value.node) ≤ e.made.value.extent.height) × (e.made.value.extent.height ≤ 4096) × (e.made.value.is_value ≡ value_test (term_of e.made.value.node)) };
 
-    ghost use Rattle.omega_terms.specs.Falls.{made_le-term_size};
+    ghost use Rattle.omega_terms.specs.Inner.Falls.{made_le-term_size};
 
     ghost size_decreases = { λ e _. made_le-term_size e.made.value };
 }
@@ -108,26 +108,26 @@ impl Model for Term {
 impl Model for TermFields {
     ghost use Rattle.std.specs.Prelude.{◌≡◌, ◌≤◌};
     ghost use Rattle.omega_terms.specs.Fields.{TermPairs};
-    ghost use Rattle.omega_terms.specs.Code.{term_pairs_code};
+    ghost use Rattle.omega_terms.specs.Inner.Code.{term_pairs_code};
 
     ghost Value = { TermPairs };
 
     ghost coded = { term_pairs_code };
 
-    ghost use Rattle.omega_terms.specs.Size.{pairs_size};
+    ghost use Rattle.omega_terms.specs.Inner.Size.{pairs_size};
 
     ghost size = { pairs_size };
 
     ghost use Rattle.omega_types.specs.Fields.{Rises};
     ghost use Rattle.omega_terms.specs.Fields.{term_row};
     ghost use Rattle.omega_terms.specs.Height.{pairs_height};
-    ghost use Rattle.omega_terms.specs.ValueTest.{values_test};
+    ghost use Rattle.omega_terms.specs.Inner.ValueTest.{values_test};
 
     ghost view = { λ f. f.pairs.items };
 
     ghost invariant = { λ f. Rises f.pairs.items × (pairs_height f.pairs.items ≤ f.extent.height) × (f.are_values ≡ values_test (term_row f.pairs.items)) };
 
-    ghost use Rattle.omega_terms.specs.Falls.{deep_le-pairs_size};
+    ghost use Rattle.omega_terms.specs.Inner.Falls.{deep_le-pairs_size};
 
     ghost size_decreases = { λ f _. deep_le-pairs_size f.pairs.items };
 }

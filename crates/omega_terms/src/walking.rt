@@ -4,7 +4,7 @@ ghost use Rattle.omega_kinds.specs.View.{kind_tree};
 ghost use Rattle.omega_types.specs.Ty.{Ty as TyTree};
 ghost use Rattle.omega_terms.specs.Fields.{term_row};
 ghost use Rattle.omega_terms.specs.Term.{Term as TermTree};
-ghost use Rattle.omega_terms.specs.Walk.{walked, walked_row};
+ghost use Rattle.omega_terms.specs.Inner.Walk.{walked, walked_row};
 
 use crate::inner::Inner;
 use crate::op::Op;

@@ -5,9 +5,9 @@ use Rattle.omega_kinds.specs.declared.label.Label.{Label}
 use Rattle.omega_types.specs.Ty.{Ty, Row, lift}
 use Rattle.omega_types.specs.Substitution.{rename, substitute, substitute_row, under}
 use Rattle.omega_types.specs.Index.{bump, shift, put, substitute_at}
-use Rattle.omega_types.specs.Bound.{bound_of, bound_row}
+use Rattle.omega_types.specs.Inner.Bound.{bound_of, bound_row}
 use Rattle.omega_types.specs.Fields.{Pairs, row, Rises, MayFollow}
-use Rattle.omega_types.specs.Walk.{walked_ty, walked_row}
+use Rattle.omega_types.specs.Inner.Walk.{walked_ty, walked_row}
 use Rattle.omega_types.proofs.Algebra.{substitute-vars, under-vars}
 use Rattle.omega_types.proofs.Single.{bump-below, bump-above, put-below, put-same, put-above, put-under, shift-shift, shift-suc, shift-zero}
 

@@ -3,7 +3,7 @@ use Rattle.std.proofs.Common.{◌≡◌, ℕ, zero, suc, ◌<◌, ◌≤◌, ref
 use Rattle.omega_types.specs.Ty.{Ty, Row, lift}
 use Rattle.omega_types.specs.Substitution.{rename, rename_row, substitute, substitute_row, under}
 use Rattle.omega_types.specs.Index.{bump, shift, put, substitute_at}
-use Rattle.omega_types.specs.Bound.{bound_of, bound_row}
+use Rattle.omega_types.specs.Inner.Bound.{bound_of, bound_row}
 use Rattle.omega_types.proofs.Single.{bump-below, put-below}
 
 lift-same : (n : ℕ) (r : ℕ → ℕ) → ((i : ℕ) → i < n → r i ≡ i) → (i : ℕ) → i < suc n → lift r i ≡ i

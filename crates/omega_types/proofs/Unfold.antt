@@ -4,7 +4,7 @@ use Rattle.std.proofs.Common.{arith}
 use Rattle.std.proofs.Math.Path.{refl, sym, ◌∙◌, ap, subst}
 use Rattle.omega_kinds.specs.Kind.{Kind}
 use Rattle.omega_types.specs.Ty.{Ty, Row, lift}
-use Rattle.omega_types.specs.Size.{nodes, nodes_row}
+use Rattle.omega_types.specs.Inner.Size.{nodes, nodes_row}
 use Rattle.omega_types.specs.Substitution.{rename, rename_row}
 use Rattle.omega_types.specs.Kinding.{HasKind}
 use Rattle.omega_types.specs.Conversion.{Conv}

@@ -6,7 +6,7 @@ ghost use Rattle.omega_kinds.specs.View.{kind_tree};
 ghost use Rattle.omega_types.specs.Fields.{row};
 ghost use Rattle.omega_types.specs.KindIn.{kind_in, are_distinct, all_star as all_star_of, is_star as is_star_of, star_if as star_if_of, applied as applied_of};
 ghost use Rattle.omega_types.specs.Kinding.{HasKind};
-ghost use Rattle.omega_types.specs.Scope.{scope_of};
+ghost use Rattle.omega_types.specs.Inner.Scope.{scope_of};
 
 use crate::tree::{Ty, TyFields, TyNode};
 use omega_kinds::{Kind, Mem, arrow, same_kind};

@@ -1,10 +1,10 @@
 // Types, whose parts are shared.
 ghost use Rattle.std.specs.Prelude.{◌≡◌, ◌≤◌, ◌+◌, ◌++◌, ◌∷◌, [], IfOk, OnOk, OnErr, slice_get};
 ghost use Rattle.std.specs.Option.{option_copied};
-ghost use Rattle.omega_types.specs.Bound.{bound_of, bound_pairs};
+ghost use Rattle.omega_types.specs.Inner.Bound.{bound_of, bound_pairs};
 ghost use Rattle.omega_types.specs.Fields.{Rises, MayFollow, at_label};
 ghost use Rattle.omega_types.specs.Height.{height};
-ghost use Rattle.omega_types.specs.View.{ty_of};
+ghost use Rattle.omega_types.specs.Inner.View.{ty_of};
 
 use crate::finding::part_at;
 use crate::levels::next_level;
@@ -65,25 +65,25 @@ pub struct TyFields {
 impl Model for Ty {
     ghost use Rattle.std.specs.Prelude.{◌≡◌, ◌≤◌};
     ghost use Rattle.omega_types.specs.Ty.{Ty as TyTree};
-    ghost use Rattle.omega_types.specs.Code.{ty_code};
+    ghost use Rattle.omega_types.specs.Inner.Code.{ty_code};
 
     ghost Value = { TyTree };
 
     ghost coded = { ty_code };
 
-    ghost use Rattle.omega_types.specs.Size.{nodes};
+    ghost use Rattle.omega_types.specs.Inner.Size.{nodes};
 
     ghost size = { nodes };
 
-    ghost use Rattle.omega_types.specs.Bound.{bound_of};
+    ghost use Rattle.omega_types.specs.Inner.Bound.{bound_of};
     ghost use Rattle.omega_types.specs.Height.{height};
-    ghost use Rattle.omega_types.specs.View.{ty_of};
+    ghost use Rattle.omega_types.specs.Inner.View.{ty_of};
 
     ghost view = { λ t. ty_of t.made.value.node };
 
     ghost invariant = { λ t. (t.bound ≡ bound_of (ty_of t.made.value.node)) × (height (ty_of t.made.value.node) ≤ t.made.value.extent.height) × (t.made.value.extent.height ≤ 4096) };
 
-    ghost use Rattle.omega_types.specs.Falls.{made_le-nodes};
+    ghost use Rattle.omega_types.specs.Inner.Falls.{made_le-nodes};
 
     ghost size_decreases = { λ t _. made_le-nodes t.made.value };
 }
@@ -91,13 +91,13 @@ impl Model for Ty {
 impl Model for TyFields {
     ghost use Rattle.std.specs.Prelude.{◌≤◌};
     ghost use Rattle.omega_types.specs.Fields.{Pairs};
-    ghost use Rattle.omega_types.specs.Code.{pairs_code};
+    ghost use Rattle.omega_types.specs.Inner.Code.{pairs_code};
 
     ghost Value = { Pairs };
 
     ghost coded = { pairs_code };
 
-    ghost use Rattle.omega_types.specs.Size.{nodes_pairs};
+    ghost use Rattle.omega_types.specs.Inner.Size.{nodes_pairs};
 
     ghost size = { nodes_pairs };
 
@@ -108,7 +108,7 @@ impl Model for TyFields {
 
     ghost invariant = { λ f. Rises f.pairs.items × (height_pairs f.pairs.items ≤ f.extent.height) };
 
-    ghost use Rattle.omega_types.specs.Falls.{deep_le-nodes_pairs};
+    ghost use Rattle.omega_types.specs.Inner.Falls.{deep_le-nodes_pairs};
 
     ghost size_decreases = { λ f _. deep_le-nodes_pairs f.pairs.items };
 }

@@ -1,10 +1,10 @@
 // The walk: a dispatcher, and a function of its own for each form with parts, so that no frame holds the parts of all forms.
 ghost use Rattle.std.specs.Prelude.{◌≡◌, ◌↔◌, ◌≤◌, ℕ, IfOk, IsTrue};
 ghost use Rattle.omega_kinds.specs.View.{kind_tree};
-ghost use Rattle.omega_types.specs.Bound.{bound_of};
+ghost use Rattle.omega_types.specs.Inner.Bound.{bound_of};
 ghost use Rattle.omega_types.specs.Fields.{row};
 ghost use Rattle.omega_types.specs.Ty.{Ty as TyTree};
-ghost use Rattle.omega_types.specs.Walk.{walked_ty, walked_row};
+ghost use Rattle.omega_types.specs.Inner.Walk.{walked_ty, walked_row};
 
 use crate::levels::next_level;
 use crate::tree::{Ty, TyFields, TyNode};

@@ -8,8 +8,8 @@ use Rattle.omega_terms.specs.InScope.{IndexInScope, TyInScope, RowInScope, TermI
 use Rattle.omega_terms.specs.KindText.{kind_text, label_text}
 use Rattle.omega_terms.specs.TypeText.{level_text, ty_text, row_text}
 use Rattle.omega_terms.specs.TermText.{op_front, term_text, term_row_text}
-use Rattle.omega_write.specs.Counted.{level_in, next_in, counted_ty, counted_row, counted_term, counted_term_row}
-use Rattle.omega_write.specs.Pieces.{one_text, two_text, three_text, case_text}
+use Rattle.omega_write.specs.Inner.Counted.{level_in, next_in, counted_ty, counted_row, counted_term, counted_term_row}
+use Rattle.omega_write.specs.Inner.Pieces.{one_text, two_text, three_text, case_text}
 
 -- c counts n modulo 2^64
 abbrev pub Counts : (c n : ℕ) → Type 0

@@ -12,8 +12,8 @@ use Rattle.omega_types.specs.Fields.{Pairs, row}
 use Rattle.omega_terms.specs.Term.{Term}
 use Rattle.omega_terms.specs.Fields.{TermPairs, term_row}
 use Rattle.omega_write.specs.declared.trees.Piece.{Piece}
-use Rattle.omega_write.specs.Counted.{counted_ty, counted_row, counted_term, counted_term_row}
-use Rattle.omega_write.specs.Pieces.{piece_text, pieces_text, field_text}
+use Rattle.omega_write.specs.Inner.Counted.{counted_ty, counted_row, counted_term, counted_term_row}
+use Rattle.omega_write.specs.Inner.Pieces.{piece_text, pieces_text, field_text}
 use Rattle.omega_write.proofs.Sizes.{weight, weights, ty_size, row_size, term_size, term_row_size}
 
 -- a call that ends where an inner one failed

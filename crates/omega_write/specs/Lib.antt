@@ -1,3 +1,2 @@
-pub mod Counted
-pub mod Pieces
 pub mod Example
+pub mod Inner

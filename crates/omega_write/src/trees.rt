@@ -11,8 +11,8 @@ ghost use Rattle.omega_terms.specs.TermText.{term_text, op_front, quoted_text};
 ghost use Rattle.omega_terms.specs.TypeText.{ty_text};
 ghost use Rattle.std.specs.Prelude.{◌≡◌, decimal};
 ghost use Rattle.omega_kinds.specs.Text.{◌then◌};
-ghost use Rattle.omega_write.specs.Counted.{level_in, next_in, counted_ty, counted_row, counted_term, counted_term_row};
-ghost use Rattle.omega_write.specs.Pieces.{piece_text, pieces_text, field_text, one_text, two_text, three_text};
+ghost use Rattle.omega_write.specs.Inner.Counted.{level_in, next_in, counted_ty, counted_row, counted_term, counted_term_row};
+ghost use Rattle.omega_write.specs.Inner.Pieces.{piece_text, pieces_text, field_text, one_text, two_text, three_text};
 ghost use Rattle.omega_write.specs.declared.trees.Piece.TheVariants as piece;
 
 use crate::leaves::{write_bytes, write_label, write_number, write_signed};

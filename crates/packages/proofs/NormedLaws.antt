@@ -13,8 +13,8 @@ use Rattle.sig_laws.specs.Good.{OkRight}
 use Rattle.sig_laws.proofs.Algebra.AlikeLaws.{normal_sig-rename, normal_abs-rename}
 use Rattle.sig_norm_laws.proofs.Norm.NormKeeps.{norm-well_formed, norm_abs-explicit}
 use Rattle.sig_norm_laws.proofs.Orders.OrderExists.{root-each}
-use Rattle.type_normal.specs.Moved.{moved}
-use Rattle.packages.specs.Normed.{order, in_order, functor_in_order, normed_sig, normed_abs, normed_row}
+use Rattle.type_normal.specs.Inner.Moved.{moved}
+use Rattle.packages.specs.Inner.Normed.{order, in_order, functor_in_order, normed_sig, normed_abs, normed_row}
 use Rattle.packages.proofs.TurnLaws.{in-new-order}
 use Rattle.sig_laws.proofs.Formed.NormGood.{reorder-maps}
 

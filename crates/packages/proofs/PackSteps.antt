@@ -17,8 +17,8 @@ use Rattle.sig_laws.proofs.Formed.Conditions.{explicit-abs}
 use Rattle.package_judgments.specs.Package.{PackTypeGives, PackGives, UnpackGives, UnpackWhy, UnpackRefuses}
 use Rattle.package_laws.specs.SharedType.{IsSharedType}
 use Rattle.package_laws.proofs.SharedTypes.{one_shared_type}
-use Rattle.semantic_sigs.specs.View.{kinds_of}
-use Rattle.omega_shorthands.specs.Packed.{Fills}
+use Rattle.semantic_sigs.specs.Inner.View.{kinds_of}
+use Rattle.omega_shorthands.specs.Inner.Packed.{Fills}
 
 -- package types
 

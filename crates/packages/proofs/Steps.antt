@@ -15,16 +15,16 @@ use Rattle.sig_definitions.specs.Signatures.Sig.{Sig, Abs, SigRow}
 use Rattle.sig_definitions.specs.Signatures.SigSubst.{rename_sig, rename_abs}
 use Rattle.sig_definitions.specs.Signatures.SigMentions.{MentionsSig}
 use Rattle.sig_laws.specs.Decide.{decided, dec_mentions_sig}
-use Rattle.semantic_sigs.specs.Bound.{bound_sig}
-use Rattle.semantic_sigs.specs.Fields.{SigPairs, sig_row}
-use Rattle.semantic_sigs.specs.View.{kinds_of, body_of}
+use Rattle.semantic_sigs.specs.Inner.Bound.{bound_sig}
+use Rattle.semantic_sigs.specs.Inner.Fields.{SigPairs, sig_row}
+use Rattle.semantic_sigs.specs.Inner.View.{kinds_of, body_of}
 use Rattle.semantic_sigs.proofs.MentionSteps.{sig_mention-below}
 use Rattle.semantic_sigs.proofs.SigSteps.{map_sigs, name_follows-at}
 use Rattle.semantic_sigs.proofs.PartSteps.{row-at}
-use Rattle.packages.specs.First.{Places, is_untaken, blocks, barred, if_untaken, first, first_row, or_first}
-use Rattle.packages.specs.Normed.{in_order, functor_in_order, normed_sig, normed_abs, normed_row}
-use Rattle.type_normal.specs.Moved.{moved}
-use Rattle.packages.specs.Turns.{turns, turn, untaken}
+use Rattle.packages.specs.Inner.First.{Places, is_untaken, blocks, barred, if_untaken, first, first_row, or_first}
+use Rattle.packages.specs.Inner.Normed.{in_order, functor_in_order, normed_sig, normed_abs, normed_row}
+use Rattle.type_normal.specs.Inner.Moved.{moved}
+use Rattle.packages.specs.Inner.Turns.{turns, turn, untaken}
 use Rattle.packages.proofs.TurnLaws.{untaken-within}
 
 next-index : (i : ℕ) → i + 1 ≡ suc i

@@ -10,12 +10,12 @@ use Rattle.omega_types.specs.Binders.{own}
 use Rattle.omega_types.specs.Normaliser.{kind_at}
 use Rattle.omega_types.specs.Ty.{Ty}
 use Rattle.sig_definitions.specs.Signatures.Sig.{Sig, Abs, SigRow}
-use Rattle.semantic_sigs.specs.Fields.{SigPairs, sig_row}
-use Rattle.semantic_sigs.specs.View.{body_of}
-use Rattle.sig_roots.specs.Rooted.{rooted}
-use Rattle.packages.specs.First.{Places, is_untaken, blocks, barred, if_untaken, first_type, first, first_abs, first_row, or_first}
-use Rattle.packages.specs.Swept.{Sweeps, turns_from}
-use Rattle.packages.specs.Turns.{turn, turns, turns_by, untaken}
+use Rattle.semantic_sigs.specs.Inner.Fields.{SigPairs, sig_row}
+use Rattle.semantic_sigs.specs.Inner.View.{body_of}
+use Rattle.sig_roots.specs.Inner.Rooted.{rooted}
+use Rattle.packages.specs.Inner.First.{Places, is_untaken, blocks, barred, if_untaken, first_type, first, first_abs, first_row, or_first}
+use Rattle.packages.specs.Inner.Swept.{Sweeps, turns_from}
+use Rattle.packages.specs.Inner.Turns.{turn, turns, turns_by, untaken}
 use Rattle.packages.specs.declared.ordering.Order.{Order}
 use Rattle.packages.specs.declared.sweeping.Sweep.{Sweep}
 use Rattle.packages.proofs.Steps.{first-at, untaken-is}

@@ -30,11 +30,11 @@ use Rattle.sig_explicit_laws.proofs.Moves.{FieldsIn, shows-grown, params-grown}
 use Rattle.sig_explicit_laws.proofs.Liftings.{shows-result, params-result}
 use Rattle.sig_norm_laws.proofs.Orders.OrderExists.{field-split, part-opens, Opens}
 use Rattle.sig_norm_laws.proofs.Orders.Decided.{param-enters}
-use Rattle.sig_roots.specs.Rooted.{rooted}
+use Rattle.sig_roots.specs.Inner.Rooted.{rooted}
 use Rattle.sig_roots.proofs.RootedLaws.{rooted-conv, rooted-found}
 use Rattle.sig_roots.proofs.LeastLaws.{past-from}
 use Rattle.sig_roots.proofs.SeekLaws.{spread-past}
-use Rattle.packages.specs.First.{Places, is_untaken, blocks, barred, if_untaken, first, first_row, first_type, or_first}
+use Rattle.packages.specs.Inner.First.{Places, is_untaken, blocks, barred, if_untaken, first, first_row, first_type, or_first}
 use Rattle.sig_laws.proofs.Formed.WellFormedLaws.{before_all-field}
 use Rattle.sig_laws.proofs.Algebra.Paths.{before-cases, before-result}
 use Rattle.sig_laws.proofs.Formed.Shows.{Shows, shows}

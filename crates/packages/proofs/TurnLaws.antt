@@ -21,10 +21,10 @@ use Rattle.sig_laws.proofs.Algebra.Own.{split_index}
 use Rattle.sig_explicit_laws.proofs.Positions.{own-below}
 use Rattle.sig_norm_laws.proofs.Orders.OrderExists.{LeastBelow, least_below}
 use Rattle.sig_norm_laws.proofs.Orders.Orders.{place-same, place-other, own-own, renumber-below, renumber-past}
-use Rattle.packages.specs.First.{Places, is_untaken, first}
-use Rattle.type_normal.specs.Moved.{moved, or_stays, place_in}
-use Rattle.packages.specs.Turns.{turns, turn, untaken}
-use Rattle.packages.specs.Normed.{order}
+use Rattle.packages.specs.Inner.First.{Places, is_untaken, first}
+use Rattle.type_normal.specs.Inner.Moved.{moved, or_stays, place_in}
+use Rattle.packages.specs.Inner.Turns.{turns, turn, untaken}
+use Rattle.packages.specs.Inner.Normed.{order}
 use Rattle.packages.proofs.Taken.{Takes, Outcome, outcome}
 use Rattle.sig_laws.proofs.Formed.Shows.{Shows, rooted-shows, shows-rooted}
 

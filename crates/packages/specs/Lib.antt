@@ -1,5 +1,1 @@
-pub mod First
-pub mod Normed
-pub mod Plain
-pub mod Swept
-pub mod Turns
+pub mod Inner

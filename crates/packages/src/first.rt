@@ -1,7 +1,7 @@
 // The first variable of a signature that may be taken.
 ghost use Rattle.std.specs.Prelude.{◌≡◌, ◌↔◌, ◌+◌, Some, None, length, IfOk, IsTrue, slice_get};
-ghost use Rattle.semantic_sigs.specs.Fields.{sig_row};
-ghost use Rattle.packages.specs.First.{first as first_of, first_row, first_type as first_type_of, barred, blocks};
+ghost use Rattle.semantic_sigs.specs.Inner.Fields.{sig_row};
+ghost use Rattle.packages.specs.Inner.First.{first as first_of, first_row, first_type as first_type_of, barred, blocks};
 
 use omega_kinds::{Effect, Kinds, Mem};
 use omega_types::Ty;

@@ -5,8 +5,8 @@ ghost use Rattle.omega_kinds.specs.declared.effect.Effect.TheVariants as effect;
 ghost use Rattle.sig_laws.specs.Good.{OkRight};
 ghost use Rattle.sig_definitions.specs.QuantifierOrder.{Norm};
 ghost use Rattle.sig_definitions.specs.Signatures.Sig.{Ex, Fun};
-ghost use Rattle.semantic_sigs.specs.Fields.{sig_row};
-ghost use Rattle.packages.specs.Normed.{functor_in_order, normed_sig, normed_abs, normed_row};
+ghost use Rattle.semantic_sigs.specs.Inner.Fields.{sig_row};
+ghost use Rattle.packages.specs.Inner.Normed.{functor_in_order, normed_sig, normed_abs, normed_row};
 
 use crate::ordering::order_of;
 use omega_kinds::{Effect, Kinds, Mem};

@@ -2,7 +2,7 @@
 ghost use Rattle.std.specs.Prelude.{◌≡◌, ◌<◌, ◌++◌, ◌∷◌, [], Some, length, set, IfOk, OnOk};
 ghost use Rattle.omega_types.specs.Binders.{own as number_of};
 ghost use Rattle.omega_types.specs.Normaliser.{kind_at};
-ghost use Rattle.packages.specs.Turns.{turns, untaken};
+ghost use Rattle.packages.specs.Inner.Turns.{turns, untaken};
 
 use crate::first::first;
 use crate::sweeping::Sweep;

@@ -7,9 +7,9 @@ ghost use Rattle.omega_types.specs.Normality.{Normal};
 ghost use Rattle.sig_laws.specs.Good.{OkAbs, OkRight};
 ghost use Rattle.package_judgments.specs.Package.{PackTypeGives, PackGives, UnpackGives, UnpackRefuses};
 ghost use Rattle.package_laws.specs.SharedType.{IsSharedType};
-ghost use Rattle.semantic_sigs.specs.Made.{module_of};
-ghost use Rattle.semantic_sigs.specs.View.{kinds_of};
-ghost use Rattle.packages.specs.Plain.{plain_why};
+ghost use Rattle.semantic_sigs.specs.Inner.Made.{module_of};
+ghost use Rattle.semantic_sigs.specs.Inner.View.{kinds_of};
+ghost use Rattle.packages.specs.Inner.Plain.{plain_why};
 
 use crate::norms::norm;
 use crate::refusal::UnpackRefusal;

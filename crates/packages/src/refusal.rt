@@ -13,7 +13,7 @@ pub enum UnpackRefusal {
 
 impl From<Mem> for UnpackRefusal {
     ghost use Rattle.std.specs.Prelude.{◌≡◌};
-    ghost use Rattle.packages.specs.Plain.{want_of_memory};
+    ghost use Rattle.packages.specs.Inner.Plain.{want_of_memory};
 
     ghost from_gives = { λ _ e. e ≡ want_of_memory };
 

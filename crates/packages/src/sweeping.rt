@@ -1,8 +1,8 @@
 // Variables taken in one walk through a signature.
 ghost use Rattle.std.specs.Prelude.{◌≡◌, length, IfOk, IsTrue, OnOk};
-ghost use Rattle.semantic_sigs.specs.Fields.{sig_row};
-ghost use Rattle.packages.specs.First.{first as first_of, first_row, first_type as first_type_of};
-ghost use Rattle.packages.specs.Swept.{Sweeps};
+ghost use Rattle.semantic_sigs.specs.Inner.Fields.{sig_row};
+ghost use Rattle.packages.specs.Inner.First.{first as first_of, first_row, first_type as first_type_of};
+ghost use Rattle.packages.specs.Inner.Swept.{Sweeps};
 
 use crate::first::{first_type, inside, is_barred};
 use crate::ordering::Order;

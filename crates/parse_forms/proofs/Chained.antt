@@ -6,7 +6,7 @@ use Rattle.std.proofs.lemmas.List.{reverse-append}
 use Rattle.fing_syntax.specs.Phrase as tree
 use Rattle.fing_syntax.specs.Phrase.{Bind, Exp, ExpAt, ExpOps, ExpApply, TyEx, TyAt, TyApply}
 use Rattle.fing_syntax.specs.Place.{ty_span, exp_span, arg_span, up_to}
-use Rattle.fing_syntax.specs.View.{arg_of, binds, tys, ops, args}
+use Rattle.fing_syntax.specs.Inner.View.{arg_of, binds, tys, ops, args}
 use Rattle.fing_syntax.specs.declared.leaf.Op.{Op}
 use Rattle.fing_syntax.specs.declared.tree.Arg.{Arg}
 use Rattle.parse_grammar.specs.Forms.{bind_then, last_ty, ty_chain_of, last_op, ops_of, last_arg, args_of}

@@ -1,12 +1,12 @@
 // Chains, which group to the left, and arrows, which group to the right.
 // Each list that is passed in has its first item last.
 ghost use Rattle.std.specs.Prelude.{◌≡◌, IfOk, map, reverse, option_map};
-ghost use Rattle.fing_syntax.specs.Leaves.{place, spelled};
+ghost use Rattle.fing_syntax.specs.Inner.Leaves.{place, spelled};
 ghost use Rattle.fing_syntax.specs.Phrase.{ModAt, ModProject, ExpAt, ExpGet};
 ghost use Rattle.fing_syntax.specs.Place.{up_to as through, arg_span};
-ghost use Rattle.fing_syntax.specs.View.{arg_of, tys as tys_of, ops as operators_of, args as arguments_of};
+ghost use Rattle.fing_syntax.specs.Inner.View.{arg_of, tys as tys_of, ops as operators_of, args as arguments_of};
 ghost use Rattle.parse_grammar.specs.Forms as form;
-ghost use Rattle.parse_forms.specs.Part.{kind_in, where_in, ascription_in};
+ghost use Rattle.parse_forms.specs.Inner.Part.{kind_in, where_in, ascription_in};
 
 use crate::forms::{apply_mod, seal_mod, show_mod};
 use crate::kept::Kept;

@@ -1,10 +1,10 @@
 // The trees of derived forms, in which hidden names stand for the parts.
 ghost use Rattle.std.specs.Prelude.{◌≡◌, [], ◌∷◌, ◌++◌, IfOk, OnOk};
-ghost use Rattle.fing_syntax.specs.Leaves.{place};
-ghost use Rattle.fing_syntax.specs.View.{binds as binds_of};
+ghost use Rattle.fing_syntax.specs.Inner.Leaves.{place};
+ghost use Rattle.fing_syntax.specs.Inner.View.{binds as binds_of};
 ghost use Rattle.parse_grammar.specs.Forms as form;
 ghost use Rattle.parse_grammar.specs.Parts as part;
-ghost use Rattle.parse_forms.specs.Part.{tail_in, abstraction_in};
+ghost use Rattle.parse_forms.specs.Inner.Part.{tail_in, abstraction_in};
 
 use crate::kept::Kept;
 use crate::part::{Abstraction, TypeTail};

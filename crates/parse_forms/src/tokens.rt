@@ -1,6 +1,6 @@
 // Names, numbers and places out of tokens.
 ghost use Rattle.std.specs.Prelude.{◌≡◌, IfOk};
-ghost use Rattle.fing_syntax.specs.Leaves.{place, spelled};
+ghost use Rattle.fing_syntax.specs.Inner.Leaves.{place, spelled};
 ghost use Rattle.fing_syntax.specs.Place.{up_to as through};
 ghost use Rattle.parse_grammar.specs.Parts as part;
 ghost use Rattle.parse_grammar.specs.Forms.{hidden as hidden_name};

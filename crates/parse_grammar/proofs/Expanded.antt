@@ -2,9 +2,9 @@
 use Rattle.std.proofs.Common.{◌≡◌, ℕ, List, refl, ◌∙◌, ap}
 use Rattle.std.specs.Prelude.{Option, option_map}
 use Rattle.fing_lexer.specs.declared.token.Token.{Token}
-use Rattle.parse_grammar.specs.Moves.{any_move}
+use Rattle.parse_grammar.specs.Inner.Moves.{any_move}
 use Rattle.parse_grammar.specs.Tables.{choose}
-use Rattle.parse_grammar.specs.View.{class_in, rule_in, any, chosen}
+use Rattle.parse_grammar.specs.Inner.View.{class_in, rule_in, any, chosen}
 use Rattle.parse_grammar.specs.declared.grammar.Rule.{Rule as RuleIn}
 use Rattle.parse_grammar.specs.declared.grammar.Class.{Class as ClassIn}
 use Rattle.parse_grammar.specs.declared.grammar.Class.TheVariants.{Units, OneUnit, Binds, Bind, Decls, Decl, TypeOf, Kind, KindArrow, KindAtom, Path, Dots, Ty, TyArrow, TyChain, TyArgs, TyAtom, TyFields, MoreTyFields, Sig, SigArrow, Wheres, SigAtom, Mod, ModArgs, Seals, ModAtom, Exp, Lam, Branches, MoreBranches, Compare, Sum, Sums, Product, Products, Application, Args, Selection, Gets, ExpAtom, ExpFields, MoreExpFields}

@@ -8,8 +8,8 @@ use Rattle.parse_grammar.specs.Program.{Start, Farthest}
 use Rattle.parse_grammar.specs.Reading.{Run, got, stop, spent, next, ahead, by_token, by_rule, reads, lead, need}
 use Rattle.parse_grammar.specs.Tables.{number_of, choose, can_be_empty, rank}
 use Rattle.parse_grammar.specs.Tree.{Trees, end, leaf, node, spelling, Phrase}
-use Rattle.parse_grammar.specs.View.{any}
-use Rattle.parse_grammar.specs.Moves.{Move, shift, by, pushed, by_number, any_move, advance, track}
+use Rattle.parse_grammar.specs.Inner.View.{any}
+use Rattle.parse_grammar.specs.Inner.Moves.{Move, shift, by, pushed, by_number, any_move, advance, track}
 use Rattle.parse_grammar.proofs.Sets.{all_empty}
 use Rattle.parse_grammar.proofs.Checks.{same_terminal}
 use Rattle.parse_grammar.proofs.Empties.{empties}

@@ -2,7 +2,7 @@
 use Rattle.std.proofs.Common.{◌≡◌, ◌∙◌, ap, refl, sym, Bool, true, false, eqb, eqb-true, eq-eqb}
 use Rattle.parse_grammar.specs.Grammar.{Terminal, a_keyword, a_mark, a_name, a_number, a_text}
 use Rattle.parse_grammar.specs.Tables.{number_of}
-use Rattle.parse_grammar.specs.View.{terminal_in}
+use Rattle.parse_grammar.specs.Inner.View.{terminal_in}
 use Rattle.parse_grammar.specs.declared.grammar.Terminal.{Terminal as TerminalIn}
 use Rattle.parse_grammar.specs.declared.grammar.Terminal.TheVariants.{Word, Mark, Name, Number, Text}
 use Rattle.parse_grammar.proofs.Checks.{same_terminal}

@@ -1,8 +1,8 @@
 -- What is pushed last stands first.
 use Rattle.std.proofs.Common.{◌≡◌, List, [], ◌∷◌, ◌++◌, length, map, refl, ap, arith}
 use Rattle.std.proofs.lemmas.List.{reverse-append}
-use Rattle.parse_grammar.specs.Steps.{move_in, moves, wanted}
-use Rattle.parse_grammar.specs.View.{symbol_in}
+use Rattle.parse_grammar.specs.Inner.Steps.{move_in, moves, wanted}
+use Rattle.parse_grammar.specs.Inner.View.{symbol_in}
 use Rattle.parse_grammar.specs.declared.grammar.Symbol.{Symbol as SymbolIn}
 use Rattle.parse_grammar.specs.declared.recogniser.Step.{Step}
 

@@ -7,7 +7,4 @@ pub mod Tree
 pub mod Program
 pub mod Tables
 pub mod Reading
-pub mod View
-pub mod Refusal
-pub mod Moves
-pub mod Steps
+pub mod Inner

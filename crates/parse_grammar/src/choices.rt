@@ -4,7 +4,7 @@ ghost use Rattle.parse_grammar.specs.Grammar as the;
 ghost use Rattle.parse_grammar.specs.Grammar.{kind_of};
 ghost use Rattle.parse_grammar.specs.Reading.{ahead};
 ghost use Rattle.parse_grammar.specs.Tables.{is_in, choose as choice};
-ghost use Rattle.parse_grammar.specs.View.{terminal_in, number_next, rule_in, any, chosen};
+ghost use Rattle.parse_grammar.specs.Inner.View.{terminal_in, number_next, rule_in, any, chosen};
 
 use crate::grammar::{
     ArgRule, AtomRule, BindRule, Class, DeclRule, ExpRule, KindRule, ModRule, OpRule, PathRule,

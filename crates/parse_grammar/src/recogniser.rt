@@ -2,11 +2,11 @@
 ghost use Rattle.std.specs.Prelude.{◌≡◌, eqb, ◌++◌, ◌≤◌, ◌-◌, [], ◌∷◌, List, length, map, option_map, IfOk, IfErr, OnOk};
 ghost use Rattle.parse_grammar.specs.Grammar.{kind_of, phrase, token as wants};
 ghost use Rattle.parse_grammar.specs.Program.{Start};
-ghost use Rattle.parse_grammar.specs.Refusal.{Refuses};
+ghost use Rattle.parse_grammar.specs.Inner.Refusal.{Refuses};
 ghost use Rattle.parse_grammar.specs.Tree.{Trees, spelling};
-ghost use Rattle.parse_grammar.specs.View.{class_in, symbol_in, terminal_in};
-ghost use Rattle.parse_grammar.specs.Moves.{advance, pushed, track};
-ghost use Rattle.parse_grammar.specs.Steps.{move_in, moves, wanted};
+ghost use Rattle.parse_grammar.specs.Inner.View.{class_in, symbol_in, terminal_in};
+ghost use Rattle.parse_grammar.specs.Inner.Moves.{advance, pushed, track};
+ghost use Rattle.parse_grammar.specs.Inner.Steps.{move_in, moves, wanted};
 ghost use Rattle.parse_grammar.specs.Tables.{number_of};
 
 use crate::choices::{choose, next, terminal_of};

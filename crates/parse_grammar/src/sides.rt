@@ -1,6 +1,6 @@
 // What stands right of each production.
 ghost use Rattle.std.specs.Prelude.{◌≡◌, map};
-ghost use Rattle.parse_grammar.specs.View.{symbol_in, side_of, rule_in, unit_rule_in, bind_rule_in, decl_rule_in, kind_rule_in, path_rule_in, ty_rule_in, sig_rule_in, mod_rule_in, exp_rule_in, op_rule_in, arg_rule_in, atom_rule_in};
+ghost use Rattle.parse_grammar.specs.Inner.View.{symbol_in, side_of, rule_in, unit_rule_in, bind_rule_in, decl_rule_in, kind_rule_in, path_rule_in, ty_rule_in, sig_rule_in, mod_rule_in, exp_rule_in, op_rule_in, arg_rule_in, atom_rule_in};
 
 use crate::grammar::Symbol::Phrase;
 use crate::grammar::{

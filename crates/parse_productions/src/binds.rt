@@ -1,9 +1,9 @@
 // Bindings.
 ghost use Rattle.std.specs.Prelude.{◌≡◌, Some, None, IfOk, IfErr};
 ghost use Rattle.parse_grammar.specs.Grammar as the;
-ghost use Rattle.parse_grammar.specs.View.{bind_rule_in};
-ghost use Rattle.parse_stack.specs.Part.{held};
-ghost use Rattle.parse_stack.specs.Play.{played, played_any};
+ghost use Rattle.parse_grammar.specs.Inner.View.{bind_rule_in};
+ghost use Rattle.parse_stack.specs.Inner.Part.{held};
+ghost use Rattle.parse_stack.specs.Inner.Play.{played, played_any};
 ghost use Rattle.parse_stack.specs.declared.refusal.BuildRefusal.TheVariants.{Misfit};
 
 use fing_syntax::{Bind, BindWhat};

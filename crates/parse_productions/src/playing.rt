@@ -1,8 +1,8 @@
 // Productions of all sorts.
 ghost use Rattle.std.specs.Prelude.{◌≡◌, Some, None, IfOk, IfErr};
-ghost use Rattle.parse_grammar.specs.View.{rule_in};
-ghost use Rattle.parse_stack.specs.Part.{held};
-ghost use Rattle.parse_stack.specs.Play.{played_any};
+ghost use Rattle.parse_grammar.specs.Inner.View.{rule_in};
+ghost use Rattle.parse_stack.specs.Inner.Part.{held};
+ghost use Rattle.parse_stack.specs.Inner.Play.{played_any};
 ghost use Rattle.parse_stack.specs.declared.refusal.BuildRefusal.TheVariants.{Misfit};
 
 use crate::arguments::argument;

@@ -1,9 +1,9 @@
 // Types.
 ghost use Rattle.std.specs.Prelude.{◌≡◌, Some, None, IfOk, IfErr};
 ghost use Rattle.parse_grammar.specs.Grammar as the;
-ghost use Rattle.parse_grammar.specs.View.{ty_rule_in};
-ghost use Rattle.parse_stack.specs.Part.{held};
-ghost use Rattle.parse_stack.specs.Play.{played, played_any};
+ghost use Rattle.parse_grammar.specs.Inner.View.{ty_rule_in};
+ghost use Rattle.parse_stack.specs.Inner.Part.{held};
+ghost use Rattle.parse_stack.specs.Inner.Play.{played, played_any};
 ghost use Rattle.parse_stack.specs.declared.refusal.BuildRefusal.TheVariants.{Misfit};
 
 use fing_syntax::{TyEx, TyWhat};

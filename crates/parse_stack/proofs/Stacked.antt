@@ -2,8 +2,8 @@
 use Rattle.std.proofs.Common.{◌≡◌, List, [], ◌∷◌, ◌++◌, map, refl, sym, ◌∙◌, ap}
 use Rattle.std.specs.Prelude.{Option, None, Some, option_map, option_to_list}
 use Rattle.std.proofs.lemmas.List.{reverse-append}
-use Rattle.parse_stack.specs.Part.{part_in, items}
-use Rattle.parse_stack.specs.Play.{uncons}
+use Rattle.parse_stack.specs.Inner.Part.{part_in, items}
+use Rattle.parse_stack.specs.Inner.Play.{uncons}
 use Rattle.parse_stack.specs.declared.part.Part.{Part}
 
 pub items_push : (ps : List Part) (p : Part) → items (ps ++ p ∷ []) ≡ part_in p ∷ items ps

@@ -1,3 +1,1 @@
-pub mod Item
-pub mod Part
-pub mod Play
+pub mod Inner

@@ -1,11 +1,11 @@
 // The parser's stack. Each call takes the top part as what its name says, or finds that it is something else.
 ghost use Rattle.std.specs.Prelude.{◌≡◌, [], ◌∷◌, Some, None, reverse, map, option_map, IfOk, IfErr, OnOk, OnErr};
-ghost use Rattle.fing_syntax.specs.Leaves.{spelled};
-ghost use Rattle.fing_syntax.specs.View.{binds as binds_of, decls as decls_of, tys as tys_of, field_tys as field_tys_of, ops as ops_of, args as args_of, field_exps as field_exps_of, branches as branches_of};
-ghost use Rattle.parse_stack.specs.Item.{as_token, as_units, as_one_unit, as_binds, as_bind, as_decls, as_decl, as_tail, as_kind, as_kind_arrow, as_mod, as_names, as_ty, as_ty_arrow, as_tys, as_field_tys, as_sig, as_pure, as_wheres, as_mods, as_ascriptions, as_exp, as_abstraction, as_ops, as_args, as_field_exps, as_branches};
-ghost use Rattle.parse_forms.specs.Part.{kind_in, tail_in, where_in, ascription_in, abstraction_in};
-ghost use Rattle.parse_stack.specs.Part.{part_in, held};
-ghost use Rattle.parse_stack.specs.Play.{uncons, top};
+ghost use Rattle.fing_syntax.specs.Inner.Leaves.{spelled};
+ghost use Rattle.fing_syntax.specs.Inner.View.{binds as binds_of, decls as decls_of, tys as tys_of, field_tys as field_tys_of, ops as ops_of, args as args_of, field_exps as field_exps_of, branches as branches_of};
+ghost use Rattle.parse_stack.specs.Inner.Item.{as_token, as_units, as_one_unit, as_binds, as_bind, as_decls, as_decl, as_tail, as_kind, as_kind_arrow, as_mod, as_names, as_ty, as_ty_arrow, as_tys, as_field_tys, as_sig, as_pure, as_wheres, as_mods, as_ascriptions, as_exp, as_abstraction, as_ops, as_args, as_field_exps, as_branches};
+ghost use Rattle.parse_forms.specs.Inner.Part.{kind_in, tail_in, where_in, ascription_in, abstraction_in};
+ghost use Rattle.parse_stack.specs.Inner.Part.{part_in, held};
+ghost use Rattle.parse_stack.specs.Inner.Play.{uncons, top};
 ghost use Rattle.parse_stack.specs.declared.refusal.BuildRefusal.TheVariants.{Mem as WantOfMemory};
 
 use crate::part::Part;

@@ -1,8 +1,8 @@
 // Functors.
 ghost use Rattle.std.specs.Prelude.{◌≡◌, Some, None, IfOk, IfErr};
 ghost use Rattle.parse_grammar.specs.Grammar as the;
-ghost use Rattle.parse_stack.specs.Part.{held};
-ghost use Rattle.parse_stack.specs.Play.{played};
+ghost use Rattle.parse_stack.specs.Inner.Part.{held};
+ghost use Rattle.parse_stack.specs.Inner.Play.{played};
 ghost use Rattle.parse_stack.specs.declared.refusal.BuildRefusal.TheVariants.{Misfit};
 
 use fing_syntax::{Mod, ModWhat};

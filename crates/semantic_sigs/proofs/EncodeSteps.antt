@@ -4,14 +4,14 @@ use Rattle.omega_kinds.specs.View.{kind_tree}
 use Rattle.omega_kinds.specs.declared.kind.Kind.{Kind as SharedKind}
 use Rattle.semantic_sigs.specs.declared.encoding.Quantifier.{Quantifier}
 use Rattle.semantic_sigs.specs.declared.encoding.Quantifier.TheVariants as quantifier
-use Rattle.semantic_sigs.specs.Quantified.{quantified, quantified_once}
+use Rattle.semantic_sigs.specs.Inner.Quantified.{quantified, quantified_once}
 use Rattle.omega_kinds.specs.Name.{Name}
 use Rattle.omega_kinds.specs.declared.label.Label.{Label}
 use Rattle.omega_types.specs.Ty.{Ty, Row}
 use Rattle.omega_types.specs.Fields.{Pairs, row, MayFollow}
 use Rattle.sig_definitions.specs.Signatures.Sig.{Sig}
 use Rattle.sig_definitions.specs.Signatures.Encoding.{enc, enc_row}
-use Rattle.semantic_sigs.specs.Fields.{SigPairs, sig_row, Rises}
+use Rattle.semantic_sigs.specs.Inner.Fields.{SigPairs, sig_row, Rises}
 
 -- the fields' labels with their encodings
 abbrev pub encoded_pairs : SigPairs → Pairs

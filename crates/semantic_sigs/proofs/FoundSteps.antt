@@ -19,8 +19,8 @@ use Rattle.sig_definitions.specs.Env.{Entry, Env, find, type_param, first_kind}
 use Rattle.semantic_sigs.specs.declared.env.Entry.{Entry as CodeEntry}
 use Rattle.semantic_sigs.specs.declared.env.Entry.TheVariants as entry
 use Rattle.semantic_sigs.specs.declared.env.Slot.{Slot}
-use Rattle.semantic_sigs.specs.Entries.{entry_of, is_named, type_vars, term_vars, here, here_first, seen}
-use Rattle.semantic_sigs.specs.Slots.{with_slots, type_count, term_count, place_of, IsSlot, IsKept}
+use Rattle.semantic_sigs.specs.Inner.Entries.{entry_of, is_named, type_vars, term_vars, here, here_first, seen}
+use Rattle.semantic_sigs.specs.Inner.Slots.{with_slots, type_count, term_count, place_of, IsSlot, IsKept}
 use Rattle.semantic_sigs.proofs.SeenSteps.{seen-none, found-if, past-if, find-named, find-other, same-counts, seen-param}
 use Rattle.semantic_sigs.proofs.SlotSteps.{with-take, take-all, length-slots, slot-at, length-scope}
 

@@ -6,7 +6,7 @@ use Rattle.omega_kinds.specs.LabelOrder.{name_before}
 use Rattle.omega_kinds.specs.Name.{Name}
 use Rattle.omega_kinds.proofs.NameLaws.{name-irreflexive, name-transitive, name-total}
 use Rattle.sig_definitions.specs.Signatures.Sig.{Sig, HasField, NoField, here, there}
-use Rattle.semantic_sigs.specs.Fields.{SigPairs, sig_row, Rises}
+use Rattle.semantic_sigs.specs.Inner.Fields.{SigPairs, sig_row, Rises}
 
 rise-tail : (x : Name × Sig) (xs : SigPairs) → Rises (x ∷ xs) → Rises xs
 rise-tail x [] r = tt

@@ -10,11 +10,11 @@ use Rattle.sig_definitions.specs.Signatures.Sig.{Sig, Abs, SigRow}
 use Rattle.sig_definitions.specs.Signatures.SigSubst.{rename_sig, rename_abs, rename_sig_row, substitute_sig, substitute_abs, substitute_sig_row}
 use Rattle.sig_definitions.specs.Signatures.Alike.{AlikeSig, AlikeAbs, AlikeRow, IsAbsAt, IsSigAt, NormalSig, NormalAbs, NormalSigRow}
 use Rattle.sig_laws.proofs.Algebra.AlikeLaws.{normal_sig-rename, normal_abs-rename}
-use Rattle.type_normal.specs.Lifted.{lower_from, renumbered}
-use Rattle.type_normal.specs.Moved.{moved}
+use Rattle.type_normal.specs.Inner.Lifted.{lower_from, renumbered}
+use Rattle.type_normal.specs.Inner.Moved.{moved}
 pub use Rattle.type_normal.proofs.HeadLaws.{renaming, under-renaming, sinks-renaming, head-renamed, ty-renamed, Good, good-under, good-sinks, in-normal, good-puts, good-vars}
-use Rattle.semantic_sigs.specs.View.{kinds_of, body_of}
-use Rattle.semantic_sigs.specs.Changes.{Head, tree, under_head, sunk, sinks, ty_in, sig_in, abs_in, sig_row_in, raising, lowering, putting, moving}
+use Rattle.semantic_sigs.specs.Inner.View.{kinds_of, body_of}
+use Rattle.semantic_sigs.specs.Inner.Changes.{Head, tree, under_head, sunk, sinks, ty_in, sig_in, abs_in, sig_row_in, raising, lowering, putting, moving}
 
 -- renamings
 

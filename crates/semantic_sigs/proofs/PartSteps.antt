@@ -5,7 +5,7 @@ use Rattle.omega_kinds.specs.Name.{Name}
 use Rattle.sig_definitions.specs.Explicit.SigPath.{Item, PartAt}
 use Rattle.sig_definitions.specs.Signatures.Sig.{Sig, SigRow, HasField, NoField}
 use Rattle.sig_laws.proofs.Algebra.PathLaws.{one-field, no-field}
-use Rattle.semantic_sigs.specs.Fields.{SigPairs, sig_row}
+use Rattle.semantic_sigs.specs.Inner.Fields.{SigPairs, sig_row}
 
 next-index : (i : ℕ) → i + 1 ≡ suc i
 next-index i = omega arith

@@ -1,7 +1,7 @@
 -- Fields in rising order.
 use Rattle.std.proofs.Common.{List, [], ◌∷◌, ◌++◌}
 use Rattle.omega_kinds.specs.Name.{Name}
-use Rattle.semantic_sigs.specs.Fields.{Rises, MayFollow}
+use Rattle.semantic_sigs.specs.Inner.Fields.{Rises, MayFollow}
 
 pub rises-push : {T : Type 0} (xs : List (Name × T)) (x : Name × T) → Rises xs → MayFollow xs x.0 → Rises (xs ++ x ∷ [])
 rises-push [] x r m = tt

@@ -14,14 +14,14 @@ use Rattle.omega_types.proofs.Algebra.{rename-weaken}
 use Rattle.omega_terms.specs.Term.{Term}
 use Rattle.omega_terms.specs.TermSubst.{ren_term, same_index}
 use Rattle.omega_terms.specs.PartTerms.{one_field, type_term}
-use Rattle.omega_terms.specs.Bound.{type_bound, term_bound}
+use Rattle.omega_terms.specs.Inner.Bound.{type_bound, term_bound}
 use Rattle.omega_terms.proofs.OneIndex.{ren_term-same}
 use Rattle.sig_definitions.specs.Signatures.Sig.{Sig}
 use Rattle.sig_definitions.specs.Signatures.SigSubst.{rename_sig}
 use Rattle.sig_definitions.specs.Env.{Entry, Env, find, past_type, past_term, type_param, first_kind}
 use Rattle.sig_laws.proofs.Algebra.SigAlgebra.{rename-rename_sig, rename_sig-id}
 use Rattle.semantic_sigs.specs.declared.env.Entry.TheVariants as entry
-use Rattle.semantic_sigs.specs.Entries.{is_named, type_vars, term_vars, here, seen}
+use Rattle.semantic_sigs.specs.Inner.Entries.{is_named, type_vars, term_vars, here, seen}
 use Rattle.omega_terms.proofs.TermAlgebra.{ren-ren_term}
 
 -- what is found, past one variable more

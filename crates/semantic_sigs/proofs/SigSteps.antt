@@ -3,10 +3,10 @@ use Rattle.std.proofs.Common.{◌≡◌, ℕ, zero, suc, ◌+◌, ◌<◌, ◌�
 use Rattle.omega_kinds.specs.Kind.{Kind}
 use Rattle.omega_kinds.specs.Name.{Name}
 use Rattle.sig_definitions.specs.Signatures.Sig.{Sig, Abs, SigRow}
-use Rattle.semantic_sigs.specs.Bound.{bound_sig, bound_abs, bound_sig_row}
+use Rattle.semantic_sigs.specs.Inner.Bound.{bound_sig, bound_abs, bound_sig_row}
 use Rattle.omega_types.specs.Ty.{Ty}
-use Rattle.semantic_sigs.specs.Changes.{Head, stands, tree, under_head, sunk, sinks, sig_in, abs_in, sig_row_in}
-use Rattle.semantic_sigs.specs.Fields.{SigPairs, sig_row, Rises, MayFollow}
+use Rattle.semantic_sigs.specs.Inner.Changes.{Head, stands, tree, under_head, sunk, sinks, sig_in, abs_in, sig_row_in}
+use Rattle.semantic_sigs.specs.Inner.Fields.{SigPairs, sig_row, Rises, MayFollow}
 use Rattle.type_normal.proofs.HeadSteps.{Keeps, sunk-below, sunk-still, under-keeps, head-unchanged, sinks-sunk}
 
 pub sinks-keeps : (ks : List Kind) (n : ℕ) (h : ℕ → Head) → Keeps n h → Keeps (length ks + n) (sinks ks h)

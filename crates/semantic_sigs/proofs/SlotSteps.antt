@@ -12,14 +12,14 @@ use Rattle.omega_kinds.specs.declared.kind.Kind.{Kind as SharedKind}
 use Rattle.omega_kinds.proofs.NameLaws.{same_name-true, same_name-itself}
 use Rattle.omega_kinds.specs.Name.{Name, same_name}
 use Rattle.omega_types.specs.Ty.{Ty}
-use Rattle.omega_types.specs.Scope.{scope_of}
+use Rattle.omega_types.specs.Inner.Scope.{scope_of}
 use Rattle.sig_definitions.specs.Signatures.Sig.{Sig}
 use Rattle.sig_definitions.specs.Env.{Entry, Env, kinds}
 use Rattle.semantic_sigs.specs.declared.env.Entry.{Entry as CodeEntry}
 use Rattle.semantic_sigs.specs.declared.env.Entry.TheVariants as entry
 use Rattle.semantic_sigs.specs.declared.env.Slot.{Slot}
-use Rattle.semantic_sigs.specs.Entries.{entry_of, is_named, term_vars}
-use Rattle.semantic_sigs.specs.Slots.{with_slots, type_count, term_count, place_of, hidden_by, IsSlot, AreSlots, Keeps, IsKept}
+use Rattle.semantic_sigs.specs.Inner.Entries.{entry_of, is_named, term_vars}
+use Rattle.semantic_sigs.specs.Inner.Slots.{with_slots, type_count, term_count, place_of, hidden_by, IsSlot, AreSlots, Keeps, IsKept}
 use Rattle.semantic_sigs.proofs.SeenSteps.{found-if, past-if}
 
 -- the slots

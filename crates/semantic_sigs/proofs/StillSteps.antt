@@ -1,7 +1,7 @@
 -- New indexes that are all the same as the old ones.
 use Rattle.std.proofs.Common.{◌≡◌, ℕ, zero, suc, ◌+◌, ◌<◌, ◌≤◌, List, [], ◌∷◌, Option, get_or, length, refl, sym, ap, ◌∙◌, arith}
 use Rattle.std.proofs.Math.Decide.{dec_lt}
-use Rattle.type_normal.specs.Moved.{moved, or_stays, place_in}
+use Rattle.type_normal.specs.Inner.Moved.{moved, or_stays, place_in}
 use Rattle.type_normal.proofs.LiftedSteps.{place-past}
 
 place-get : (ps : List (Option ℕ)) (i : ℕ) (d : Option ℕ) → i < length ps → place_in ps i ≡ get_or ps i d

@@ -10,11 +10,11 @@ ghost use Rattle.omega_types.specs.Ty.{Var};
 ghost use Rattle.sig_definitions.specs.Signatures.Alike.{IsAbsAt, IsSigAt, NormalSig, NormalAbs};
 ghost use Rattle.sig_definitions.specs.Signatures.SigMentions.{MentionsSig};
 ghost use Rattle.sig_definitions.specs.Signatures.SigSubst.{rename_sig, rename_abs};
-ghost use Rattle.semantic_sigs.specs.Change.{change_of};
-ghost use Rattle.semantic_sigs.specs.Changes.{sig_in, abs_in, sig_row_in, sunk, sinks, ty_in, putting};
-ghost use Rattle.semantic_sigs.specs.Fields.{sig_row};
-ghost use Rattle.type_normal.specs.Moved.{moved};
-ghost use Rattle.semantic_sigs.specs.View.{kinds_of, body_of};
+ghost use Rattle.semantic_sigs.specs.Inner.Change.{change_of};
+ghost use Rattle.semantic_sigs.specs.Inner.Changes.{sig_in, abs_in, sig_row_in, sunk, sinks, ty_in, putting};
+ghost use Rattle.semantic_sigs.specs.Inner.Fields.{sig_row};
+ghost use Rattle.type_normal.specs.Inner.Moved.{moved};
+ghost use Rattle.semantic_sigs.specs.Inner.View.{kinds_of, body_of};
 
 use crate::heads::{Change, change_ty, sum};
 use crate::tree::{Abs, Sig, SigFields, SigNode};

@@ -1,12 +1,12 @@
 // The encoding of signatures as types of System Fω.
 ghost use Rattle.std.specs.Prelude.{◌≡◌, IfOk};
 ghost use Rattle.omega_kinds.specs.View.{kind_tree};
-ghost use Rattle.omega_types.specs.View.{ty_of};
-ghost use Rattle.semantic_sigs.specs.Quantified.{quantified, quantified_once};
+ghost use Rattle.omega_types.specs.Inner.View.{ty_of};
+ghost use Rattle.semantic_sigs.specs.Inner.Quantified.{quantified, quantified_once};
 ghost use Rattle.omega_types.specs.Fields.{row};
 ghost use Rattle.sig_definitions.specs.Signatures.Encoding.{enc, enc_abs, enc_row, one_part as one_part_of, shown_type as shown_type_of};
-ghost use Rattle.semantic_sigs.specs.Fields.{sig_row};
-ghost use Rattle.semantic_sigs.specs.View.{sig_of};
+ghost use Rattle.semantic_sigs.specs.Inner.Fields.{sig_row};
+ghost use Rattle.semantic_sigs.specs.Inner.View.{sig_of};
 
 use crate::part_terms::at_predicate;
 use crate::tree::{Abs, Sig, SigFields, SigNode};

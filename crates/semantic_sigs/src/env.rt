@@ -5,15 +5,15 @@ ghost use Rattle.std.specs.Cmp.Lexicographic.{pointwise};
 ghost use Rattle.omega_kinds.specs.View.{kind_tree};
 ghost use Rattle.omega_types.specs.EtaLong.{eta as eta_of};
 ghost use Rattle.omega_types.specs.Index.{bump, shift};
-ghost use Rattle.omega_types.specs.Scope.{scope_of};
+ghost use Rattle.omega_types.specs.Inner.Scope.{scope_of};
 ghost use Rattle.omega_types.specs.Ty.{Var};
 ghost use Rattle.omega_terms.specs.PartTerms.{type_term as type_term_of};
 ghost use Rattle.omega_terms.specs.Term.{Var as VarTerm};
 ghost use Rattle.sig_definitions.specs.Env.{Env as EnvTree, find as find_in, kinds as kinds_in, first_kind as first_kind_in};
 ghost use Rattle.sig_definitions.specs.Signatures.Sig.{Sig as SigTree, Typ};
 ghost use Rattle.sig_definitions.specs.Signatures.SigSubst.{rename_sig};
-ghost use Rattle.semantic_sigs.specs.Entries.{here_first, entry_of, seen, term_vars};
-ghost use Rattle.semantic_sigs.specs.Slots.{Keeps, hidden_by, with_slots};
+ghost use Rattle.semantic_sigs.specs.Inner.Entries.{here_first, entry_of, seen, term_vars};
+ghost use Rattle.semantic_sigs.specs.Inner.Slots.{Keeps, hidden_by, with_slots};
 
 use crate::changing::raise_sig;
 use crate::heads::sum;
@@ -65,8 +65,8 @@ pub struct Env {
 impl Model for Env {
     ghost use Rattle.std.specs.Prelude.{[]};
     ghost use Rattle.sig_definitions.specs.Env.{Env as EnvTree};
-    ghost use Rattle.semantic_sigs.specs.EnvCode.{env_code};
-    ghost use Rattle.semantic_sigs.specs.Slots.{IsKept, with_slots};
+    ghost use Rattle.semantic_sigs.specs.Inner.EnvCode.{env_code};
+    ghost use Rattle.semantic_sigs.specs.Inner.Slots.{IsKept, with_slots};
 
     ghost Value = { EnvTree };
 

@@ -5,7 +5,7 @@ ghost use Rattle.omega_kinds.specs.View.{kind_tree};
 ghost use Rattle.omega_kinds.specs.declared.effect.Effect.{Effect as EffectTree};
 ghost use Rattle.omega_types.specs.Ty.{Ty as TyTree};
 ghost use Rattle.sig_definitions.specs.Signatures.Sig.{Abs as AbsTree, Fun, Meta, Sig as SigTree, SigRow, Str, Typ, Val};
-ghost use Rattle.semantic_sigs.specs.Fields.{sig_row};
+ghost use Rattle.semantic_sigs.specs.Inner.Fields.{sig_row};
 
 use crate::tree::{Abs, Sig, SigFields, SigNode};
 use omega_kinds::{Effect, Kind, Kinds};

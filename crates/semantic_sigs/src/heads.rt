@@ -1,9 +1,9 @@
 // Changes of the variables in types: raised, lowered, moved, or normal types put in for them.
 ghost use Rattle.std.specs.Prelude.{◌≡◌, ◌↔◌, ◌+◌, ℕ, IfOk, IsTrue};
 ghost use Rattle.omega_types.specs.Ty.{Var};
-ghost use Rattle.semantic_sigs.specs.Change.{change_of};
-ghost use Rattle.semantic_sigs.specs.Changes.{stands, sunk, ty_in};
-ghost use Rattle.type_normal.specs.Moved.{moved, or_stays};
+ghost use Rattle.semantic_sigs.specs.Inner.Change.{change_of};
+ghost use Rattle.semantic_sigs.specs.Inner.Changes.{stands, sunk, ty_in};
+ghost use Rattle.type_normal.specs.Inner.Moved.{moved, or_stays};
 
 use omega_kinds::Mem;
 use std::alloc::Global;

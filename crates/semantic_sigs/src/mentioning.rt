@@ -1,7 +1,7 @@
 // Which free variables a signature mentions.
 ghost use Rattle.std.specs.Prelude.{◌≡◌, ◌↔◌, ◌+◌, ◌⊎◌, IsTrue};
 ghost use Rattle.sig_definitions.specs.Signatures.SigMentions.{MentionsSig, MentionsAbs, MentionsRow};
-ghost use Rattle.semantic_sigs.specs.Fields.{sig_row};
+ghost use Rattle.semantic_sigs.specs.Inner.Fields.{sig_row};
 
 use crate::tree::{Abs, Sig, SigFields, SigNode};
 use type_normal::mentions;

@@ -3,7 +3,7 @@ ghost use Rattle.std.specs.Prelude.{◌≡◌, [], MatchOption, map};
 ghost use Rattle.omega_kinds.specs.LabelOrder.{name_before};
 ghost use Rattle.sig_definitions.specs.Explicit.SigPath.{Part, PartAt};
 ghost use Rattle.sig_definitions.specs.Signatures.Sig.{HasField, NoField, Sig as SigTree, SigRow, Str};
-ghost use Rattle.semantic_sigs.specs.Fields.{sig_row};
+ghost use Rattle.semantic_sigs.specs.Inner.Fields.{sig_row};
 
 use crate::tree::{Sig, SigFields, SigNode};
 use omega_kinds::{Name, same_name};

@@ -1,7 +1,7 @@
 // Paths into signatures.
 ghost use Rattle.std.specs.Prelude.{◌≡◌, [], ◌∷◌, ◌++◌, IfOk, OnOk, OnErr, map, slice_get};
 ghost use Rattle.std.specs.Option.{option_copied, option_map};
-ghost use Rattle.semantic_sigs.specs.Items.{item_of};
+ghost use Rattle.semantic_sigs.specs.Inner.Items.{item_of};
 
 use omega_kinds::{Mem, Name};
 use std::alloc::Global;
@@ -39,7 +39,7 @@ pub struct Path {
 impl Model for Path {
     ghost use Rattle.std.specs.Prelude.{map};
     ghost use Rattle.sig_definitions.specs.Explicit.SigPath.{SigPath};
-    ghost use Rattle.semantic_sigs.specs.Items.{item_of, path_code};
+    ghost use Rattle.semantic_sigs.specs.Inner.Items.{item_of, path_code};
 
     ghost Value = { SigPath };
 

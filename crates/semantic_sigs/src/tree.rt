@@ -3,10 +3,10 @@ ghost use Rattle.std.specs.Prelude.{◌≡◌, ◌≤◌, ◌+◌, ◌++◌, ◌
 ghost use Rattle.std.specs.Option.{option_copied};
 ghost use Rattle.sig_definitions.specs.Signatures.Encoding.{enc};
 ghost use Rattle.sig_definitions.specs.Signatures.Sig.{Ex};
-ghost use Rattle.semantic_sigs.specs.Bound.{bound_sig, bound_abs, bound_sig_pairs};
-ghost use Rattle.semantic_sigs.specs.Fields.{Rises, MayFollow};
-ghost use Rattle.semantic_sigs.specs.Height.{sig_height, abs_height};
-ghost use Rattle.semantic_sigs.specs.View.{sig_of, kinds_of, body_of};
+ghost use Rattle.semantic_sigs.specs.Inner.Bound.{bound_sig, bound_abs, bound_sig_pairs};
+ghost use Rattle.semantic_sigs.specs.Inner.Fields.{Rises, MayFollow};
+ghost use Rattle.semantic_sigs.specs.Inner.Height.{sig_height, abs_height};
+ghost use Rattle.semantic_sigs.specs.Inner.View.{sig_of, kinds_of, body_of};
 
 use crate::encoding::encode_node;
 use omega_kinds::{Effect, Extent, Kind, Kinds, Mem, NOTHING, Name};
@@ -93,51 +93,51 @@ struct AbsNode {
 impl Model for Sig {
     ghost use Rattle.std.specs.Prelude.{◌≡◌, ◌≤◌};
     ghost use Rattle.sig_definitions.specs.Signatures.Sig.{Sig as SigTree};
-    ghost use Rattle.semantic_sigs.specs.Code.{sig_code};
+    ghost use Rattle.semantic_sigs.specs.Inner.Code.{sig_code};
 
     ghost Value = { SigTree };
 
     ghost coded = { sig_code };
 
-    ghost use Rattle.semantic_sigs.specs.Size.{sig_nodes};
+    ghost use Rattle.semantic_sigs.specs.Inner.Size.{sig_nodes};
 
     ghost size = { sig_nodes };
 
-    ghost use Rattle.semantic_sigs.specs.Bound.{bound_sig as bound_of_sig};
-    ghost use Rattle.semantic_sigs.specs.Height.{sig_height};
-    ghost use Rattle.semantic_sigs.specs.View.{sig_of};
+    ghost use Rattle.semantic_sigs.specs.Inner.Bound.{bound_sig as bound_of_sig};
+    ghost use Rattle.semantic_sigs.specs.Inner.Height.{sig_height};
+    ghost use Rattle.semantic_sigs.specs.Inner.View.{sig_of};
     ghost use Rattle.sig_definitions.specs.Signatures.Encoding.{enc as enc_of};
 
     ghost view = { λ s. sig_of s.made.value.node };
 
     ghost invariant = { λ s. (s.bound ≡ bound_of_sig (sig_of s.made.value.node)) × (sig_height (sig_of s.made.value.node) ≤ s.made.value.extent.height) × (s.made.value.extent.height ≤ 4096) × (s.made.value.encoding ≡ enc_of (sig_of s.made.value.node)) };
 
-    ghost use Rattle.semantic_sigs.specs.Falls.{made_falls};
+    ghost use Rattle.semantic_sigs.specs.Inner.Falls.{made_falls};
 
     ghost size_decreases = { λ s _. made_falls s.made.value };
 }
 
 impl Model for SigFields {
     ghost use Rattle.std.specs.Prelude.{◌≤◌};
-    ghost use Rattle.semantic_sigs.specs.Fields.{SigPairs};
-    ghost use Rattle.semantic_sigs.specs.Code.{sig_pairs_code};
+    ghost use Rattle.semantic_sigs.specs.Inner.Fields.{SigPairs};
+    ghost use Rattle.semantic_sigs.specs.Inner.Code.{sig_pairs_code};
 
     ghost Value = { SigPairs };
 
     ghost coded = { sig_pairs_code };
 
-    ghost use Rattle.semantic_sigs.specs.Size.{sig_pairs_nodes};
+    ghost use Rattle.semantic_sigs.specs.Inner.Size.{sig_pairs_nodes};
 
     ghost size = { sig_pairs_nodes };
 
-    ghost use Rattle.semantic_sigs.specs.Fields.{Rises};
-    ghost use Rattle.semantic_sigs.specs.Height.{sig_pairs_height};
+    ghost use Rattle.semantic_sigs.specs.Inner.Fields.{Rises};
+    ghost use Rattle.semantic_sigs.specs.Inner.Height.{sig_pairs_height};
 
     ghost view = { λ f. f.pairs.items };
 
     ghost invariant = { λ f. Rises f.pairs.items × (sig_pairs_height f.pairs.items ≤ f.extent.height) };
 
-    ghost use Rattle.semantic_sigs.specs.Falls.{pairs_fall};
+    ghost use Rattle.semantic_sigs.specs.Inner.Falls.{pairs_fall};
 
     ghost size_decreases = { λ f _. pairs_fall f.pairs.items };
 }
@@ -145,25 +145,25 @@ impl Model for SigFields {
 impl Model for Abs {
     ghost use Rattle.std.specs.Prelude.{◌≡◌, ◌≤◌};
     ghost use Rattle.sig_definitions.specs.Signatures.Sig.{Abs as AbsTree};
-    ghost use Rattle.semantic_sigs.specs.Code.{abs_code};
+    ghost use Rattle.semantic_sigs.specs.Inner.Code.{abs_code};
 
     ghost Value = { AbsTree };
 
     ghost coded = { abs_code };
 
-    ghost use Rattle.semantic_sigs.specs.Size.{abs_nodes};
+    ghost use Rattle.semantic_sigs.specs.Inner.Size.{abs_nodes};
 
     ghost size = { abs_nodes };
 
-    ghost use Rattle.semantic_sigs.specs.Bound.{bound_abs as bound_of_abs};
-    ghost use Rattle.semantic_sigs.specs.Height.{abs_height};
-    ghost use Rattle.semantic_sigs.specs.View.{abs_of};
+    ghost use Rattle.semantic_sigs.specs.Inner.Bound.{bound_abs as bound_of_abs};
+    ghost use Rattle.semantic_sigs.specs.Inner.Height.{abs_height};
+    ghost use Rattle.semantic_sigs.specs.Inner.View.{abs_of};
 
     ghost view = { λ x. abs_of x.node.value };
 
     ghost invariant = { λ x. (x.bound ≡ bound_of_abs (abs_of x.node.value)) × (abs_height (abs_of x.node.value) ≤ x.node.value.extent.height) × (x.node.value.extent.height ≤ 4096) };
 
-    ghost use Rattle.semantic_sigs.specs.Falls.{abs_falls};
+    ghost use Rattle.semantic_sigs.specs.Inner.Falls.{abs_falls};
 
     ghost size_decreases = { λ x _. abs_falls x.node.value };
 }

@@ -17,7 +17,7 @@ pub struct Witnesses {
 impl Model for Witnesses {
     ghost use Rattle.std.specs.Prelude.{List};
     ghost use Rattle.omega_types.specs.Ty.{Ty as TyTree};
-    ghost use Rattle.semantic_sigs.specs.Code.{tys_code};
+    ghost use Rattle.semantic_sigs.specs.Inner.Code.{tys_code};
 
     ghost Value = { List TyTree };
 

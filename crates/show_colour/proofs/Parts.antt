@@ -1,7 +1,7 @@
 -- Pages in colour grow piece by piece.
 use Rattle.std.proofs.Common.{◌≡◌, ℕ, List, [], ◌∷◌, ◌++◌, length, arith, refl, sym, subst, ◌∙◌}
 use Rattle.std.proofs.lemmas.List.{append_assoc, append-nil}
-use Rattle.show_colour.specs.Coloured.{IsColoured, sign}
+use Rattle.show_colour.specs.Inner.Coloured.{IsColoured, sign}
 use Rattle.show_colour.specs.declared.style.Style.{Style}
 use Rattle.show_colour.specs.declared.style.Style.TheVariants as style
 

@@ -1,1 +1,1 @@
-pub mod Coloured
+pub mod Inner

@@ -1,6 +1,6 @@
 // Pages in colour, written line by line.
 ghost use Rattle.std.specs.Prelude.{◌≡◌, ◌++◌, ◌≤◌, ◌<◌, [], ℕ, List, IfOk, length};
-ghost use Rattle.show_colour.specs.Coloured.{IsColoured};
+ghost use Rattle.show_colour.specs.Inner.Coloured.{IsColoured};
 
 use crate::lines::{Cut, cut_of};
 use crate::style::{Style, sign_of};

@@ -1,6 +1,6 @@
 // How a terminal shows a piece of a page.
 ghost use Rattle.std.specs.Prelude.{◌≡◌};
-ghost use Rattle.show_colour.specs.Coloured.{sign};
+ghost use Rattle.show_colour.specs.Inner.Coloured.{sign};
 
 /// How a terminal shows a piece of a page.
 #[derive(Clone, Copy, Debug, PartialEq, Eq)]

@@ -3,7 +3,7 @@ ghost use Rattle.std.specs.Prelude.{◌≡◌, [], IfOk, IfSome, Some};
 ghost use Rattle.omega_compact.specs.Spelling.{compacted};
 ghost use Rattle.omega_terms.specs.InScope.{TermInScope, TyInScope};
 ghost use Rattle.omega_terms.specs.OmegaText.{omega_text};
-ghost use Rattle.show_omega.specs.Text.{text_told};
+ghost use Rattle.show_omega.specs.Inner.Text.{text_told};
 
 use crate::lines::readable;
 use fing_text::{Failed, Sink};

@@ -8,10 +8,10 @@ use Rattle.omega_types.specs.Binders.{extend, puts, NormalForms}
 use Rattle.omega_terms.specs.Term.{Term, TermRow}
 use Rattle.omega_terms.specs.Instance.{TyInstance, Instance, Instances}
 use Rattle.sig_laws.specs.Good.{NormalTerm}
-use Rattle.semantic_sigs.specs.Changes.{Head, ty_in, putting}
+use Rattle.semantic_sigs.specs.Inner.Changes.{Head, ty_in, putting}
 use Rattle.semantic_sigs.proofs.HeadLaws.{Good, good-under, in-normal, good-puts, good-vars}
-use Rattle.omega_terms.specs.Walk.{walked}
-use Rattle.sig_instances.specs.TermChanges.{term_in, fields_in}
+use Rattle.omega_terms.specs.Inner.Walk.{walked}
+use Rattle.sig_instances.specs.Inner.TermChanges.{term_in, fields_in}
 use Rattle.sig_instances.proofs.InstanceSteps.{filling, staying, walk-fills}
 
 type-given : {from mid other : List Kind} {s v : ℕ → Ty} {h : ℕ → Head} {t n : Ty} {k : Kind} → Good from other s h → TyInstance from mid v t k n → TyInstance from other s t k (ty_in h t)

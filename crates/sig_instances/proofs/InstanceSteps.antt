@@ -2,12 +2,12 @@
 use Rattle.std.proofs.Common.{◌≡◌, ℕ, suc, ◌+◌, ◌≤◌, refl, sym, ap, ap₂, ◌∙◌, arith}
 use Rattle.omega_types.specs.Ty.{Ty}
 use Rattle.omega_terms.specs.Term.{Term, TermRow}
-use Rattle.omega_terms.specs.Bound.{type_bound, row_type_bound}
+use Rattle.omega_terms.specs.Inner.Bound.{type_bound, row_type_bound}
 use Rattle.omega_terms.proofs.Unchanged.{ap₃}
-use Rattle.omega_terms.specs.Walk.{walked, walked_row}
-use Rattle.semantic_sigs.specs.Changes.{Head, tree, ty_in, under_head, sunk}
+use Rattle.omega_terms.specs.Inner.Walk.{walked, walked_row}
+use Rattle.semantic_sigs.specs.Inner.Changes.{Head, tree, ty_in, under_head, sunk}
 use Rattle.type_normal.proofs.HeadSteps.{Keeps, sunk-below, under-keeps, head-unchanged}
-use Rattle.sig_instances.specs.TermChanges.{term_in, fields_in}
+use Rattle.sig_instances.specs.Inner.TermChanges.{term_in, fields_in}
 
 mutual
   unchanged : (n : ℕ) (h : ℕ → Head) (e : Term) → Keeps n h → type_bound e ≤ n → term_in h e ≡ e

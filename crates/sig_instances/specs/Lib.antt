@@ -1,1 +1,1 @@
-pub mod TermChanges
+pub mod Inner

@@ -3,11 +3,11 @@ ghost use Rattle.std.specs.Prelude.{◌≡◌, ◌↔◌, ◌≤◌, List, IfOk,
 ghost use Rattle.omega_kinds.specs.Kind.{Kind as KindTree};
 ghost use Rattle.omega_types.specs.Binders.{extend, puts, NormalForms};
 ghost use Rattle.omega_types.specs.Ty.{Var};
-ghost use Rattle.omega_terms.specs.Bound.{type_bound};
+ghost use Rattle.omega_terms.specs.Inner.Bound.{type_bound};
 ghost use Rattle.omega_terms.specs.Instance.{Instance};
 ghost use Rattle.omega_terms.specs.Term.{Var as TermVar};
 ghost use Rattle.sig_laws.specs.Good.{NormalTerm};
-ghost use Rattle.semantic_sigs.specs.Changes.{ty_in, sunk, putting};
+ghost use Rattle.semantic_sigs.specs.Inner.Changes.{ty_in, sunk, putting};
 
 use omega_kinds::Mem;
 use omega_terms::{Change, Inner, OUTSIDE, Term, TermNode, walk};

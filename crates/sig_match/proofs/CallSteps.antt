@@ -28,16 +28,16 @@ use Rattle.sig_match_laws.specs.MatchClaims.{IsRightSig}
 use Rattle.sig_match_laws.proofs.LookUp.Good.{good-left_field}
 use Rattle.sig_match_laws.proofs.OneMatch.Views.{match-view}
 use Rattle.sig_laws.proofs.Formed.WellFormedLaws.{explicit-body}
-use Rattle.semantic_sigs.specs.Fields.{SigPairs, sig_row}
-use Rattle.semantic_sigs.specs.View.{kinds_of, body_of}
+use Rattle.semantic_sigs.specs.Inner.Fields.{SigPairs, sig_row}
+use Rattle.semantic_sigs.specs.Inner.View.{kinds_of, body_of}
 use Rattle.sig_match.specs.declared.refusal.Matched.{Matched}
 use Rattle.sig_match.specs.declared.refusal.MatchRefusal.{MatchRefusal as CodeRefusal}
-use Rattle.sig_match.specs.Coerced.{IsAbsCoercion}
-use Rattle.sig_match.specs.Put.{AreNormal, filled, MayPut, EachPut, MayPutUnder, EachPutUnder}
-use Rattle.sig_match.specs.Refusals.{Gives, Holds, inside, plain_refusal}
-use Rattle.sig_roots.specs.Roots.{AreRoots}
-use Rattle.sig_match.specs.Looking.{Ends, Looks, LookSides, Refusing, lam_found, MayLook, EachLook, MayLookInto, EachLookInto, FirstFound, NextSides, MayLookNext, EachLookNext, EachLookAll, IfMatched, IsTarget}
-use Rattle.sig_match.specs.Outcomes.{MayMatch, EachMatch, SubGives, MaySub, EachSub, MaySubAbs, EachSubAbs, ResultGives, ResultHolds, MayResult, EachResult, EachField}
+use Rattle.sig_match.specs.Inner.Coerced.{IsAbsCoercion}
+use Rattle.sig_match.specs.Inner.Put.{AreNormal, filled, MayPut, EachPut, MayPutUnder, EachPutUnder}
+use Rattle.sig_match.specs.Inner.Refusals.{Gives, Holds, inside, plain_refusal}
+use Rattle.sig_roots.specs.Inner.Roots.{AreRoots}
+use Rattle.sig_match.specs.Inner.Looking.{Ends, Looks, LookSides, Refusing, lam_found, MayLook, EachLook, MayLookInto, EachLookInto, FirstFound, NextSides, MayLookNext, EachLookNext, EachLookAll, IfMatched, IsTarget}
+use Rattle.sig_match.specs.Inner.Outcomes.{MayMatch, EachMatch, SubGives, MaySub, EachSub, MaySubAbs, EachSubAbs, ResultGives, ResultHolds, MayResult, EachResult, EachField}
 use Rattle.sig_match.proofs.Given.{holds-given, holds-map, holds-within}
 use Rattle.sig_match.proofs.LookSteps.{end-looks, part-sides, part-looks, left-lacks, right-lacks, put-right, res-looks, other-arg, other-meta, no-left_functor, no-right_functor, not-pure, refused-looks, matched-looks, result-sides, nothing-put}
 use Rattle.sig_match.proofs.NextSteps.{next-sides, next-some, next-none, first-none, first-more, first-all}

@@ -9,9 +9,9 @@ use Rattle.sig_match_laws.proofs.LookUp.Refused.{match-excluded, abs-excluded}
 use Rattle.sig_match_laws.proofs.LookUp.OneRefusal.{match-one, abs-one}
 use Rattle.sig_match.specs.declared.refusal.Matched.{Matched}
 use Rattle.sig_match.specs.declared.refusal.MatchRefusal.{MatchRefusal as CodeRefusal}
-use Rattle.sig_match.specs.Refusals.{Holds, plain_refusal}
-use Rattle.sig_match.specs.Outcomes.{MatchGives, SubAbsGives}
-use Rattle.sig_match.specs.Exact.{NoMatch, OnlyMatch, NoSubAbs, OnlySubAbs}
+use Rattle.sig_match.specs.Inner.Refusals.{Holds, plain_refusal}
+use Rattle.sig_match.specs.Inner.Outcomes.{MatchGives, SubAbsGives}
+use Rattle.sig_match.specs.Inner.Exact.{NoMatch, OnlyMatch, NoSubAbs, OnlySubAbs}
 use Rattle.sig_laws.specs.Good.{OkSig, OkAbs, OkRight}
 
 no-match : (ctx : List Kind) (s : Sig) (x : Abs) (o : Option MatchRefusal) → OkSig ctx s → OkRight ctx x → Holds (RefusesMatch ctx s x) o → NoMatch ctx s x o

@@ -5,7 +5,7 @@ use Rattle.omega_types.specs.Ty.{Ty}
 use Rattle.omega_types.specs.Normality.{Normal, n_lam, n_int}
 use Rattle.omega_types.specs.Binders.{NormalForms}
 use Rattle.omega_types.proofs.BinderPuts.{its-form}
-use Rattle.sig_match.specs.Put.{any_type, filled, AreNormal}
+use Rattle.sig_match.specs.Inner.Put.{any_type, filled, AreNormal}
 
 any_type-normal : (ctx : List Kind) (k : Kind) → Normal ctx (any_type k) k
 any_type-normal ctx Kind.Star = n_int

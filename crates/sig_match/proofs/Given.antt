@@ -2,7 +2,7 @@
 use Rattle.std.proofs.Common.{◌≡◌, Option, Some, None, subst}
 use Rattle.sig_definitions.specs.Explicit.SigPath.{Item}
 use Rattle.sig_definitions.specs.Matching.MatchRefusal.{MatchRefusal, within}
-use Rattle.sig_match.specs.Refusals.{inside, Gives, Holds}
+use Rattle.sig_match.specs.Inner.Refusals.{inside, Gives, Holds}
 
 pub holds-given : (P : MatchRefusal → Type 0) (expected given : Option MatchRefusal) → Gives expected given → Holds P expected → Holds P given
 holds-given P expected None g h = tt

@@ -13,7 +13,7 @@ use Rattle.sig_definitions.specs.Signatures.SigSubst.{raise_abs, sig_at_under, a
 use Rattle.sig_definitions.specs.Signatures.Alike.{AlikeSig, AlikeAbs, AlikeRow, Between, NormalSig, NormalSigForm, NormalAbsForm, IsSigAt}
 use Rattle.sig_definitions.specs.Explicit.SigPath.{SigPath, Item}
 use Rattle.sig_definitions.specs.Explicit.WellFormed.{WellFormed}
-use Rattle.semantic_sigs.specs.View.{body_of}
+use Rattle.semantic_sigs.specs.Inner.View.{body_of}
 use Rattle.sig_definitions.specs.Matching.Subtyping.{Match}
 use Rattle.sig_definitions.specs.Matching.LookUp.{Found}
 use Rattle.sig_definitions.specs.Matching.MatchRefusal.{MatchRefusal, RefusesMatch}
@@ -28,8 +28,8 @@ use Rattle.sig_match_laws.proofs.OneMatch.Unique.{match-unique}
 use Rattle.sig_match_laws.proofs.LookUp.Good.{good-param, good-left_result, good-right_param, good-right_result, good-pure, good-body, good-left_field, good-right_field}
 use Rattle.sig_match_laws.proofs.LookUp.LookUpLaws.{found-view}
 use Rattle.sig_match_laws.proofs.LookUp.Refused.{match-excluded}
-use Rattle.sig_match.specs.Put.{AreNormal}
-use Rattle.sig_match.specs.Looking.{Ends, Looks, LookSides, lam_found}
+use Rattle.sig_match.specs.Inner.Put.{AreNormal}
+use Rattle.sig_match.specs.Inner.Looking.{Ends, Looks, LookSides, lam_found}
 use Rattle.std.proofs.Math.Path.{refl}
 use Rattle.sig_laws.specs.Good.{OkSig}
 

@@ -6,8 +6,8 @@ use Rattle.sig_laws.proofs.Encoded.EncodingLaws.{enc-injective, enc_abs-injectiv
 use Rattle.sig_match.specs.declared.made.Key.{Key}
 use Rattle.sig_match.specs.declared.made.Made.{Made}
 use Rattle.sig_match.specs.declared.refusal.Matched.{Matched}
-use Rattle.sig_match.specs.Made.{IsKey, HoldsFor, AllHold}
-use Rattle.sig_match.specs.Outcomes.{EachMatch}
+use Rattle.sig_match.specs.Inner.Made.{IsKey, HoldsFor, AllHold}
+use Rattle.sig_match.specs.Inner.Outcomes.{EachMatch}
 
 pub hold-none : (made : List Made) → made ≡ [] → AllHold made
 hold-none made e = subst AllHold (sym e) (λ k d lt. absurd (omega (arith, lt)))

@@ -17,9 +17,9 @@ use Rattle.sig_match_laws.proofs.LookUp.LookUpLaws.{found-agree}
 use Rattle.sig_match_laws.proofs.LookUp.FoundKinds.{found_at-normal}
 use Rattle.sig_match_laws.proofs.Function.LookSound.{at-form}
 use Rattle.sig_match_laws.proofs.OneMatch.Agree.{root-agreed}
-use Rattle.semantic_sigs.specs.View.{kinds_of, body_of}
-use Rattle.sig_match.specs.Put.{AreNormal, filled}
-use Rattle.sig_match.specs.Looking.{Looks, LookSides, FirstFound, NextSides}
+use Rattle.semantic_sigs.specs.Inner.View.{kinds_of, body_of}
+use Rattle.sig_match.specs.Inner.Put.{AreNormal, filled}
+use Rattle.sig_match.specs.Inner.Looking.{Looks, LookSides, FirstFound, NextSides}
 use Rattle.sig_match.proofs.Fill.{any-normal, after, filled-after, filled-all, split, filled-more}
 use Rattle.sig_laws.proofs.Algebra.Paths.{one_least}
 use Rattle.sig_laws.specs.Good.{OkSig, OkRight}

@@ -18,8 +18,8 @@ use Rattle.sig_laws.proofs.Algebra.AlikeLaws.{normal_abs-rename}
 use Rattle.sig_laws.proofs.Algebra.BinderLaws.{past-length, lam_over-append}
 use Rattle.sig_laws.proofs.Algebra.SigAlgebra.{substitute-rename_abs}
 use Rattle.sig_laws.proofs.Algebra.SizeLaws.{size-alike, size-substitute, size_abs-alike, size_abs-substitute}
-use Rattle.semantic_sigs.specs.View.{kinds_of, body_of}
-use Rattle.sig_match.specs.Put.{any_type, or_any, filled, AreNormal, MayPut, EachPut, MayPutUnder, EachPutUnder}
+use Rattle.semantic_sigs.specs.Inner.View.{kinds_of, body_of}
+use Rattle.sig_match.specs.Inner.Put.{any_type, or_any, filled, AreNormal, MayPut, EachPut, MayPutUnder, EachPutUnder}
 use Rattle.sig_match.proofs.LookSteps.{nothing-put}
 
 -- a type as an operator, from the last kind to the first

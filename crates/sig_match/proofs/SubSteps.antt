@@ -30,14 +30,14 @@ use Rattle.sig_laws.proofs.Formed.WellFormedLaws.{explicit-body}
 use Rattle.sig_laws.proofs.Encoded.EncodingLaws.{enc_abs-normal, enc_abs-rename}
 use Rattle.sig_laws.proofs.Algebra.SigAlgebra.{rename_abs-id}
 use Rattle.sig_laws.proofs.Formed.Conditions.{match-kinds}
-use Rattle.semantic_sigs.specs.Fields.{SigPairs, sig_row, Rises}
+use Rattle.semantic_sigs.specs.Inner.Fields.{SigPairs, sig_row, Rises}
 use Rattle.omega_types.specs.Fields.{MayFollow}
-use Rattle.semantic_sigs.specs.View.{kinds_of, body_of}
-use Rattle.sig_match.specs.Put.{AreNormal, MayPut, EachPut}
-use Rattle.sig_match.specs.Coerced.{IsAbsCoercion}
-use Rattle.omega_shorthands.specs.Packed.{Fills}
-use Rattle.sig_match.specs.Refusals.{Gives, Holds, inside}
-use Rattle.sig_match.specs.Outcomes.{ResultSides, ResultGives, ResultHolds}
+use Rattle.semantic_sigs.specs.Inner.View.{kinds_of, body_of}
+use Rattle.sig_match.specs.Inner.Put.{AreNormal, MayPut, EachPut}
+use Rattle.sig_match.specs.Inner.Coerced.{IsAbsCoercion}
+use Rattle.omega_shorthands.specs.Inner.Packed.{Fills}
+use Rattle.sig_match.specs.Inner.Refusals.{Gives, Holds, inside}
+use Rattle.sig_match.specs.Inner.Outcomes.{ResultSides, ResultGives, ResultHolds}
 use Rattle.sig_match.proofs.Given.{holds-given, holds-map, holds-within}
 use Rattle.sig_laws.specs.Good.{OkSig, OkAbs, OkRight}
 

@@ -1,7 +1,1 @@
-pub mod Refusals
-pub mod Put
-pub mod Coerced
-pub mod Looking
-pub mod Outcomes
-pub mod Exact
-pub mod Made
+pub mod Inner

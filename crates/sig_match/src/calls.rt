@@ -2,8 +2,8 @@
 ghost use Rattle.std.specs.Prelude.{◌≡◌, length};
 ghost use Rattle.sig_definitions.specs.Env.{kinds as kinds_in};
 ghost use Rattle.sig_laws.specs.Good.{OkSig, OkAbs, OkRight};
-ghost use Rattle.sig_match.specs.Exact.{OnlyMatch, OnlySubAbs};
-ghost use Rattle.sig_match.specs.Outcomes.{MatchGives, SubAbsGives};
+ghost use Rattle.sig_match.specs.Inner.Exact.{OnlyMatch, OnlySubAbs};
+ghost use Rattle.sig_match.specs.Inner.Outcomes.{MatchGives, SubAbsGives};
 
 use crate::matching::{match_in, sub_abs_in};
 use crate::refusal::{MatchRefusal, Matched};

@@ -2,7 +2,7 @@
 ghost use Rattle.std.specs.Prelude.{◌≡◌, IfOk};
 ghost use Rattle.omega_terms.specs.Coercions.{functor_part as functor_part_of};
 ghost use Rattle.sig_definitions.specs.Signatures.Encoding.{enc, enc_abs};
-ghost use Rattle.sig_match.specs.Coerced.{IsAbsCoercion};
+ghost use Rattle.sig_match.specs.Inner.Coerced.{IsAbsCoercion};
 
 use crate::refusal::Matched;
 use coercion_terms::{Functors, abs_part, functor_part, match_part};

@@ -1,8 +1,8 @@
 // Matches that were made, so that a look-up through a functor and the comparison of that functor make one match.
 ghost use Rattle.std.specs.Prelude.{◌≡◌, ◌↔◌, IfOk, IsTrue, MatchOption, Ok};
 ghost use Rattle.sig_definitions.specs.Signatures.Sig.{Abs as AbsTree, Sig as SigTree};
-ghost use Rattle.sig_match.specs.Made.{AllHold, IsKey};
-ghost use Rattle.sig_match.specs.Outcomes.{EachMatch};
+ghost use Rattle.sig_match.specs.Inner.Made.{AllHold, IsKey};
+ghost use Rattle.sig_match.specs.Inner.Outcomes.{EachMatch};
 
 use crate::refusal::Matched;
 use omega_kinds::Mem;

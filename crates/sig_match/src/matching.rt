@@ -8,11 +8,11 @@ ghost use Rattle.sig_definitions.specs.Explicit.SigPath.{Part};
 ghost use Rattle.sig_definitions.specs.Signatures.Encoding.{enc};
 ghost use Rattle.sig_definitions.specs.Signatures.Sig.{Ex, Fun, Meta, Str, Typ, Val};
 ghost use Rattle.sig_definitions.specs.Signatures.SigSubst.{raise_abs as raise_abs_of};
-ghost use Rattle.semantic_sigs.specs.Fields.{sig_row};
-ghost use Rattle.semantic_sigs.specs.Items.{item_of};
-ghost use Rattle.sig_match.specs.Looking.{EachLook, EachLookAll, EachLookInto, EachLookNext, Ends, IfMatched, IsTarget, MayLook, MayLookInto, MayLookNext};
-ghost use Rattle.sig_match.specs.Made.{AllHold};
-ghost use Rattle.sig_match.specs.Outcomes.{EachField, EachMatch, EachResult, EachSub, EachSubAbs, MayMatch, MayResult, MaySub, MaySubAbs, SubGives};
+ghost use Rattle.semantic_sigs.specs.Inner.Fields.{sig_row};
+ghost use Rattle.semantic_sigs.specs.Inner.Items.{item_of};
+ghost use Rattle.sig_match.specs.Inner.Looking.{EachLook, EachLookAll, EachLookInto, EachLookNext, Ends, IfMatched, IsTarget, MayLook, MayLookInto, MayLookNext};
+ghost use Rattle.sig_match.specs.Inner.Made.{AllHold};
+ghost use Rattle.sig_match.specs.Inner.Outcomes.{EachField, EachMatch, EachResult, EachSub, EachSubAbs, MayMatch, MayResult, MaySub, MaySubAbs, SubGives};
 
 use crate::coercing::{abs_coercion, functor_coercion};
 use crate::effects::{both_pure, impure_for_pure};

@@ -6,9 +6,9 @@ ghost use Rattle.omega_types.specs.Binders.{lam_over as lam_over_of};
 ghost use Rattle.sig_definitions.specs.Signatures.Sig.{Ex};
 ghost use Rattle.sig_definitions.specs.Signatures.SigSize.{size, size_abs};
 ghost use Rattle.sig_definitions.specs.Signatures.SigSubst.{raise_abs as raise_abs_of};
-ghost use Rattle.semantic_sigs.specs.View.{body_of, kinds_of};
-ghost use Rattle.sig_match.specs.Looking.{lam_found as lam_found_of};
-ghost use Rattle.sig_match.specs.Put.{EachPut, EachPutUnder, MayPut, MayPutUnder, any_type as any_type_of, filled as filled_of, or_any};
+ghost use Rattle.semantic_sigs.specs.Inner.View.{body_of, kinds_of};
+ghost use Rattle.sig_match.specs.Inner.Looking.{lam_found as lam_found_of};
+ghost use Rattle.sig_match.specs.Inner.Put.{EachPut, EachPutUnder, MayPut, MayPutUnder, any_type as any_type_of, filled as filled_of, or_any};
 
 use omega_kinds::{Kind, Kinds, Mem};
 use omega_types::{Ty, TyNode};

@@ -24,7 +24,7 @@ pub enum MatchRefusal {
 
 impl From<Mem> for MatchRefusal {
     ghost use Rattle.std.specs.Prelude.{◌≡◌};
-    ghost use Rattle.sig_match.specs.Refusals.{want_of_memory};
+    ghost use Rattle.sig_match.specs.Inner.Refusals.{want_of_memory};
 
     ghost from_gives = { λ _ e. e ≡ want_of_memory };
 

@@ -1,9 +1,9 @@
 // Refusals as they are made: at a place, and from inside a part.
 ghost use Rattle.std.specs.Prelude.{◌≡◌, ◌∷◌, ◌++◌, [], IfOk, OnOk, Some, map};
-ghost use Rattle.semantic_sigs.specs.Items.{item_of};
+ghost use Rattle.semantic_sigs.specs.Inner.Items.{item_of};
 ghost use Rattle.sig_definitions.specs.Explicit.SigPath.{Part};
 ghost use Rattle.sig_definitions.specs.Matching.MatchRefusal.{Clash as ClashOf, NoRoot as NoRootOf, Types as TypesOf};
-ghost use Rattle.sig_match.specs.Refusals.{Gives, inside, plain_refusal, plain_why};
+ghost use Rattle.sig_match.specs.Inner.Refusals.{Gives, inside, plain_refusal, plain_why};
 
 use crate::refusal::MatchRefusal;
 use omega_kinds::{Mem, Name};

@@ -12,11 +12,11 @@ use Rattle.sig_definitions.specs.Signatures.Sig.{Sig, Abs, SigRow}
 use Rattle.sig_definitions.specs.Signatures.SigMentions.{MentionsSig, MentionsAbs, MentionsRow}
 use Rattle.sig_laws.proofs.Algebra.BinderLaws.{past-length}
 use Rattle.sig_laws.specs.Decide.{in_var, in_arrow, in_fields, in_sum, in_all, in_ex, in_mu, in_lam, in_apply, in_row, NoneUpTo}
-use Rattle.semantic_sigs.specs.Bound.{bound_sig, bound_abs}
+use Rattle.semantic_sigs.specs.Inner.Bound.{bound_sig, bound_abs}
 use Rattle.semantic_sigs.proofs.MentionSteps.{sig_mention-below, abs_mention-below}
-use Rattle.type_normal.specs.Least.{outside, lesser, least_ty, least_row}
-use Rattle.sig_roots.specs.Least.{least_sig, least_abs, least_sig_row}
-use Rattle.sig_roots.specs.Seek.{is_open}
+use Rattle.type_normal.specs.Inner.Least.{outside, lesser, least_ty, least_row}
+use Rattle.sig_roots.specs.Inner.Least.{least_sig, least_abs, least_sig_row}
+use Rattle.sig_roots.specs.Inner.Seek.{is_open}
 
 -- the least number of a property, if there is one
 abbrev pub IsLeast : (ℕ → Type 0) → Option ℕ → Type 0

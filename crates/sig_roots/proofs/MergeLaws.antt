@@ -7,7 +7,7 @@ use Rattle.std.proofs.lemmas.Option.{slice_get_within, get_or_from_slice_get, sl
 use Rattle.std.proofs.Math.Path.{refl, sym, ap, ap₂, ◌∙◌}
 use Rattle.sig_definitions.specs.Explicit.SigPath.{SigPath, Item}
 use Rattle.sig_match_laws.specs.RootSearch.{after, or_else}
-use Rattle.sig_roots.specs.Seek.{is_open, unless_barred, ends, behind, merged}
+use Rattle.sig_roots.specs.Inner.Seek.{is_open, unless_barred, ends, behind, merged}
 
 abbrev pub Found : Type 0
 Found = List (Option SigPath)

@@ -19,8 +19,8 @@ use Rattle.omega_types.proofs.Inverse.{same-normal}
 use Rattle.omega_types.proofs.LawProofs.{normal_of_normal}
 use Rattle.omega_types.proofs.BinderLaws.{spread, spread-raised}
 use Rattle.sig_laws.proofs.Algebra.EtaLaws.{applied-kinded}
-use Rattle.sig_roots.specs.Rooted.{if_is, rooted, spine}
-use Rattle.type_normal.specs.Least.{outside}
+use Rattle.sig_roots.specs.Inner.Rooted.{if_is, rooted, spine}
+use Rattle.type_normal.specs.Inner.Least.{outside}
 
 pub outside-past : (count own : ℕ) → outside count (count + own) ≡ Some own
 outside-past count own = grind (arith, nat_tests)

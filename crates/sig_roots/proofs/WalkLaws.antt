@@ -12,13 +12,13 @@ use Rattle.sig_definitions.specs.Signatures.Sig.{Sig, Abs}
 use Rattle.sig_definitions.specs.Signatures.Alike.{NormalAbs}
 use Rattle.sig_definitions.specs.Explicit.SigPath.{SigPath, Item}
 use Rattle.sig_definitions.specs.Explicit.WellFormed.{WellFormedAbs}
-use Rattle.semantic_sigs.specs.Fields.{SigPairs, sig_row}
-use Rattle.semantic_sigs.specs.Items.{item_of}
+use Rattle.semantic_sigs.specs.Inner.Fields.{SigPairs, sig_row}
+use Rattle.semantic_sigs.specs.Inner.Items.{item_of}
 use Rattle.semantic_sigs.specs.declared.path.Item.{Item as CodeItem}
-use Rattle.semantic_sigs.specs.View.{kinds_of, body_of}
+use Rattle.semantic_sigs.specs.Inner.View.{kinds_of, body_of}
 use Rattle.sig_match_laws.specs.RootSearch.{after, or_else}
-use Rattle.sig_roots.specs.Roots.{IsRoot, AreRoots}
-use Rattle.sig_roots.specs.Seek.{is_open, unless_barred, ends, seek, seek_abs, seek_row, behind, merged}
+use Rattle.sig_roots.specs.Inner.Roots.{IsRoot, AreRoots}
+use Rattle.sig_roots.specs.Inner.Seek.{is_open, unless_barred, ends, seek, seek_abs, seek_row, behind, merged}
 use Rattle.sig_roots.proofs.MergeLaws.{Found, merged-same, merged-twice, length-merged, walk-after, walk-either, walk-none, start-get, reversed-get}
 use Rattle.sig_roots.proofs.SeekLaws.{seek-root}
 

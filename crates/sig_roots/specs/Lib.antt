@@ -1,4 +1,1 @@
-pub mod Rooted
-pub mod Least
-pub mod Seek
-pub mod Roots
+pub mod Inner

@@ -1,7 +1,7 @@
 // The least free index at or above a number.
 ghost use Rattle.std.specs.Prelude.{◌≡◌, ◌+◌};
-ghost use Rattle.semantic_sigs.specs.Fields.{sig_row};
-ghost use Rattle.sig_roots.specs.Least.{least_sig, least_abs, least_sig_row};
+ghost use Rattle.semantic_sigs.specs.Inner.Fields.{sig_row};
+ghost use Rattle.sig_roots.specs.Inner.Least.{least_sig, least_abs, least_sig_row};
 
 use semantic_sigs::{Abs, Sig, SigFields, SigNode};
 use type_normal::{least_free, lesser};

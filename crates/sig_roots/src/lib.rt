@@ -8,9 +8,9 @@ ghost use Rattle.std.specs.Prelude.{◌≡◌, IfOk, List, None, length, map, re
 ghost use Rattle.omega_kinds.specs.Kind.{Kind as KindTree};
 ghost use Rattle.sig_definitions.specs.Explicit.WellFormed.{WellFormedAbs};
 ghost use Rattle.sig_definitions.specs.Signatures.Alike.{NormalAbs};
-ghost use Rattle.semantic_sigs.specs.View.{kinds_of, body_of};
-ghost use Rattle.sig_roots.specs.Roots.{AreRoots};
-ghost use Rattle.sig_roots.specs.Seek.{merged, seek};
+ghost use Rattle.semantic_sigs.specs.Inner.View.{kinds_of, body_of};
+ghost use Rattle.sig_roots.specs.Inner.Roots.{AreRoots};
+ghost use Rattle.sig_roots.specs.Inner.Seek.{merged, seek};
 
 mod least;
 mod variables;

@@ -1,7 +1,7 @@
 // Types that are a variable, applied to exactly the variables of some binders.
 ghost use Rattle.std.specs.Prelude.{◌≡◌, ◌+◌, ◌<◌, ◌^◌, IfOk};
-ghost use Rattle.sig_roots.specs.Rooted.{rooted as rooted_of, spine as spine_of};
-ghost use Rattle.type_normal.specs.Least.{outside as outside_of};
+ghost use Rattle.sig_roots.specs.Inner.Rooted.{rooted as rooted_of, spine as spine_of};
+ghost use Rattle.type_normal.specs.Inner.Least.{outside as outside_of};
 
 use omega_kinds::Mem;
 use omega_types::{Ty, TyNode, next_level};

@@ -1,11 +1,11 @@
 // The walk over a signature that finds the root paths of its hidden types.
 ghost use Rattle.std.specs.Prelude.{◌≡◌, ◌↔◌, ◌+◌, [], IfOk, OnOk, IsTrue, Some, None, map, length, slice_get};
-ghost use Rattle.semantic_sigs.specs.Items.{item_of};
-ghost use Rattle.semantic_sigs.specs.Fields.{sig_row};
+ghost use Rattle.semantic_sigs.specs.Inner.Items.{item_of};
+ghost use Rattle.semantic_sigs.specs.Inner.Fields.{sig_row};
 ghost use Rattle.sig_definitions.specs.Explicit.SigPath.{Res};
 ghost use Rattle.sig_match_laws.specs.RootSearch.{after};
-ghost use Rattle.sig_roots.specs.Rooted.{rooted as rooted_of};
-ghost use Rattle.sig_roots.specs.Seek.{seek, seek_abs, seek_row, behind, merged, is_open as is_open_of, unless_barred, ends};
+ghost use Rattle.sig_roots.specs.Inner.Rooted.{rooted as rooted_of};
+ghost use Rattle.sig_roots.specs.Inner.Seek.{seek, seek_abs, seek_row, behind, merged, is_open as is_open_of, unless_barred, ends};
 
 use crate::least::least_in_sig;
 use crate::variables::rooted;

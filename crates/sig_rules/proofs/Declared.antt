@@ -4,12 +4,12 @@ use Rattle.std.proofs.lemmas.Result.{err_from_is_err_and}
 use Rattle.omega_kinds.specs.Kind.{Kind}
 use Rattle.omega_kinds.specs.Name.{Name}
 use Rattle.omega_kinds.specs.declared.effect.Effect.TheVariants.{Impure}
-use Rattle.semantic_sigs.specs.View.{body_of, kinds_of}
+use Rattle.semantic_sigs.specs.Inner.View.{body_of, kinds_of}
 use Rattle.sig_definitions.specs.Signatures.Sig.{Abs, Sig}
 use Rattle.sig_judgments.specs.SigRules.{GenerativeGives, ModuleGives, one_part}
 use Rattle.sig_judgments.specs.SigWhy.{SigWhy}
 use Rattle.sig_rules.specs.declared.refusal.SigRefusal.{SigRefusal}
-use Rattle.sig_rules.specs.Plain.{plain_why}
+use Rattle.sig_rules.specs.Inner.Plain.{plain_why}
 
 -- what holds of the value that a last call gives
 pub given-by : {T E : Type 0} (r : Result T E) (x : T) (Q : T → Type 0) → IfOk r (λ y. y ≡ x) → Q x → IfOk r Q

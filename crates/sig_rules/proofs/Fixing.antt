@@ -16,13 +16,13 @@ use Rattle.sig_definitions.specs.Signatures.Alike.{NormalAbs, NormalSig, NormalS
 use Rattle.sig_definitions.specs.Signatures.Sig.{Abs, Sig}
 use Rattle.sig_definitions.specs.Signatures.SigSubst.{substitute_sig}
 use Rattle.sig_laws.proofs.Algebra.BinderLaws.{extend-append, past-length}
-use Rattle.semantic_sigs.specs.View.{body_of, kinds_of, sig_of}
+use Rattle.semantic_sigs.specs.Inner.View.{body_of, kinds_of, sig_of}
 use Rattle.semantic_sigs.specs.declared.tree.SigNode.{SigNode}
 use Rattle.semantic_sigs.specs.declared.tree.SigNode.TheVariants as node
 use Rattle.sig_judgments.specs.Refinement.{Leads, LeavesAt, Refined, own_part}
 use Rattle.sig_judgments.specs.SigRules.{WhereRefuses}
 use Rattle.sig_judgments.specs.SigWhy.{KindDiffer, NoPart, NotAbstract}
-use Rattle.sig_rules.specs.Hidden.{Fixed, IsOwn, NotOwn, PutFirst, after, before, kind_at}
+use Rattle.sig_rules.specs.Inner.Hidden.{Fixed, IsOwn, NotOwn, PutFirst, after, before, kind_at}
 use Rattle.sig_rules.proofs.Putting.{put-under, raise-both}
 use Rattle.semantic_sigs.proofs.MentionSteps.{length-trees}
 

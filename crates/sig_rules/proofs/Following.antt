@@ -5,7 +5,7 @@ use Rattle.sig_definitions.specs.Explicit.SigPath.{PartAt}
 use Rattle.sig_definitions.specs.Signatures.Sig.{Sig, SigRow, NoField}
 use Rattle.sig_judgments.specs.Refinement.{Lacks, Leads, LeavesAt, here, there}
 use Rattle.semantic_sigs.proofs.PartSteps.{left-more}
-use Rattle.sig_rules.specs.Hidden.{IsAt}
+use Rattle.sig_rules.specs.Inner.Hidden.{IsAt}
 
 -- what is no structure with a name lacks it
 pub lacks : (s : Sig) (l : Name) → ((fs : SigRow) → s ≡ Sig.Str fs → NoField l fs) → Lacks s l

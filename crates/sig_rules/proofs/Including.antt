@@ -1,15 +1,15 @@
 -- A signature that is included is a structure, or is refused.
 use Rattle.std.proofs.Common.{◌≡◌, List, refl, sym, ap, ◌∙◌, subst, subst₂}
 use Rattle.omega_kinds.specs.Name.{Name}
-use Rattle.semantic_sigs.specs.Fields.{SigPairs, sig_row}
-use Rattle.semantic_sigs.specs.View.{body_of, sig_of}
+use Rattle.semantic_sigs.specs.Inner.Fields.{SigPairs, sig_row}
+use Rattle.semantic_sigs.specs.Inner.View.{body_of, sig_of}
 use Rattle.semantic_sigs.specs.declared.tree.SigNode.{SigNode}
 use Rattle.semantic_sigs.specs.declared.tree.SigNode.TheVariants as node
 use Rattle.sig_definitions.specs.Signatures.RecordOrder.{FirstOld}
 use Rattle.sig_definitions.specs.Signatures.Sig.{Abs, Sig, SigRow}
 use Rattle.sig_judgments.specs.SigRules.{DistinctRefuses, IncludeGives, IncludeRefuses}
 use Rattle.sig_judgments.specs.SigWhy.{Duplicate, NotStructure}
-use Rattle.sig_rules.specs.Plain.{fields_in}
+use Rattle.sig_rules.specs.Inner.Plain.{fields_in}
 
 -- a node of another form makes no structure
 no-structure : (n : SigNode) → ((f : SigPairs) → n ≡ node.Str f → ⊥) → (fs : SigRow) → sig_of n ≡ Sig.Str fs → ⊥

@@ -16,12 +16,12 @@ use Rattle.sig_definitions.specs.Signatures.Sig.{Abs, Sig, SigRow}
 use Rattle.sig_definitions.specs.Signatures.SigSubst.{raise_sig_row, rename_sig, rename_sig_row}
 use Rattle.sig_definitions.specs.Signatures.FieldOrder.{insert_field, merge}
 use Rattle.sig_definitions.specs.Explicit.WellFormed.{BeforeAll}
-use Rattle.semantic_sigs.specs.Fields.{MayFollow, Rises, SigPairs, sig_row}
-use Rattle.semantic_sigs.specs.View.{body_of, kinds_of}
+use Rattle.semantic_sigs.specs.Inner.Fields.{MayFollow, Rises, SigPairs, sig_row}
+use Rattle.semantic_sigs.specs.Inner.View.{body_of, kinds_of}
 use Rattle.semantic_sigs.proofs.PartSteps.{left-more}
 use Rattle.sig_judgments.specs.SigRules.{DeclarationsGive}
 use Rattle.sig_explicit_laws.proofs.Fields.{before_all-before}
-use Rattle.sig_rules.specs.Plain.{AreApart}
+use Rattle.sig_rules.specs.Inner.Plain.{AreApart}
 use Rattle.sig_rules.proofs.Putting.{past-bump}
 use Rattle.semantic_sigs.proofs.MentionSteps.{length-trees}
 

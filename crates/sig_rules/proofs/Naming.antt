@@ -1,7 +1,7 @@
 -- The names of fields, tried one after the other.
 use Rattle.std.proofs.Common.{◌≡◌, ℕ, ◌+◌, ◌<◌, List, length, get_or, drop, sym, subst}
 use Rattle.omega_kinds.specs.Name.{Name}
-use Rattle.semantic_sigs.specs.Fields.{SigPairs, sig_row}
+use Rattle.semantic_sigs.specs.Inner.Fields.{SigPairs, sig_row}
 use Rattle.semantic_sigs.proofs.PartSteps.{left-more}
 use Rattle.sig_definitions.specs.Signatures.RecordOrder.{AreNew, FirstOld, IsNew, here, there}
 use Rattle.sig_definitions.specs.Signatures.Sig.{Sig}

@@ -22,9 +22,9 @@ use Rattle.sig_definitions.specs.Signatures.SigSubst.{rename_sig, sig_at, substi
 use Rattle.sig_laws.proofs.Algebra.AlikeLaws.{conv-form_sig, conv_sig-substitute, form-conv_sig, normal_sig-form, normal_sig-rename}
 use Rattle.sig_laws.proofs.Algebra.BinderLaws.{past-length}
 use Rattle.sig_laws.proofs.Algebra.SigAlgebra.{substitute-rename_sig}
-use Rattle.semantic_sigs.specs.View.{body_of, kinds_of}
+use Rattle.semantic_sigs.specs.Inner.View.{body_of, kinds_of}
 use Rattle.semantic_sigs.proofs.PartSteps.{left-more}
-use Rattle.sig_rules.specs.Hidden.{PutFirst}
+use Rattle.sig_rules.specs.Inner.Hidden.{PutFirst}
 use Rattle.semantic_sigs.proofs.MentionSteps.{length-trees}
 
 -- an eta-long variable from elsewhere

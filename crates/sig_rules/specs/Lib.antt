@@ -1,2 +1,1 @@
-pub mod Hidden
-pub mod Plain
+pub mod Inner

@@ -5,7 +5,7 @@ ghost use Rattle.omega_kinds.specs.View.{kind_tree};
 ghost use Rattle.sig_definitions.specs.Signatures.Sig.{Ex};
 ghost use Rattle.sig_judgments.specs.SigRules.{ValueGives, ValueRefuses, TypeGives, AbstractGives, ModuleGives, SignatureGives, IncludeGives, IncludeRefuses, GenerativeGives, one_part as one_part_of};
 ghost use Rattle.sig_judgments.specs.SigWhy.{SigWhy as Why};
-ghost use Rattle.sig_rules.specs.Plain.{plain_why};
+ghost use Rattle.sig_rules.specs.Inner.Plain.{plain_why};
 
 use crate::hidden::innermost;
 use crate::refusal::SigRefusal;

@@ -10,11 +10,11 @@ ghost use Rattle.sig_definitions.specs.Explicit.SigPath.{Part};
 ghost use Rattle.sig_definitions.specs.Signatures.Alike.{NormalAbs};
 ghost use Rattle.sig_definitions.specs.Signatures.Sig.{Ex, Typ};
 ghost use Rattle.sig_definitions.specs.Signatures.SigSubst.{rename_sig};
-ghost use Rattle.semantic_sigs.specs.View.{kinds_of};
+ghost use Rattle.semantic_sigs.specs.Inner.View.{kinds_of};
 ghost use Rattle.sig_judgments.specs.Refinement.{Leads, LeavesAt, Refined};
 ghost use Rattle.sig_judgments.specs.SigRules.{WhereRefuses};
-ghost use Rattle.sig_rules.specs.Plain.{plain_why};
-ghost use Rattle.sig_rules.specs.Hidden.{Fixed, IsOwn, NotOwn, PutFirst};
+ghost use Rattle.sig_rules.specs.Inner.Plain.{plain_why};
+ghost use Rattle.sig_rules.specs.Inner.Hidden.{Fixed, IsOwn, NotOwn, PutFirst};
 
 use crate::hidden::{copied, joined, variable, with_own};
 use crate::refusal::SigRefusal;

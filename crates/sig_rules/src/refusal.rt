@@ -21,7 +21,7 @@ pub enum SigRefusal {
 
 impl From<Mem> for SigRefusal {
     ghost use Rattle.std.specs.Prelude.{◌≡◌};
-    ghost use Rattle.sig_rules.specs.Plain.{want_of_memory};
+    ghost use Rattle.sig_rules.specs.Inner.Plain.{want_of_memory};
 
     ghost from_gives = { λ _ e. e ≡ want_of_memory };
 

@@ -4,9 +4,9 @@ ghost use Rattle.omega_kinds.specs.Kind.{Kind as KindTree};
 ghost use Rattle.sig_definitions.specs.Signatures.FieldOrder.{merge as merge_of};
 ghost use Rattle.sig_definitions.specs.Signatures.RecordOrder.{AreNew};
 ghost use Rattle.sig_definitions.specs.Signatures.Sig.{SigRow, Str, Ex};
-ghost use Rattle.semantic_sigs.specs.Fields.{MayFollow, Rises, sig_row};
+ghost use Rattle.semantic_sigs.specs.Inner.Fields.{MayFollow, Rises, sig_row};
 ghost use Rattle.sig_judgments.specs.SigRules.{DeclarationsGive, DistinctRefuses};
-ghost use Rattle.sig_rules.specs.Plain.{AreApart, fields_in, plain_why};
+ghost use Rattle.sig_rules.specs.Inner.Plain.{AreApart, fields_in, plain_why};
 
 use crate::hidden::joined;
 use crate::name_set::NameSet;

@@ -2,18 +2,18 @@
 use Rattle.std.proofs.Common.{◌≡◌, ℕ, ◌+◌, ◌^◌, ◌<◌, ◌&&◌, Bool as Truth, true, IsTrue, length, refl, sym, ◌∙◌, arith}
 use Rattle.std.specs.Prelude.{Option, Some, None}
 use Rattle.std.proofs.lemmas.Bool.{and_from, and_parts}
-use Rattle.omega_scopes.specs.Scoped.{fits, ty_scoped}
+use Rattle.omega_scopes.specs.Inner.Scoped.{fits, ty_scoped}
 use Rattle.omega_scopes.proofs.ScopeTests.{below, two, under_true, ty-sound, ty-complete}
 use Rattle.sig_definitions.specs.Matching.MatchRefusal.{Why}
 use Rattle.sig_definitions.specs.Signatures.Sig.{Sig, Abs, SigRow}
-use Rattle.sig_text.specs.SigInScope.{SigInScope, AbsInScope, SigRowInScope}
+use Rattle.sig_text.specs.Inner.SigInScope.{SigInScope, AbsInScope, SigRowInScope}
 use Rattle.fing_syntax.specs.Phrase.{Span}
 use Rattle.refusal_reasons.specs.Refusal.{ElabWhy}
-use Rattle.fing_refusals.specs.InScope.{ClashInScope, ReasonInScope, HasLine}
-use Rattle.fing_refusals.specs.Plain.{refused}
-use Rattle.sig_scopes.specs.SigScoped.{sig_scoped, abs_scoped, sig_row_scoped}
-use Rattle.sig_scopes.specs.SigDepth.{sig_depth, abs_depth, sig_row_depth}
-use Rattle.sig_scopes.specs.ReasonScoped.{clash_scoped, reason_scoped, given_scoped, clash_depth, reason_depth, given_depth}
+use Rattle.fing_refusals.specs.Inner.InScope.{ClashInScope, ReasonInScope, HasLine}
+use Rattle.fing_refusals.specs.Inner.Plain.{refused}
+use Rattle.sig_scopes.specs.Inner.SigScoped.{sig_scoped, abs_scoped, sig_row_scoped}
+use Rattle.sig_scopes.specs.Inner.SigDepth.{sig_depth, abs_depth, sig_row_depth}
+use Rattle.sig_scopes.specs.Inner.ReasonScoped.{clash_scoped, reason_scoped, given_scoped, clash_depth, reason_depth, given_depth}
 
 -- signatures
 

@@ -1,3 +1,1 @@
-pub mod SigScoped
-pub mod SigDepth
-pub mod ReasonScoped
+pub mod Inner

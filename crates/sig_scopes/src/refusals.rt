@@ -1,9 +1,9 @@
 // Whether the types of refusals are in scope.
 ghost use Rattle.std.specs.Prelude.{◌≡◌, ◌+◌, ◌^◌, ◌<◌, ◌&&◌, IsTrue};
-ghost use Rattle.omega_scopes.specs.Scoped.{ty_scoped};
-ghost use Rattle.fing_refusals.specs.InScope.{HasLine};
-ghost use Rattle.fing_refusals.specs.Plain.{plain_clash, plain_reason, plain_refusal};
-ghost use Rattle.sig_scopes.specs.ReasonScoped.{clash_scoped, given_scoped, given_depth};
+ghost use Rattle.omega_scopes.specs.Inner.Scoped.{ty_scoped};
+ghost use Rattle.fing_refusals.specs.Inner.InScope.{HasLine};
+ghost use Rattle.fing_refusals.specs.Inner.Plain.{plain_clash, plain_reason, plain_refusal};
+ghost use Rattle.sig_scopes.specs.Inner.ReasonScoped.{clash_scoped, given_scoped, given_depth};
 
 use fing_refusals::{ElabWhy, Refusal};
 use omega_scopes::ty_in_scope;

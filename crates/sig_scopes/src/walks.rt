@@ -1,9 +1,9 @@
 // Walks over signatures that look at each type.
 ghost use Rattle.std.specs.Prelude.{◌≡◌, ◌+◌, ◌^◌, ◌<◌, ◌≤◌, MatchOption, IsTrue, length};
-ghost use Rattle.semantic_sigs.specs.Fields.{sig_row};
-ghost use Rattle.sig_text.specs.SigInScope.{AbsInScope};
-ghost use Rattle.sig_scopes.specs.SigDepth.{abs_depth};
-ghost use Rattle.sig_scopes.specs.SigScoped.{abs_scoped, sig_scoped, sig_row_scoped};
+ghost use Rattle.semantic_sigs.specs.Inner.Fields.{sig_row};
+ghost use Rattle.sig_text.specs.Inner.SigInScope.{AbsInScope};
+ghost use Rattle.sig_scopes.specs.Inner.SigDepth.{abs_depth};
+ghost use Rattle.sig_scopes.specs.Inner.SigScoped.{abs_scoped, sig_scoped, sig_row_scoped};
 
 use omega_kinds::Kinds;
 use omega_scopes::ty_in_scope;

@@ -1,6 +1,6 @@
 // Signatures, types and reasons of refusals as literals, and what is made of them.
 ghost use Rattle.std.specs.Prelude.{IsTrue};
-ghost use Rattle.semantic_sigs.specs.Fields.{MayFollow};
+ghost use Rattle.semantic_sigs.specs.Inner.Fields.{MayFollow};
 
 use fing_refusals::ElabWhy;
 use omega_kinds::{Effect, Kind, Kinds, Mem, Name, arrow, name_of};

@@ -8,12 +8,12 @@ use Rattle.omega_kinds.specs.View.{kind_tree}
 use Rattle.omega_kinds.specs.declared.kind.Kind.{Kind as SharedKind}
 use Rattle.omega_terms.specs.KindText.{kind_text}
 use Rattle.sig_definitions.specs.Signatures.Sig.{Sig}
-use Rattle.semantic_sigs.specs.Fields.{SigPairs, sig_row}
-use Rattle.semantic_sigs.specs.Size.{sig_nodes, abs_nodes, sig_row_nodes}
+use Rattle.semantic_sigs.specs.Inner.Fields.{SigPairs, sig_row}
+use Rattle.semantic_sigs.specs.Inner.Size.{sig_nodes, abs_nodes, sig_row_nodes}
 use Rattle.sig_text.specs.declared.trees.Piece.{Piece}
 use Rattle.sig_text.specs.declared.trees.Piece.TheVariants as piece
-use Rattle.sig_text.specs.Pieces.{field_text, piece_text, pieces_text, PieceInScope, PiecesInScope}
-use Rattle.sig_text.specs.SigInScope.{SigInScope, SigRowInScope}
+use Rattle.sig_text.specs.Inner.Pieces.{field_text, piece_text, pieces_text, PieceInScope, PiecesInScope}
+use Rattle.sig_text.specs.Inner.SigInScope.{SigInScope, SigRowInScope}
 use Rattle.sig_text.specs.SigText.{more_kinds_text, sig_row_text}
 
 abbrev pub spaced_text : SharedKind → List ℕ

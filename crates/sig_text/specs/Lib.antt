@@ -1,3 +1,2 @@
 pub mod SigText
-pub mod SigInScope
-pub mod Pieces
+pub mod Inner

@@ -1,9 +1,9 @@
 // Signatures, written as text.
 ghost use Rattle.std.specs.Prelude.{◌≡◌};
 ghost use Rattle.fing_text.specs.Writes.{Wrote};
-ghost use Rattle.semantic_sigs.specs.Fields.{sig_row};
-ghost use Rattle.sig_text.specs.Pieces.{field_text, one_text, piece_text, pieces_text, PieceInScope, PiecesInScope};
-ghost use Rattle.sig_text.specs.SigInScope.{AbsInScope, SigInScope, SigRowInScope};
+ghost use Rattle.semantic_sigs.specs.Inner.Fields.{sig_row};
+ghost use Rattle.sig_text.specs.Inner.Pieces.{field_text, one_text, piece_text, pieces_text, PieceInScope, PiecesInScope};
+ghost use Rattle.sig_text.specs.Inner.SigInScope.{AbsInScope, SigInScope, SigRowInScope};
 ghost use Rattle.sig_text.specs.SigText.{abs_text, effect_text, elab_text, functor_front, sig_row_text, sig_text};
 
 use crate::kinds::write_kinds;

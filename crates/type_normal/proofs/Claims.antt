@@ -14,7 +14,7 @@ use Rattle.omega_types.proofs.Hereditary.{hsubst-gives, normal-gives, same_exact
 use Rattle.omega_types.proofs.Lowering.{lower_gives}
 use Rattle.omega_types.proofs.Mention.{mentions_by_normal_form}
 use Rattle.omega_types.proofs.Preservation.{normal-kind, normal-rename}
-use Rattle.type_normal.specs.Least.{is_first, least_ty}
+use Rattle.type_normal.specs.Inner.Least.{is_first, least_ty}
 use Rattle.type_normal.proofs.LeastSteps.{first-mentioned}
 use Rattle.type_normal.proofs.MentionedBelow.{mentioned-sound, mentioned-complete}
 use Rattle.type_normal.proofs.LiftedSteps.{raised-back}

@@ -2,7 +2,7 @@
 use Rattle.std.proofs.Common.{◌≡◌, ℕ, zero, suc, ◌+◌, ◌-◌, ◌<◌, ◌≤◌, [], ◌∷◌, refl, sym, ap, ap₂, ◌∙◌, arith}
 use Rattle.omega_kinds.specs.Kind.{Kind}
 use Rattle.omega_types.specs.Ty.{Ty, Row}
-use Rattle.omega_types.specs.Bound.{bound_of, bound_row}
+use Rattle.omega_types.specs.Inner.Bound.{bound_of, bound_row}
 use Rattle.omega_types.specs.Fields.{Pairs, row}
 use Rattle.omega_types.specs.Index.{shift, taken, kept, raised, slot}
 use Rattle.omega_types.specs.Normaliser.{Args, stuck, whole, tree, apply_part, fill_part, put_in, put_in_row, args, hsubst}

@@ -22,8 +22,8 @@ use Rattle.omega_types.specs.Binders.{extend, lifts, unders, front, puts, Normal
 use Rattle.omega_types.proofs.Single.{substitute_at-zero}
 use Rattle.omega_types.proofs.Hereditary.{hsubst-gives}
 use Rattle.omega_types.proofs.Preservation.{maps-suc, normal-rename, neutral-rename, conv-rename, normal-kind, fresh-substitute}
-use Rattle.type_normal.specs.Heads.{Head, stands, came, tree, raised, apply_head, under_head, sunk, sinks, head_in, row_in, ty_in, front_head, put_heads, putting}
-use Rattle.type_normal.specs.Lifted.{lifted}
+use Rattle.type_normal.specs.Inner.Heads.{Head, stands, came, tree, raised, apply_head, under_head, sunk, sinks, head_in, row_in, ty_in, front_head, put_heads, putting}
+use Rattle.type_normal.specs.Inner.Lifted.{lifted}
 use Rattle.type_normal.proofs.HeadSteps.{sinks-sunk}
 
 -- renamings

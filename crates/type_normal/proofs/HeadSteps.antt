@@ -2,13 +2,13 @@
 use Rattle.std.proofs.Common.{◌≡◌, ℕ, zero, suc, ◌+◌, ◌-◌, ◌<◌, ◌≤◌, List, [], ◌∷◌, length, get_or, refl, sym, ap, ap₂, ◌∙◌, arith}
 use Rattle.omega_kinds.specs.Kind.{Kind}
 use Rattle.omega_types.specs.Ty.{Ty, Row}
-use Rattle.omega_types.specs.Bound.{bound_of, bound_row}
+use Rattle.omega_types.specs.Inner.Bound.{bound_of, bound_row}
 use Rattle.omega_types.specs.Fields.{Pairs, row}
 use Rattle.omega_types.specs.Index.{shift}
 use Rattle.omega_types.specs.Substitution.{rename}
 use Rattle.omega_types.proofs.Single.{shift-zero}
 use Rattle.omega_types.proofs.Steps.{deeper, map_parts, may_follow-at}
-use Rattle.type_normal.specs.Heads.{Head, stands, came, tree, raised, apply_head, under_head, sunk, sinks, head_in, row_in, ty_in, front_head, put_heads, putting}
+use Rattle.type_normal.specs.Inner.Heads.{Head, stands, came, tree, raised, apply_head, under_head, sunk, sinks, head_in, row_in, ty_in, front_head, put_heads, putting}
 
 -- an index that is bound inside stays
 

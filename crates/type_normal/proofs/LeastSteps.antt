@@ -2,8 +2,8 @@
 use Rattle.std.proofs.Common.{◌≡◌, ℕ, zero, suc, ◌+◌, ◌≤◌, ◌==◌, ◌||◌, min, true, Option, Some, None, refl, ap, ap₂, ◌∙◌, arith}
 use Rattle.std.proofs.lemmas.Bool.Decides.{nat_tests}
 use Rattle.omega_types.specs.Ty.{Ty, Row}
-use Rattle.omega_types.specs.Bound.{bound_of, bound_row}
-use Rattle.type_normal.specs.Least.{outside, lesser, is_first, least_ty, least_row}
+use Rattle.omega_types.specs.Inner.Bound.{bound_of, bound_row}
+use Rattle.type_normal.specs.Inner.Least.{outside, lesser, is_first, least_ty, least_row}
 use Rattle.type_normal.specs.Mentioned.{is_mentioned, is_mentioned_row}
 
 pub outside-below : (from i : ℕ) → i + 1 ≤ from → outside from i ≡ None

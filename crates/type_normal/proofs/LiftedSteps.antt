@@ -3,15 +3,15 @@ use Rattle.std.proofs.Common.{◌≡◌, ℕ, zero, suc, ◌+◌, ◌-◌, ◌<�
 use Rattle.std.proofs.Math.Decide.{dec_lt}
 use Rattle.omega_types.specs.Ty.{Ty}
 use Rattle.omega_types.specs.Substitution.{rename}
-use Rattle.omega_types.specs.Bound.{bound_of}
+use Rattle.omega_types.specs.Inner.Bound.{bound_of}
 use Rattle.omega_types.specs.Index.{bump, shift}
 use Rattle.omega_types.specs.Mentions.{Mentions, lower}
-use Rattle.omega_types.specs.Walk.{walked_ty}
+use Rattle.omega_types.specs.Inner.Walk.{walked_ty}
 use Rattle.omega_types.proofs.Algebra.{rename-rename, rename-id}
 use Rattle.omega_types.proofs.Mention.{rename-agree}
 use Rattle.omega_types.proofs.Steps.{walked-closed, walked-rename}
-use Rattle.type_normal.specs.Lifted.{lifted, lower_from, renumbered}
-use Rattle.type_normal.specs.Moved.{moved, or_stays, place_in}
+use Rattle.type_normal.specs.Inner.Lifted.{lifted, lower_from, renumbered}
+use Rattle.type_normal.specs.Inner.Moved.{moved, or_stays, place_in}
 
 -- what is bound inside stays, and each other index is renamed as it is outside
 

@@ -1,7 +1,2 @@
 pub mod Mentioned
-pub mod Least
-pub mod Moved
-pub mod Lifted
-pub mod Filled
-pub mod Heads
-pub mod Placed
+pub mod Inner

@@ -8,7 +8,7 @@ ghost use Rattle.omega_types.specs.Normality.{Normal};
 ghost use Rattle.omega_types.specs.Normaliser.{apply_part, args, fill_part, hsubst, put_in, put_in_row, stuck, tree};
 ghost use Rattle.omega_types.specs.Normalises.{NormalForm};
 ghost use Rattle.omega_types.specs.Substitution.{rename};
-ghost use Rattle.type_normal.specs.Filled.{part_of};
+ghost use Rattle.type_normal.specs.Inner.Filled.{part_of};
 
 use crate::normal_ty::{NormalTy, as_normal, plain};
 use omega_kinds::{Kind, Mem};

@@ -5,7 +5,7 @@ ghost use Rattle.omega_types.specs.Index.{shift};
 ghost use Rattle.omega_types.specs.Mentions.{Mentions, lower};
 ghost use Rattle.omega_types.specs.Normality.{Normal};
 ghost use Rattle.omega_types.specs.Ty.{Var};
-ghost use Rattle.type_normal.specs.Lifted.{lifted, lower_from};
+ghost use Rattle.type_normal.specs.Inner.Lifted.{lifted, lower_from};
 
 use crate::normal_ty::{NormalTy, as_normal, plain};
 use omega_kinds::Mem;

@@ -6,7 +6,7 @@ ghost use Rattle.omega_types.specs.Fields.{row};
 ghost use Rattle.omega_types.specs.Mentions.{Mentions};
 ghost use Rattle.omega_types.specs.Normality.{Normal};
 ghost use Rattle.omega_types.specs.Ty.{Ty as TyTree};
-ghost use Rattle.type_normal.specs.Least.{is_first, least_row, least_ty, lesser, outside};
+ghost use Rattle.type_normal.specs.Inner.Least.{is_first, least_row, least_ty, lesser, outside};
 
 use crate::normal_ty::{NormalTy, plain};
 use omega_types::{Ty, TyFields, TyNode};

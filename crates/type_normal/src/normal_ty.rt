@@ -21,7 +21,7 @@ pub struct NormalTy {
 
 impl Model for NormalTy {
     ghost use Rattle.omega_types.specs.Ty.{Ty as TyTree};
-    ghost use Rattle.omega_types.specs.Code.{ty_code};
+    ghost use Rattle.omega_types.specs.Inner.Code.{ty_code};
 
     ghost Value = { TyTree };
 

@@ -6,7 +6,7 @@ ghost use Rattle.omega_types.specs.Fields.{row};
 ghost use Rattle.omega_types.specs.Kinding.{HasKind};
 ghost use Rattle.omega_types.specs.Normaliser.{beta as beta_of, kind_at as kind_at_of, normal, normal_row};
 ghost use Rattle.omega_types.specs.Normalises.{NormalForm};
-ghost use Rattle.omega_types.specs.Scope.{scope_of};
+ghost use Rattle.omega_types.specs.Inner.Scope.{scope_of};
 
 use crate::filling::fill_whole;
 use crate::normal_ty::{NormalTy, as_normal};

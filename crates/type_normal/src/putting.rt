@@ -13,9 +13,9 @@ ghost use Rattle.omega_types.specs.Normalises.{NormalForm};
 ghost use Rattle.omega_types.specs.Normality.{Normal};
 ghost use Rattle.omega_types.specs.Substitution.{substitute};
 ghost use Rattle.omega_types.specs.Ty.{Ty as TyTree, Var};
-ghost use Rattle.omega_types.specs.View.{ty_of};
-ghost use Rattle.type_normal.specs.Heads.{apply_head, head_in, putting, row_in, stands, sunk, ty_in};
-ghost use Rattle.type_normal.specs.Placed.{head_of};
+ghost use Rattle.omega_types.specs.Inner.View.{ty_of};
+ghost use Rattle.type_normal.specs.Inner.Heads.{apply_head, head_in, putting, row_in, stands, sunk, ty_in};
+ghost use Rattle.type_normal.specs.Inner.Placed.{head_of};
 
 use crate::normal_ty::{NormalTy, as_normal, plain};
 use crate::normalising::beta;

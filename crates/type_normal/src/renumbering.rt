@@ -1,8 +1,8 @@
 // New indexes for the variables of normal types.
 ghost use Rattle.std.specs.Prelude.{◌≡◌, IfOk, IsTrue};
 ghost use Rattle.omega_types.specs.Ty.{Var};
-ghost use Rattle.type_normal.specs.Lifted.{lifted, renumbered};
-ghost use Rattle.type_normal.specs.Moved.{moved, place_in};
+ghost use Rattle.type_normal.specs.Inner.Lifted.{lifted, renumbered};
+ghost use Rattle.type_normal.specs.Inner.Moved.{moved, place_in};
 
 use crate::normal_ty::{NormalTy, as_normal, plain};
 use omega_kinds::Mem;

@@ -1,7 +1,7 @@
 -- What a substitution does at each form of a numbered type.
 use Rattle.std.proofs.Common.{◌≡◌, ℕ, zero, suc, ◌+◌, ◌-◌, ◌<◌, ◌≤◌, List, [], ◌∷◌, length, refl, sym, ap, ap₂, subst, ◌∙◌, arith}
 use Rattle.omega_kinds.specs.Kind.{Kind}
-use Rattle.omega_types.specs.Bound.{bound_of}
+use Rattle.omega_types.specs.Inner.Bound.{bound_of}
 use Rattle.omega_types.specs.Fields.{row}
 use Rattle.omega_types.specs.Index.{Slot, taken, kept, slot, shift}
 use Rattle.omega_types.specs.Normaliser.{Args, Part, stuck, whole, tree, apply_part, args, fill_part, hsubst, put_in, put_in_row}
@@ -9,7 +9,7 @@ use Rattle.omega_types.specs.Substitution.{rename}
 use Rattle.omega_types.specs.Ty.{Ty, Row}
 use Rattle.omega_types.proofs.Single.{shift-zero}
 use Rattle.type_normal.proofs.FillSteps.{apply-star, fill-same, fill-above, put_in-unchanged, put_in-under}
-use Rattle.type_store.specs.Memo.{filled, filled_row}
+use Rattle.type_store.specs.Inner.Memo.{filled, filled_row}
 use Rattle.type_store.specs.Shape.{Parts}
 use Rattle.type_store.specs.Trees.{at, row_at, Begins, Holds}
 use Rattle.type_store.proofs.MapSteps.{mapped_pairs}

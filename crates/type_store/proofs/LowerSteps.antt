@@ -8,11 +8,11 @@ use Rattle.omega_types.specs.Normaliser.{Args, stuck, tree, apply_part, args, fi
 use Rattle.omega_types.specs.Substitution.{rename, rename_row}
 use Rattle.omega_types.specs.Ty.{Ty, Row, lift}
 use Rattle.omega_types.proofs.Single.{shift-suc}
-use Rattle.type_normal.specs.Lifted.{lifted}
+use Rattle.type_normal.specs.Inner.Lifted.{lifted}
 use Rattle.type_normal.specs.Mentioned.{is_mentioned, is_mentioned_row}
 use Rattle.type_normal.proofs.LiftedSteps.{raised-back}
 use Rattle.type_normal.proofs.MentionedBelow.{mentioned-complete}
-use Rattle.type_store.specs.Memo.{filled}
+use Rattle.type_store.specs.Inner.Memo.{filled}
 use Rattle.type_store.specs.Numbers.{NumberOf, outside}
 use Rattle.type_store.specs.Trees.{at, Begins, Holds}
 use Rattle.type_store.proofs.TreeLaws.{begins-at, begins-then, holds-more}

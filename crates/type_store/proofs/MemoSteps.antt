@@ -6,7 +6,7 @@ use Rattle.omega_types.specs.Index.{shift}
 use Rattle.omega_types.specs.Ty.{Ty}
 use Rattle.type_store.specs.Trees.{at, Begins, Holds}
 use Rattle.type_store.proofs.TreeLaws.{begins-at, begins-length, holds-more}
-use Rattle.type_store.specs.Memo.{Key, key_eq, filled, IsShift, IsFilled, AreAll, AreShifts, AreFilled}
+use Rattle.type_store.specs.Inner.Memo.{Key, key_eq, filled, IsShift, IsFilled, AreAll, AreShifts, AreFilled}
 
 pub key-yes : (p q : Key) → key_eq p q ≡ true → p ≡ q
 key-yes p q e =

@@ -5,7 +5,7 @@ use Rattle.std.specs.Ordering.{is_eq}
 use Rattle.omega_kinds.specs.LabelOrder.{label_cmp}
 use Rattle.omega_kinds.specs.declared.label.Label.{Label}
 use Rattle.omega_types.specs.Fields.{MayFollow, Pairs, Rises, row, at_label}
-use Rattle.omega_types.specs.Size.{nodes, nodes_pairs}
+use Rattle.omega_types.specs.Inner.Size.{nodes, nodes_pairs}
 use Rattle.omega_types.specs.Ty.{Ty, Row}
 use Rattle.type_store.specs.Numbers.{NumberOf, part_at, field_type, variant_type}
 use Rattle.type_store.specs.Shape.{Parts, Shape}

@@ -4,7 +4,7 @@ use Rattle.std.proofs.lemmas.List.{take_more}
 use Rattle.omega_kinds.specs.Kind.{Kind}
 use Rattle.omega_kinds.specs.declared.label.Label.{Label}
 use Rattle.omega_types.specs.Fields.{Pairs, row, Rises, MayFollow}
-use Rattle.omega_types.specs.Size.{nodes, nodes_pairs}
+use Rattle.omega_types.specs.Inner.Size.{nodes, nodes_pairs}
 use Rattle.omega_types.specs.Ty.{Ty, Row}
 use Rattle.omega_kinds.specs.LabelOrder.{LabelBefore}
 use Rattle.omega_types.proofs.Rising.{rises-push}

@@ -13,9 +13,9 @@ use Rattle.indexmap.specs.IndexSet.{insert_key}
 use Rattle.omega_kinds.specs.declared.label.Label.{Label}
 use Rattle.omega_types.specs.Ty.{Ty, Row}
 use Rattle.type_store.specs.Shape.{Shape, Parts, shape_eq}
-use Rattle.type_store.specs.ShapeLaws.{shape_eq-yes, shape_eq-of}
+use Rattle.type_store.specs.Inner.ShapeLaws.{shape_eq-yes, shape_eq-of}
 use Rattle.type_store.specs.Trees.{at, row_at, tree_at, ArePartsBelow, IsBelow, with_shape, trees, AreDistinct, Begins, Holds, IsStore, AreBounds, Extends, bound_at, bound_parts}
-use Rattle.omega_types.specs.Bound.{bound_of, bound_row}
+use Rattle.omega_types.specs.Inner.Bound.{bound_of, bound_row}
 
 -- ---- more types at the end
 

@@ -1,6 +1,6 @@
 -- The types of a list of shapes, each of which numbers its parts among those before it.
 use Rattle.std.specs.Prelude.{◌-◌, ◌+◌, max, map, ◌≡◌, ℕ, ◌<◌, List, [], ◌∷◌, ◌++◌, Some, fold, length, get_or, slice_get}
-use Rattle.omega_types.specs.Bound.{bound_of}
+use Rattle.omega_types.specs.Inner.Bound.{bound_of}
 use Rattle.omega_types.specs.Fields.{Rises}
 use Rattle.omega_types.specs.Ty.{Ty, Row}
 use Rattle.type_store.specs.Shape.{Shape, Parts}

@@ -1,11 +1,11 @@
 // Hereditary substitution of numbered types.
 ghost use Rattle.std.specs.Prelude.{◌≡◌, ◌<◌, ◌≤◌, zero, IfOk, length};
 ghost use Rattle.omega_kinds.specs.View.{kind_tree};
-ghost use Rattle.omega_types.specs.Bound.{bound_of};
+ghost use Rattle.omega_types.specs.Inner.Bound.{bound_of};
 ghost use Rattle.omega_types.specs.Fields.{Rises};
 ghost use Rattle.omega_types.specs.Normaliser.{hsubst};
 ghost use Rattle.omega_types.specs.Ty.{Ty as TyTree};
-ghost use Rattle.type_store.specs.Memo.{filled, filled_row};
+ghost use Rattle.type_store.specs.Inner.Memo.{filled, filled_row};
 ghost use Rattle.type_store.specs.Trees.{ArePartsBelow, Begins, Holds, MakesParts, at, row_at};
 
 use crate::finding::copied;

@@ -2,10 +2,10 @@
 ghost use Rattle.std.specs.Prelude.{◌≡◌, ◌↔◌, IsTrue, fold};
 ghost use Rattle.omega_kinds.specs.Kind.{Kind as KindTree};
 ghost use Rattle.omega_kinds.specs.View.{kind_tree};
-ghost use Rattle.type_store.specs.Feed.{fed_kind, fed_label, fed_parts, fed_shape};
+ghost use Rattle.type_store.specs.Inner.Feed.{fed_kind, fed_label, fed_parts, fed_shape};
 ghost use Rattle.type_store.specs.Shape.{shape_eq};
-ghost use Rattle.type_store.specs.View.{shape_of};
-ghost use Rattle.type_store.specs.ShapeLaws.{shape_laws, shape_part_laws, shape_alike};
+ghost use Rattle.type_store.specs.Inner.View.{shape_of};
+ghost use Rattle.type_store.specs.Inner.ShapeLaws.{shape_laws, shape_part_laws, shape_alike};
 
 use omega_kinds::{Kind, Label, same_kind, same_label};
 use std::hash::{Hash, Hasher};
@@ -38,13 +38,13 @@ pub struct Node {
 
 impl Model for Node {
     ghost use Rattle.type_store.specs.Shape.{Shape};
-    ghost use Rattle.type_store.specs.Code.{shape_code};
+    ghost use Rattle.type_store.specs.Inner.Code.{shape_code};
 
     ghost Value = { Shape };
 
     ghost coded = { shape_code };
 
-    ghost use Rattle.type_store.specs.View.{shape_of};
+    ghost use Rattle.type_store.specs.Inner.View.{shape_of};
 
     ghost view = { λ n. shape_of n.form };
 }

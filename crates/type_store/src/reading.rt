@@ -1,7 +1,7 @@
 // The trees of numbered types.
 ghost use Rattle.std.specs.Prelude.{◌≡◌, ◌<◌, IfOk, length};
 ghost use Rattle.omega_types.specs.Fields.{Rises, row};
-ghost use Rattle.omega_types.specs.View.{ty_of};
+ghost use Rattle.omega_types.specs.Inner.View.{ty_of};
 ghost use Rattle.type_store.specs.Trees.{ArePartsBelow, at, row_at};
 
 use crate::node::Form;

@@ -1,11 +1,11 @@
 // The store.
 ghost use Rattle.std.specs.Prelude.{◌≡◌, ◌↔◌, ◌<◌, ℕ, [], IfOk, length};
 ghost use Rattle.omega_kinds.specs.View.{kind_tree};
-ghost use Rattle.omega_types.specs.Bound.{bound_of};
+ghost use Rattle.omega_types.specs.Inner.Bound.{bound_of};
 ghost use Rattle.omega_types.specs.Fields.{row};
 ghost use Rattle.omega_types.specs.Ty.{Ty as TyTree};
 ghost use Rattle.type_store.specs.Trees.{AreBounds, Extends, IsStore, trees, AreDistinct, ArePartsBelow, Begins, Holds, IsBelow, Makes, MakesParts, at, bound_at, bound_parts, tree_at};
-ghost use Rattle.type_store.specs.View.{shape_of};
+ghost use Rattle.type_store.specs.Inner.View.{shape_of};
 
 use crate::node::{Form, Node};
 use indexmap::IndexSet;
@@ -29,7 +29,7 @@ pub struct Store {
 impl Model for Store {
     ghost use Rattle.std.specs.Prelude.{List};
     ghost use Rattle.std.specs.Coded.{coded_list};
-    ghost use Rattle.omega_types.specs.Code.{ty_code};
+    ghost use Rattle.omega_types.specs.Inner.Code.{ty_code};
     ghost use Rattle.omega_types.specs.Ty.{Ty as TyTree};
 
     ghost Value = { List TyTree };

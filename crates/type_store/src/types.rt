@@ -1,11 +1,11 @@
 // Numbered types with what is remembered of them.
 ghost use Rattle.std.specs.Prelude.{◌≡◌, ◌↔◌, ◌<◌, [], IfOk, IfSome, IsTrue, length};
-ghost use Rattle.omega_types.specs.Bound.{bound_of};
+ghost use Rattle.omega_types.specs.Inner.Bound.{bound_of};
 ghost use Rattle.omega_types.specs.Index.{shift};
 ghost use Rattle.omega_types.specs.Ty.{Ty as TyTree};
-ghost use Rattle.type_store.specs.Memo.{filled};
+ghost use Rattle.type_store.specs.Inner.Memo.{filled};
 ghost use Rattle.type_store.specs.Trees.{AreDistinct, Begins, Holds, IsBelow, at, tree_at};
-ghost use Rattle.type_store.specs.View.{shape_of};
+ghost use Rattle.type_store.specs.Inner.View.{shape_of};
 
 use crate::node::{Form, Node};
 use crate::store::Store;
@@ -30,14 +30,14 @@ pub struct Types {
 impl Model for Types {
     ghost use Rattle.std.specs.Prelude.{List};
     ghost use Rattle.std.specs.Coded.{coded_list};
-    ghost use Rattle.omega_types.specs.Code.{ty_code};
+    ghost use Rattle.omega_types.specs.Inner.Code.{ty_code};
     ghost use Rattle.omega_types.specs.Ty.{Ty as TyTree};
 
     ghost Value = { List TyTree };
 
     ghost coded = { coded_list ty_code };
 
-    ghost use Rattle.type_store.specs.Memo.{AreFilled, AreShifts};
+    ghost use Rattle.type_store.specs.Inner.Memo.{AreFilled, AreShifts};
 
     ghost view = { λ t. t.store };
 

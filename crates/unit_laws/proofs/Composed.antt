@@ -17,7 +17,7 @@ use Rattle.unit_judgments.specs.Interfaces.{sig_in, hidden_in, with_interface}
 use Rattle.unit_judgments.specs.Link.{LinkGives}
 use Rattle.unit_judgments.proofs.OneLink.{end-ok, names-under}
 use Rattle.unit_judgments.proofs.Scopes.{interface-ok, kinds-interface}
-use Rattle.unit_laws.specs.Sealing.{Joined, Joins}
+use Rattle.unit_laws.specs.Inner.Sealing.{Joined, Joins}
 use Rattle.unit_laws.specs.Units.{sealed, sealing_name, unit_result, unit_sealing}
 use Rattle.unit_laws.proofs.Sealed.{unit-means, body_in, body-same}
 use Rattle.unit_laws.proofs.Whole.{first-field}

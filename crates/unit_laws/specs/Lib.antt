@@ -1,4 +1,4 @@
 pub mod Claims
 pub mod Derived
-pub mod Sealing
 pub mod Units
+pub mod Inner

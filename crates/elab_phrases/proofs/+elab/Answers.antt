@@ -27,17 +27,17 @@ use Rattle.elab_rules.proofs.Ruled.{is-structure}
 use Rattle.elab_phrases.proofs.SigLaws.{abstract-means, decl-body, decl-in, decls-mean, fields-env, left-decl, left-under, lifted-means, module-in, no-row, param-in, refused-row, row-means, row-size, sig-in}
 use Rattle.elab_rules.proofs.Slices.{empty}
 use Rattle.elab_phrases.proofs.UseSteps.{found-in, pack-means, pack-unmatched}
-use Rattle.elab_rules.specs.Answered.{RefusedAs}
-use Rattle.fing_syntax.specs.Leaves.{op_of, place, spelled}
+use Rattle.elab_rules.specs.Inner.Answered.{RefusedAs}
+use Rattle.fing_syntax.specs.Inner.Leaves.{op_of, place, spelled}
 use Rattle.fing_syntax.specs.Phrase.{BindAt, BindInclude, Exp, MoreBinds, Span}
 use Rattle.fing_syntax.specs.Place.{exp_span, mod_span, sig_span, ty_span, up_to}
-use Rattle.fing_syntax.specs.View.{args, binds, branches, field_exps, field_tys, ops, tys}
+use Rattle.fing_syntax.specs.Inner.View.{args, binds, branches, field_exps, field_tys, ops, tys}
 use Rattle.fing_syntax.specs.declared.leaf.Op.{Op as OpIn}
 use Rattle.omega_kinds.specs.View.{kind_tree}
 use Rattle.sig_premise_laws.proofs.Environments.{find-good}
-use Rattle.semantic_sigs.specs.Fields.{sig_row}
-use Rattle.semantic_sigs.specs.Made.{module_of}
-use Rattle.semantic_sigs.specs.View.{kinds_of}
+use Rattle.semantic_sigs.specs.Inner.Fields.{sig_row}
+use Rattle.semantic_sigs.specs.Inner.Made.{module_of}
+use Rattle.semantic_sigs.specs.Inner.View.{kinds_of}
 use Rattle.sig_definitions.specs.Env.{kinds, named_fields, type_vars}
 use Rattle.std.proofs.Common.{ap, arith, length, refl, rules, subst, sym, ◌+◌, ◌∙◌}
 use Rattle.std.proofs.lemmas.Int.{to_z-of_z}

@@ -18,7 +18,7 @@ use Rattle.elab_judgments.specs.Judgments.Meaning.{TyMeans, ExpMeans, FieldExpsM
 use Rattle.elab_judgments.specs.Refusals.Refusal.{of_core, of_mod}
 use Rattle.elab_judgments.specs.Refusals.Task.{a_type, an_exp, operands, args, fields, a_mod, a_sig}
 use Rattle.fing_refusals.specs.declared.refusal.Refusal.{Refusal as CodeRefusal}
-use Rattle.elab_rules.specs.Answered.{RefusedAs, ByRule, ByTest, ByMatch, NoValueType}
+use Rattle.elab_rules.specs.Inner.Answered.{RefusedAs, ByRule, ByTest, ByMatch, NoValueType}
 use Rattle.elab_rules.proofs.Standing.{within, fails, tested, valued, unmatched}
 
 -- a path

@@ -18,8 +18,8 @@ use Rattle.elab_judgments.specs.Judgments.Meaning.{ExpMeans, SigMeans, ModMeans,
 use Rattle.elab_judgments.specs.Refusals.Refusal.{of_mod, of_unpack}
 use Rattle.elab_judgments.specs.Refusals.Task.{a_type, an_exp, a_sig, a_mod, a_bind, binds}
 use Rattle.fing_refusals.specs.declared.refusal.Refusal.{Refusal as CodeRefusal}
-use Rattle.elab_rules.specs.Answered.{RefusedAs, ByRule, ByMatch}
-use Rattle.elab_rules.specs.Modules.{IsSingle}
+use Rattle.elab_rules.specs.Inner.Answered.{RefusedAs, ByRule, ByMatch}
+use Rattle.elab_rules.specs.Inner.Modules.{IsSingle}
 use Rattle.elab_rules.proofs.Standing.{within, fails, unmatched}
 
 -- a name, a structure, a projection

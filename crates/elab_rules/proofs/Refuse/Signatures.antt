@@ -15,7 +15,7 @@ use Rattle.elab_judgments.specs.Judgments.Meaning.{TyMeans, SigMeans, DeclMeans,
 use Rattle.elab_judgments.specs.Refusals.Refusal.{of_sig, of_mod}
 use Rattle.elab_judgments.specs.Refusals.Task.{a_type, a_sig, a_decl, decls, a_mod}
 use Rattle.fing_refusals.specs.declared.refusal.Refusal.{Refusal as CodeRefusal}
-use Rattle.elab_rules.specs.Answered.{RefusedAs, ByRule, ByWhere}
+use Rattle.elab_rules.specs.Inner.Answered.{RefusedAs, ByRule, ByWhere}
 use Rattle.elab_rules.proofs.Standing.{within, fails, refined}
 
 -- a path

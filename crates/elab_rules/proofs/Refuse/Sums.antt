@@ -17,7 +17,7 @@ use Rattle.elab_judgments.specs.Refusals.Rule.{Fails}
 use Rattle.elab_judgments.specs.Refusals.Steps.{steps}
 use Rattle.elab_judgments.specs.Refusals.Task.{an_exp, branches}
 use Rattle.fing_refusals.specs.declared.refusal.Refusal.{Refusal as CodeRefusal}
-use Rattle.elab_rules.specs.Answered.{RefusedAs, ByRule, ByTest, NoValueType, ByInjection, InjectionRefused, ByRoll, RollRefused}
+use Rattle.elab_rules.specs.Inner.Answered.{RefusedAs, ByRule, ByTest, NoValueType, ByInjection, InjectionRefused, ByRoll, RollRefused}
 use Rattle.elab_rules.proofs.Standing.{within, fails, tested, valued, injected, rolled}
 
 -- an injection

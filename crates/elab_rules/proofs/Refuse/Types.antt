@@ -17,7 +17,7 @@ use Rattle.elab_judgments.specs.Judgments.Meaning.{TyMeans, FieldTysMean, ModMea
 use Rattle.elab_judgments.specs.Refusals.Refusal.{of_core, of_data, of_mod}
 use Rattle.elab_judgments.specs.Refusals.Task.{a_type, type_args, type_fields, a_mod, a_sig}
 use Rattle.fing_refusals.specs.declared.refusal.Refusal.{Refusal as CodeRefusal}
-use Rattle.elab_rules.specs.Answered.{RefusedAs, ByRule, ByTest, NoValueType}
+use Rattle.elab_rules.specs.Inner.Answered.{RefusedAs, ByRule, ByTest, NoValueType}
 use Rattle.elab_rules.proofs.Standing.{within, fails, tested, valued}
 
 -- a path

@@ -1,5 +1,5 @@
 use Rattle.std.proofs.Common.{length, take, sym, subst}
-use Rattle.fing_show_c.specs.Returns.{ReturnsNumber}
+use Rattle.fing_show_c.specs.Inner.Returns.{ReturnsNumber}
 use Rattle.fing_show_c.proofs.fing_show_page.Goals as goal
 
 pub returns-clause-returns : goal.returns-clause-returns

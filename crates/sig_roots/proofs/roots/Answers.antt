@@ -2,10 +2,10 @@ use Rattle.std.proofs.Common.{List, [], length, map, reverse, Option, None, sym,
 use Rattle.std.proofs.lemmas.List.{length-reverse}
 use Rattle.omega_kinds.specs.Kind.{Kind}
 use Rattle.sig_definitions.specs.Explicit.SigPath.{SigPath}
-use Rattle.semantic_sigs.specs.Items.{item_of}
-use Rattle.semantic_sigs.specs.View.{kinds_of}
-use Rattle.sig_roots.specs.Roots.{AreRoots}
-use Rattle.sig_roots.specs.Seek.{unless_barred, seek, behind, merged}
+use Rattle.semantic_sigs.specs.Inner.Items.{item_of}
+use Rattle.semantic_sigs.specs.Inner.View.{kinds_of}
+use Rattle.sig_roots.specs.Inner.Roots.{AreRoots}
+use Rattle.sig_roots.specs.Inner.Seek.{unless_barred, seek, behind, merged}
 use Rattle.sig_roots.proofs.WalkLaws.{found-length, roots-found, roots-value}
 use Rattle.sig_roots.proofs.roots.Goals as goal
 

@@ -3,7 +3,7 @@ use Rattle.std.proofs.lemmas.Result.{IfOk-weaker}
 use Rattle.omega_types.specs.Index.{bump}
 use Rattle.sig_definitions.specs.Signatures.Sig.{Sig}
 use Rattle.sig_definitions.specs.Signatures.SigSubst.{rename_abs}
-use Rattle.applicative_functors.specs.LiftedVars.{lifted_vars, Put}
+use Rattle.applicative_functors.specs.Inner.LiftedVars.{lifted_vars, Put}
 use Rattle.applicative_functors.proofs.Lifted.{put-given}
 use Rattle.applicative_functors.proofs.lifting.lifted_result.Goals as goal
 

@@ -1,7 +1,7 @@
 use Rattle.std.proofs.Common.{◌≡◌, ◌++◌, map, drop, length, IfSome}
 use Rattle.omega_kinds.specs.View.{kind_tree}
-use Rattle.applicative_functors.specs.Lifted.{IsLifted}
-use Rattle.applicative_functors.specs.LiftedVars.{lifted_vars}
+use Rattle.applicative_functors.specs.Inner.Lifted.{IsLifted}
+use Rattle.applicative_functors.specs.Inner.LiftedVars.{lifted_vars}
 use Rattle.applicative_functors.proofs.parameters.lifted_vars.Given as goal
 
 abbrev pub invariant-loop-kind : goal.invariant-loop-kind

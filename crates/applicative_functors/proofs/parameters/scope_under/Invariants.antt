@@ -1,6 +1,6 @@
 use Rattle.std.proofs.Common.{◌≡◌, [], ◌∷◌, map, take}
 use Rattle.omega_kinds.specs.View.{kind_tree}
-use Rattle.omega_types.specs.Scope.{scope_of}
+use Rattle.omega_types.specs.Inner.Scope.{scope_of}
 use Rattle.omega_types.specs.Binders.{extend}
 use Rattle.applicative_functors.proofs.parameters.scope_under.Given as goal
 

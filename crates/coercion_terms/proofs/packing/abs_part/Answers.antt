@@ -1,7 +1,7 @@
 use Rattle.std.proofs.Common.{ap, ◌∙◌}
 use Rattle.std.proofs.lemmas.Result.{IfOk-weaker}
 use Rattle.omega_terms.specs.Term.{Term}
-use Rattle.omega_shorthands.specs.Packed.{opened}
+use Rattle.omega_shorthands.specs.Inner.Packed.{opened}
 use Rattle.coercion_terms.proofs.PackSteps.{abs-exact, abs-made, abs-typed}
 use Rattle.coercion_terms.proofs.packing.abs_part.Goals as goal
 

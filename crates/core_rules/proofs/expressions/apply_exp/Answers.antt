@@ -1,6 +1,6 @@
 use Rattle.std.proofs.Common.{◌≡◌, ◌≢◌, sym, ap, ◌∙◌}
 use Rattle.omega_types.specs.Ty.{Ty}
-use Rattle.omega_types.specs.View.{ty_of}
+use Rattle.omega_types.specs.Inner.View.{ty_of}
 use Rattle.core_judgments.specs.CoreWhy.{Differ}
 use Rattle.core_judgments.specs.ExpRules.{CallRefuses}
 use Rattle.core_rules.proofs.Conclusions.{exit, call-differs, call-given}

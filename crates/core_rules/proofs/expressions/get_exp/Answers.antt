@@ -3,7 +3,7 @@ use Rattle.omega_kinds.specs.Name.{Name}
 use Rattle.omega_kinds.specs.declared.label.Label.{Label}
 use Rattle.omega_types.specs.Fields.{row}
 use Rattle.omega_types.specs.Ty.{Ty, Row}
-use Rattle.omega_types.specs.View.{ty_of}
+use Rattle.omega_types.specs.Inner.View.{ty_of}
 use Rattle.omega_terms.specs.Term.{Term}
 use Rattle.omega_terms.specs.Typing.{HasPart}
 use Rattle.core_rules.proofs.Conclusions.{none-case, some-case, get-missing, get-given}

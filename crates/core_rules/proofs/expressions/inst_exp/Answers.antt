@@ -2,7 +2,7 @@ use Rattle.std.proofs.Common.{◌≡◌, sym, ap, ◌∙◌}
 use Rattle.std.proofs.lemmas.Bool.{false≢true}
 use Rattle.omega_kinds.specs.View.{kind_tree}
 use Rattle.omega_types.specs.Ty.{Ty}
-use Rattle.omega_types.specs.View.{ty_of}
+use Rattle.omega_types.specs.Inner.View.{ty_of}
 use Rattle.omega_terms.specs.Term.{Term}
 use Rattle.core_rules.proofs.Conclusions.{instance-kind, instance-given}
 use Rattle.core_rules.proofs.Forms.{not-all}

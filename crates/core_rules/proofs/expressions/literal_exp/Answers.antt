@@ -2,7 +2,7 @@ use Rattle.std.proofs.Common.{w64, FitsSigned, rules}
 use Rattle.std.proofs.lemmas.Int.{to_z-of_z}
 use Rattle.semantic_sigs.specs.declared.made.Typed.{Typed}
 use Rattle.core_judgments.specs.ExpRules.{LiteralGives}
-use Rattle.core_rules.specs.Plain.{plain_literal}
+use Rattle.core_rules.specs.Inner.Plain.{plain_literal}
 use Rattle.core_rules.proofs.Conclusions.{both-given}
 use Rattle.core_rules.proofs.expressions.literal_exp.Goals as goal
 

@@ -8,7 +8,7 @@ use Rattle.semantic_sigs.specs.declared.made.Typed.{Typed}
 use Rattle.semantic_sigs.proofs.PartSteps.{left-more}
 use Rattle.core_judgments.specs.CoreWhy.{DuplicateField}
 use Rattle.core_judgments.specs.ExpRules.{RecordGives, RecordRefuses}
-use Rattle.core_rules.specs.Records.{labelled, exp_fields}
+use Rattle.core_rules.specs.Inner.Records.{labelled, exp_fields}
 use Rattle.core_rules.proofs.Conclusions.{exit}
 use Rattle.core_rules.proofs.RecordSteps.{ExpsLeft, left-none, exps-begin, exps-next, exps-again, exps-end}
 use Rattle.core_rules.proofs.records.fields_exp.Goals as goal

@@ -8,7 +8,7 @@ use Rattle.semantic_sigs.specs.declared.made.Kinded.{Kinded}
 use Rattle.semantic_sigs.proofs.PartSteps.{left-more}
 use Rattle.core_judgments.specs.CoreWhy.{DuplicateField, KindDiffer}
 use Rattle.core_judgments.specs.TypeRules.{RecordTypeGives, RecordTypeRefuses}
-use Rattle.core_rules.specs.Records.{labelled, type_fields}
+use Rattle.core_rules.specs.Inner.Records.{labelled, type_fields}
 use Rattle.core_rules.proofs.Conclusions.{exit}
 use Rattle.core_rules.proofs.RecordSteps.{TypesLeft, left-none, types-begin, types-next, types-again, types-kind, types-end}
 use Rattle.core_rules.proofs.records.type_parts.Goals as goal

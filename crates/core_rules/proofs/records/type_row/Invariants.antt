@@ -1,5 +1,5 @@
 use Rattle.std.proofs.Common.{◌≡◌, ◌++◌}
-use Rattle.core_rules.specs.Records.{labelled}
+use Rattle.core_rules.specs.Inner.Records.{labelled}
 use Rattle.core_rules.proofs.records.type_row.Given as goal
 
 abbrev pub invariant-loop-name : goal.invariant-loop-name

@@ -8,7 +8,7 @@ use Rattle.semantic_sigs.specs.declared.made.Typed.{Typed}
 use Rattle.semantic_sigs.proofs.PartSteps.{left-more}
 use Rattle.core_judgments.specs.CoreWhy.{NoField, Differ, DuplicateField}
 use Rattle.core_judgments.specs.ExpRules.{BranchesGive, BranchesRefuse}
-use Rattle.core_rules.specs.Records.{exp_fields, HasBranches}
+use Rattle.core_rules.specs.Inner.Records.{exp_fields, HasBranches}
 use Rattle.core_rules.proofs.Cases.{BranchesLeft, branches-begin, branches-next, branches-again, branches-label, branches-type, branches-end}
 use Rattle.core_rules.proofs.Conclusions.{exit}
 use Rattle.core_rules.proofs.RecordSteps.{left-none}

@@ -5,12 +5,12 @@ use Rattle.omega_kinds.specs.View.{kind_tree}
 use Rattle.omega_kinds.specs.declared.label.Label.{Label}
 use Rattle.omega_types.specs.Fields.{row}
 use Rattle.omega_types.specs.Ty.{Ty, Row}
-use Rattle.omega_types.specs.View.{ty_of}
+use Rattle.omega_types.specs.Inner.View.{ty_of}
 use Rattle.omega_terms.specs.Fields.{term_row}
 use Rattle.omega_terms.specs.Term.{Term}
 use Rattle.core_judgments.specs.CoreWhy.{KindDiffer, NoBranch}
 use Rattle.core_judgments.specs.ExpRules.{FieldExp, BranchesRefuse, LeastWithout, CaseRefuses}
-use Rattle.core_rules.specs.Records.{exp_fields, HasBranches}
+use Rattle.core_rules.specs.Inner.Records.{exp_fields, HasBranches}
 use Rattle.core_rules.proofs.Conclusions.{exit, passed}
 use Rattle.core_rules.proofs.Forms.{no-sum}
 use Rattle.core_rules.proofs.SumRules.{case-no_sum, case-kind, case-branch, case-missing, case-given}

@@ -2,7 +2,7 @@ use Rattle.std.proofs.Common.{◌≡◌, sym, ap, ◌∙◌}
 use Rattle.omega_kinds.specs.declared.label.Label.{Label}
 use Rattle.omega_types.specs.Fields.{row}
 use Rattle.omega_types.specs.Ty.{Ty, Row}
-use Rattle.omega_types.specs.View.{ty_of}
+use Rattle.omega_types.specs.Inner.View.{ty_of}
 use Rattle.omega_terms.specs.Typing.{HasPart}
 use Rattle.core_judgments.specs.CoreWhy.{NoField}
 use Rattle.core_judgments.specs.ExpRules.{LabelGives, LabelRefuses}

@@ -1,7 +1,7 @@
 use Rattle.std.proofs.Common.{◌≡◌, sym, ap, ◌∙◌}
 use Rattle.omega_types.specs.Fields.{row}
 use Rattle.omega_types.specs.Ty.{Ty}
-use Rattle.omega_types.specs.View.{ty_of}
+use Rattle.omega_types.specs.Inner.View.{ty_of}
 use Rattle.core_rules.proofs.Forms.{no-sum}
 use Rattle.core_rules.proofs.SumRules.{sum-given, sum-refused}
 use Rattle.core_rules.proofs.sums.is_sum.Goals as goal

@@ -1,7 +1,7 @@
 use Rattle.omega_kinds.specs.View.{kind_tree}
 use Rattle.semantic_sigs.specs.declared.made.Kinded.{Kinded}
 use Rattle.core_judgments.specs.TypeRules.{BaseGives}
-use Rattle.core_rules.specs.Plain.{plain_base}
+use Rattle.core_rules.specs.Inner.Plain.{plain_base}
 use Rattle.core_rules.proofs.Conclusions.{both-given}
 use Rattle.core_rules.proofs.types.base_ty.Goals as goal
 

@@ -1,6 +1,6 @@
 use Rattle.std.proofs.Common.{◌≡◌, sym, ap, ◌∙◌}
 use Rattle.omega_types.specs.Ty.{Ty}
-use Rattle.omega_types.specs.View.{ty_of}
+use Rattle.omega_types.specs.Inner.View.{ty_of}
 use Rattle.core_judgments.specs.DataRules.DataWhy.{NotData}
 use Rattle.data_types.proofs.Conclusions.{no-mu, mu-unfolds}
 use Rattle.data_types.proofs.premises.unfold.Goals as goal

@@ -1,5 +1,5 @@
 use Rattle.std.proofs.Common.{rules}
-use Rattle.data_types.specs.Plain.{plain_why}
+use Rattle.data_types.specs.Inner.Plain.{plain_why}
 use Rattle.elab_judgments.specs.Refusals.Refusal.{of_data}
 use Rattle.elab_rules.proofs.Placing.{mapped}
 use Rattle.elab_rules.proofs.data_rules.mu_rule.Goals as goal

@@ -1,7 +1,7 @@
 use Rattle.std.proofs.Common.{IfSome}
 use Rattle.sig_definitions.specs.Env.{kinds}
-use Rattle.fing_syntax.specs.Leaves.{place}
-use Rattle.data_types.specs.Plain.{plain_why}
+use Rattle.fing_syntax.specs.Inner.Leaves.{place}
+use Rattle.data_types.specs.Inner.Plain.{plain_why}
 use Rattle.elab_rules.proofs.Injected.{by-roll}
 use Rattle.elab_rules.proofs.Placing.{if_some-map}
 use Rattle.elab_rules.proofs.data_rules.roll_rule.Goals as goal

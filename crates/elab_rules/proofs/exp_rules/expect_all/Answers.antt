@@ -1,6 +1,6 @@
 use Rattle.std.proofs.Common.{sym, ap, ◌∙◌}
 use Rattle.omega_kinds.specs.View.{kind_tree}
-use Rattle.omega_types.specs.View.{ty_of}
+use Rattle.omega_types.specs.Inner.View.{ty_of}
 use Rattle.elab_rules.proofs.exp_rules.expect_all.Goals as goal
 
 pub returns-in-All-clause-given : goal.returns-in-All-clause-given

@@ -1,5 +1,5 @@
 use Rattle.std.proofs.Common.{sym, ap, ◌∙◌}
-use Rattle.omega_types.specs.View.{ty_of}
+use Rattle.omega_types.specs.Inner.View.{ty_of}
 use Rattle.elab_rules.proofs.exp_rules.expect_arrow.Goals as goal
 
 pub returns-in-Arrow-clause-given : goal.returns-in-Arrow-clause-given

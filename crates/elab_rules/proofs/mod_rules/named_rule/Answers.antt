@@ -1,5 +1,5 @@
 use Rattle.std.proofs.Common.{rules}
-use Rattle.module_rules.specs.Plain.{plain_why}
+use Rattle.module_rules.specs.Inner.Plain.{plain_why}
 use Rattle.elab_judgments.specs.Refusals.Refusal.{of_mod}
 use Rattle.elab_rules.proofs.Placing.{kept, mapped}
 use Rattle.elab_rules.proofs.Ruled.{named-found}

@@ -1,5 +1,5 @@
 use Rattle.std.proofs.Common.{rules}
-use Rattle.packages.specs.Plain.{plain_why}
+use Rattle.packages.specs.Inner.Plain.{plain_why}
 use Rattle.elab_judgments.specs.Refusals.Refusal.{of_unpack}
 use Rattle.elab_rules.proofs.Placing.{mapped}
 use Rattle.elab_rules.proofs.package_rules.unpack_rule.Goals as goal

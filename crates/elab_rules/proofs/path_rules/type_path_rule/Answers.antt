@@ -1,6 +1,6 @@
 use Rattle.std.proofs.Common.{rules}
 use Rattle.sig_definitions.specs.Env.{kinds}
-use Rattle.module_rules.specs.Plain.{plain_why}
+use Rattle.module_rules.specs.Inner.Plain.{plain_why}
 use Rattle.elab_judgments.specs.Refusals.Refusal.{of_mod}
 use Rattle.elab_rules.proofs.Placing.{mapped-by}
 use Rattle.elab_rules.proofs.path_rules.type_path_rule.Goals as goal

@@ -1,4 +1,4 @@
-use Rattle.semantic_sigs.specs.Standing.{standing_module}
+use Rattle.semantic_sigs.specs.Inner.Standing.{standing_module}
 use Rattle.elab_judgments.specs.Judgments.Meaning.{ModMeans}
 use Rattle.elab_judgments.specs.Judgments.Meaning.ModMeans.{mod_project}
 use Rattle.elab_rules.proofs.Given.{exit, found-is}

@@ -1,5 +1,5 @@
 use Rattle.std.proofs.Common.{◌+◌, ◌*◌}
-use Rattle.fing_syntax.specs.Size.{mod_size}
+use Rattle.fing_syntax.specs.Inner.Size.{mod_size}
 use Rattle.elab_rules.proofs.paths.+standing.Given as goal
 
 abbrev pub decreases-standing : goal.decreases-standing

@@ -1,5 +1,5 @@
 use Rattle.std.proofs.Common.{map}
-use Rattle.fing_syntax.specs.Leaves.{place, spelled}
+use Rattle.fing_syntax.specs.Inner.Leaves.{place, spelled}
 use Rattle.sig_rules.proofs.Following.{lacks}
 use Rattle.elab_rules.proofs.LeftPaths.{left-here, left-last, left-next}
 use Rattle.elab_rules.proofs.places.+name_place.Goals as goal

@@ -1,6 +1,6 @@
 use Rattle.std.proofs.Common.{◌≡◌, drop}
 use Rattle.sig_definitions.specs.Env.{named_fields}
-use Rattle.semantic_sigs.specs.Fields.{sig_row}
+use Rattle.semantic_sigs.specs.Inner.Fields.{sig_row}
 use Rattle.elab_rules.proofs.scopes.push_fields.Given as goal
 
 abbrev pub invariant-loop-field : goal.invariant-loop-field

@@ -1,6 +1,6 @@
 use Rattle.std.proofs.Common.{◌≡◌, drop}
 use Rattle.sig_definitions.specs.Signatures.FieldOrder.{with_names}
-use Rattle.semantic_sigs.specs.Fields.{sig_row}
+use Rattle.semantic_sigs.specs.Inner.Fields.{sig_row}
 use Rattle.elab_rules.proofs.sets.with_names.Given as goal
 
 abbrev pub invariant-loop-field : goal.invariant-loop-field

@@ -1,5 +1,5 @@
 use Rattle.std.proofs.Common.{◌≡◌, ◌∷◌, ◌++◌, drop, map}
-use Rattle.fing_syntax.specs.Leaves.{spelled}
+use Rattle.fing_syntax.specs.Inner.Leaves.{spelled}
 use Rattle.elab_judgments.specs.Operators.{names_of}
 use Rattle.elab_rules.proofs.signature_rules.path_names.Given as goal
 

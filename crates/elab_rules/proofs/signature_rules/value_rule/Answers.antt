@@ -1,5 +1,5 @@
 use Rattle.std.proofs.Common.{rules}
-use Rattle.sig_rules.specs.Plain.{plain_why}
+use Rattle.sig_rules.specs.Inner.Plain.{plain_why}
 use Rattle.elab_judgments.specs.Refusals.Refusal.{of_sig}
 use Rattle.elab_rules.proofs.Placing.{mapped}
 use Rattle.elab_rules.proofs.signature_rules.value_rule.Goals as goal

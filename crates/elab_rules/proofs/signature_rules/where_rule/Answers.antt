@@ -1,8 +1,8 @@
 use Rattle.std.proofs.Common.{ap, map, ◌∙◌}
 use Rattle.omega_kinds.specs.View.{kind_tree}
-use Rattle.fing_syntax.specs.Leaves.{place, spelled}
+use Rattle.fing_syntax.specs.Inner.Leaves.{place, spelled}
 use Rattle.fing_syntax.specs.Place.{ty_span}
-use Rattle.sig_rules.specs.Plain.{plain_why}
+use Rattle.sig_rules.specs.Inner.Plain.{plain_why}
 use Rattle.elab_rules.proofs.LeftPaths.{by-where}
 use Rattle.elab_rules.proofs.signature_rules.where_rule.Goals as goal
 

@@ -1,5 +1,5 @@
-use Rattle.fing_syntax.specs.Leaves.{place, spelled}
-use Rattle.core_rules.specs.Plain.{plain_why}
+use Rattle.fing_syntax.specs.Inner.Leaves.{place, spelled}
+use Rattle.core_rules.specs.Inner.Plain.{plain_why}
 use Rattle.elab_rules.proofs.Injected.{by-injection}
 use Rattle.elab_rules.proofs.sum_rules.injection_rule.Goals as goal
 

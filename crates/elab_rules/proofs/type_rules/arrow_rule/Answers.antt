@@ -1,5 +1,5 @@
 use Rattle.std.proofs.Common.{rules}
-use Rattle.core_rules.specs.Plain.{plain_why}
+use Rattle.core_rules.specs.Inner.Plain.{plain_why}
 use Rattle.elab_judgments.specs.Refusals.Refusal.{of_core}
 use Rattle.elab_rules.proofs.Placing.{mapped}
 use Rattle.elab_rules.proofs.type_rules.arrow_rule.Goals as goal

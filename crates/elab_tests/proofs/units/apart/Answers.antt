@@ -1,6 +1,6 @@
 use Rattle.std.proofs.Common.{subst}
 use Rattle.sig_definitions.specs.Env.{Env}
-use Rattle.semantic_sigs.specs.Made.{module_of}
+use Rattle.semantic_sigs.specs.Inner.Made.{module_of}
 use Rattle.unit_laws.specs.Derived.{UnitMeans}
 use Rattle.unit_laws.specs.Units.{unit_mod}
 use Rattle.unit_judgments.specs.Interfaces.{env_of}

@@ -1,7 +1,7 @@
 use Rattle.std.proofs.Common.{List, ◌∷◌, [], subst, sym}
 use Rattle.sig_laws.specs.Good.{OkEnv, OkModule}
 use Rattle.sig_definitions.specs.Env.{kinds}
-use Rattle.semantic_sigs.specs.Made.{module_of}
+use Rattle.semantic_sigs.specs.Inner.Made.{module_of}
 use Rattle.unit_judgments.specs.Interfaces.{Interface, env_of}
 use Rattle.unit_judgments.proofs.Scopes.{more-ok}
 use Rattle.elab_tests.proofs.units.under_a.Goals as goal

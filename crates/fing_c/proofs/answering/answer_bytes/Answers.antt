@@ -1,5 +1,5 @@
 use Rattle.std.proofs.Common.{rules, length, sym, subst}
-use Rattle.fing_c.specs.Returns.{Replied}
+use Rattle.fing_c.specs.Inner.Returns.{Replied}
 use Rattle.fing_c.proofs.Returning.{same_room, replied}
 use Rattle.fing_c.proofs.answering.answer_bytes.Goals as goal
 

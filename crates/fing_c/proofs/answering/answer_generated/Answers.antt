@@ -2,7 +2,7 @@ use Rattle.std.proofs.Common.{◌≤◌, List, ℕ, length, take, sym, subst, �
 use Rattle.fing_gen.proofs.Length.{short_source}
 use Rattle.fing_top.specs.Answer.{limit}
 use Rattle.fing_words.specs.declared.command_line.CommandLine.TheVariants as command
-use Rattle.fing_c.specs.Returns.{Replied}
+use Rattle.fing_c.specs.Inner.Returns.{Replied}
 use Rattle.fing_c.proofs.answering.answer_generated.Goals as goal
 
 pub answer_bytes-requires : goal.answer_bytes-requires

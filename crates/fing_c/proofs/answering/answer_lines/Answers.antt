@@ -2,7 +2,7 @@ use Rattle.std.proofs.Common.{◌∙◌, map, length, take, refl, ap, subst}
 use Rattle.std.specs.String.{string_bytes}
 use Rattle.std.specs.Str.Lines.{lines}
 use Rattle.fing_top.specs.declared.status.Status.TheVariants as status
-use Rattle.fing_c.specs.Returns.{Returns, ReturnsNumber}
+use Rattle.fing_c.specs.Inner.Returns.{Returns, ReturnsNumber}
 use Rattle.fing_c.proofs.answering.answer_lines.Goals as goal
 
 pub returns-in_default-clause-returns : goal.returns-in_default-clause-returns

@@ -1,8 +1,8 @@
-use Rattle.semantic_sigs.specs.Made.{module_of}
+use Rattle.semantic_sigs.specs.Inner.Made.{module_of}
 use Rattle.sig_laws.proofs.Formed.WellFormedShape.{kinded}
 use Rattle.module_judgments.specs.ModRules.{ProjectRefuses}
 use Rattle.module_judgments.specs.Projection.{Projected}
-use Rattle.module_rules.specs.Plain.{plain_why}
+use Rattle.module_rules.specs.Inner.Plain.{plain_why}
 use Rattle.elab_rules.proofs.Given.{err-map, ok-at}
 use Rattle.elab_rules.proofs.Placing.{if_some-map}
 use Rattle.fing_elab.proofs.Separate.{both-joined}

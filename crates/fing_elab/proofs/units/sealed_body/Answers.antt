@@ -1,7 +1,7 @@
 use Rattle.std.proofs.Common.{◌∙◌}
-use Rattle.semantic_sigs.specs.Made.{module_of}
+use Rattle.semantic_sigs.specs.Inner.Made.{module_of}
 use Rattle.elab_rules.proofs.Given.{exit}
-use Rattle.fing_syntax.specs.Leaves.{place}
+use Rattle.fing_syntax.specs.Inner.Leaves.{place}
 use Rattle.fing_elab.proofs.Separate.{after-body, after-both, good-body, good-names, in-body, in-sealing, part-found, part-is, parts-of}
 use Rattle.fing_elab.proofs.units.sealed_body.Goals as goal
 

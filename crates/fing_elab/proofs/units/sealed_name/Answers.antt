@@ -1,4 +1,4 @@
-use Rattle.fing_syntax.specs.Leaves.{place}
+use Rattle.fing_syntax.specs.Inner.Leaves.{place}
 use Rattle.elab_rules.proofs.Given.{err-map, ok-map}
 use Rattle.fing_elab.proofs.units.sealed_name.Goals as goal
 

@@ -1,7 +1,7 @@
 use Rattle.std.proofs.Common.{subst}
-use Rattle.semantic_sigs.specs.Made.{module_of}
+use Rattle.semantic_sigs.specs.Inner.Made.{module_of}
 use Rattle.elab_judgments.specs.Refusals.Task.{a_mod}
-use Rattle.elab_rules.specs.Answered.{RefusedAs}
+use Rattle.elab_rules.specs.Inner.Answered.{RefusedAs}
 use Rattle.elab_rules.proofs.Given.{err-map, ok-map}
 use Rattle.unit_laws.specs.Derived.{UnitMeans}
 use Rattle.unit_laws.specs.Units.{unit_mod}

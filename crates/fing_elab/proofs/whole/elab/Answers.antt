@@ -1,12 +1,12 @@
 use Rattle.std.proofs.Common.{ap, ◌∙◌}
-use Rattle.semantic_sigs.specs.Made.{module_of}
-use Rattle.fing_syntax.specs.View.{binds as binds_of}
+use Rattle.semantic_sigs.specs.Inner.Made.{module_of}
+use Rattle.fing_syntax.specs.Inner.View.{binds as binds_of}
 use Rattle.elab_judgments.specs.Judgments.Meaning.{BindsMean}
 use Rattle.elab_judgments.specs.Refusals.Task.{binds}
-use Rattle.fing_refusals.specs.Plain.{Says}
-use Rattle.elab_rules.specs.Answered.{RefusedAs}
+use Rattle.fing_refusals.specs.Inner.Plain.{Says}
+use Rattle.elab_rules.specs.Inner.Answered.{RefusedAs}
 use Rattle.elab_rules.proofs.Given.{exit}
-use Rattle.fing_elab.specs.Exactly.{IsRefused}
+use Rattle.fing_elab.specs.Inner.Exactly.{IsRefused}
 use Rattle.fing_elab.proofs.Programs.{entered, good, legible, meaning, typed, refused}
 use Rattle.fing_elab.proofs.whole.elab.Goals as goal
 

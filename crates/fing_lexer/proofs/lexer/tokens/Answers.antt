@@ -2,7 +2,7 @@ use Rattle.std.proofs.Common.{◌≡◌, ◌+◌, ◌<◌, ◌≤◌, sym, ◌�
 use Rattle.fing_lexer.specs.declared.scan.Front.TheVariants as is
 use Rattle.fing_lexer.specs.Nest.{counted, opened, total}
 use Rattle.fing_lexer.specs.Tokens.{token_at}
-use Rattle.fing_lexer.specs.Lexing.{StandsAs}
+use Rattle.fing_lexer.specs.Inner.Lexing.{StandsAs}
 use Rattle.fing_lexer.proofs.Found.{from_place}
 use Rattle.fing_lexer.proofs.Going.{GoesOn, positive, shallow, on_found, on_deep, on_skip, on_no_byte, on_no_text, on_wide, at_end, skip_within, found_within}
 use Rattle.fing_lexer.proofs.lexer.tokens.Goals as goal

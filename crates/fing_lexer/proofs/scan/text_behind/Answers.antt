@@ -1,6 +1,6 @@
 use Rattle.std.proofs.Common.{◌+◌, sym, ◌∙◌, ap, subst, drop, length-drop, ne_eqb, arith}
 use Rattle.std.specs.Prelude.{Some, nat_eq}
-use Rattle.fing_lexer.specs.Lexing.{EndsText, spelled}
+use Rattle.fing_lexer.specs.Inner.Lexing.{EndsText, spelled}
 use Rattle.fing_lexer.proofs.Found.{from_place, further}
 use Rattle.fing_lexer.proofs.Texts.{Reads, on_quote, on_spelled, on_bad, at_end, first_at}
 use Rattle.fing_lexer.proofs.scan.text_behind.Goals as goal

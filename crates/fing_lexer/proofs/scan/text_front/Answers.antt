@@ -1,6 +1,6 @@
 use Rattle.std.proofs.Common.{subst, take, drop, length, ◌-◌, refl}
 use Rattle.std.specs.Prelude.{None, Some}
-use Rattle.fing_lexer.specs.Lexing.{EndsText}
+use Rattle.fing_lexer.specs.Inner.Lexing.{EndsText}
 use Rattle.fing_lexer.proofs.Found.{behind_first}
 use Rattle.fing_lexer.proofs.Texts.{text_stands, no_text_stands}
 use Rattle.fing_lexer.proofs.scan.text_front.Goals as goal

@@ -1,7 +1,7 @@
 use Rattle.std.proofs.Common.{◌≡◌, [], length}
-use Rattle.parse_grammar.specs.Steps.{moves}
-use Rattle.parse_stack.specs.Part.{held}
-use Rattle.parse_stack.specs.Play.{play_all}
+use Rattle.parse_grammar.specs.Inner.Steps.{moves}
+use Rattle.parse_stack.specs.Inner.Part.{held}
+use Rattle.parse_stack.specs.Inner.Play.{play_all}
 use Rattle.fing_parser.proofs.build.play_steps.Given as goal
 
 abbrev pub invariant-play : goal.invariant-play

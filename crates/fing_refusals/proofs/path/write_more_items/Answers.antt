@@ -1,7 +1,7 @@
 use Rattle.std.proofs.Common.{ℕ, List, subst, map}
 use Rattle.fing_text.specs.Writes.{Grew, Broke}
 use Rattle.fing_text.proofs.InARow.{grew-next, broke-next, grew-all}
-use Rattle.semantic_sigs.specs.Items.{item_of}
+use Rattle.semantic_sigs.specs.Inner.Items.{item_of}
 use Rattle.semantic_sigs.specs.declared.path.Item.{Item as CodeItem}
 use Rattle.omega_write.proofs.Loops.{wrote-err}
 use Rattle.fing_refusals.specs.Line.{more_items_text}

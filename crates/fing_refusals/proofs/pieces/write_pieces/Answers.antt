@@ -3,7 +3,7 @@ use Rattle.fing_text.specs.Writes.{Grew, Broke}
 use Rattle.fing_text.proofs.InARow.{broke-next, grew-all}
 use Rattle.omega_write.proofs.Loops.{wrote-err}
 use Rattle.fing_refusals.specs.declared.pieces.Piece.{Piece}
-use Rattle.fing_refusals.specs.Pieces.{piece_text, pieces_text, PieceInScope}
+use Rattle.fing_refusals.specs.Inner.Pieces.{piece_text, pieces_text, PieceInScope}
 use Rattle.fing_refusals.proofs.Loops.{pieces-text, scope-at}
 use Rattle.fing_refusals.proofs.pieces.write_pieces.Goals as goal
 

@@ -1,7 +1,7 @@
 use Rattle.std.proofs.Common.{take}
 use Rattle.std.specs.Prelude.{flat_map}
 use Rattle.fing_text.specs.Writes.{Grew}
-use Rattle.fing_refusals.specs.Pieces.{piece_text}
+use Rattle.fing_refusals.specs.Inner.Pieces.{piece_text}
 use Rattle.fing_refusals.proofs.pieces.write_pieces.Given as goal
 
 abbrev pub invariant-loop-piece : goal.invariant-loop-piece

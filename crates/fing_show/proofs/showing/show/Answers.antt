@@ -2,7 +2,7 @@ use Rattle.std.proofs.Common.{List, sym, subst}
 use Rattle.elab_rules.proofs.Given.{ok-map}
 use Rattle.fing_lexer.specs.declared.token.Token.{Token}
 use Rattle.fing_lexer.specs.Tokens.{TokensOf}
-use Rattle.fing_show.specs.Judged.{Judges}
+use Rattle.fing_show.specs.Inner.Judged.{Judges}
 use Rattle.fing_show.proofs.Verdicts.{few-tokens}
 use Rattle.fing_show.proofs.showing.show.Goals as goal
 

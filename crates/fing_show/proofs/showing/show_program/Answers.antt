@@ -1,5 +1,5 @@
 use Rattle.elab_rules.proofs.Given.{ok-map}
-use Rattle.fing_show.specs.Judged.{JudgesProgram}
+use Rattle.fing_show.specs.Inner.Judged.{JudgesProgram}
 use Rattle.fing_show.proofs.Verdicts.{no-meaning}
 use Rattle.fing_show.proofs.showing.show_program.Goals as goal
 

@@ -1,8 +1,8 @@
 use Rattle.std.proofs.Common.{subst}
 use Rattle.elab_rules.proofs.Given.{ok-map}
 use Rattle.parse_grammar.specs.Grammar as the
-use Rattle.parse_grammar.specs.Refusal.{Refuses}
-use Rattle.fing_show.specs.Judged.{JudgesTokens}
+use Rattle.parse_grammar.specs.Inner.Refusal.{Refuses}
+use Rattle.fing_show.specs.Inner.Judged.{JudgesTokens}
 use Rattle.fing_show.proofs.Verdicts.{no-program}
 use Rattle.fing_show.proofs.showing.show_tokens.Goals as goal
 

@@ -1,5 +1,5 @@
 use Rattle.std.proofs.Common.{length, take, arith, refl, sym, subst}
-use Rattle.fing_show_c.specs.Returns.{Returns}
+use Rattle.fing_show_c.specs.Inner.Returns.{Returns}
 use Rattle.fing_show_c.specs.declared.answering.Answer.{Answer}
 use Rattle.fing_show_c.proofs.answering.answer_page.Goals as goal
 

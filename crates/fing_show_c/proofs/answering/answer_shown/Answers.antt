@@ -1,5 +1,5 @@
 use Rattle.std.proofs.Common.{length, take, rules, sym, subst}
-use Rattle.fing_show_c.specs.Returns.{IsWritten}
+use Rattle.fing_show_c.specs.Inner.Returns.{IsWritten}
 use Rattle.fing_show_c.proofs.Writing.{cut, whole}
 use Rattle.fing_show_c.proofs.answering.answer_shown.Goals as goal
 

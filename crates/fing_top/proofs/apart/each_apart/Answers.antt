@@ -1,9 +1,9 @@
 use Rattle.std.proofs.Common.{◌+◌, ◌∙◌, List, [], map, rules, take, sym, ap, subst}
 use Rattle.elab_rules.proofs.Given.{exit}
-use Rattle.fing_refusals.specs.Plain.{Says}
+use Rattle.fing_refusals.specs.Inner.Plain.{Says}
 use Rattle.unit_judgments.specs.Link.{UnitModule, interface_of}
 use Rattle.unit_laws.specs.Derived.{UnitsMean, FirstRefused}
-use Rattle.fing_units.specs.Units.{unit_of, units_of}
+use Rattle.fing_units.specs.Inner.Units.{unit_of, units_of}
 use Rattle.fing_top.proofs.Separate.{all_units, more_made, more_under, none_apart, one_more, scope_so_far, stops}
 use Rattle.fing_top.proofs.apart.each_apart.Goals as goal
 

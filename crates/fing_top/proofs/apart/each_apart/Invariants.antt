@@ -1,7 +1,7 @@
 use Rattle.std.proofs.Common.{◌≡◌, [], take, map}
 use Rattle.unit_judgments.specs.Link.{interface_of}
 use Rattle.unit_laws.specs.Derived.{UnitsMean}
-use Rattle.fing_units.specs.Units.{units_of}
+use Rattle.fing_units.specs.Inner.Units.{units_of}
 use Rattle.fing_top.proofs.apart.each_apart.Given as goal
 
 -- the units so far are elaborated, each under the interfaces of those before it

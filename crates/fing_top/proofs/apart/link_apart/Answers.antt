@@ -1,9 +1,9 @@
 use Rattle.std.proofs.Common.{[], arith, rules}
 use Rattle.elab_rules.proofs.Given.{exit}
-use Rattle.semantic_sigs.specs.Made.{module_of}
-use Rattle.fing_refusals.specs.Plain.{Says}
+use Rattle.semantic_sigs.specs.Inner.Made.{module_of}
+use Rattle.fing_refusals.specs.Inner.Plain.{Says}
 use Rattle.unit_laws.specs.Derived.{FirstRefused, RefusesUnits}
-use Rattle.fing_units.specs.Units.{units_of}
+use Rattle.fing_units.specs.Inner.Units.{units_of}
 use Rattle.fing_top.proofs.Separate.{few_made, link_means, refuses_units}
 use Rattle.fing_top.proofs.apart.link_apart.Goals as goal
 

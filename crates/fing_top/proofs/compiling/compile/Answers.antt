@@ -1,4 +1,4 @@
-use Rattle.fing_top.specs.Compiled.{IsRefused}
+use Rattle.fing_top.specs.Inner.Compiled.{IsRefused}
 use Rattle.fing_top.specs.Meaning.{one_program}
 use Rattle.fing_top.proofs.Answering.{is_compiled, program_refused}
 use Rattle.fing_top.proofs.compiling.compile.Goals as goal

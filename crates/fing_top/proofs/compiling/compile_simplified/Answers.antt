@@ -1,5 +1,5 @@
 use Rattle.elab_rules.proofs.Given.{exit}
-use Rattle.fing_top.specs.Compiled.{IsRefused}
+use Rattle.fing_top.specs.Inner.Compiled.{IsRefused}
 use Rattle.fing_top.specs.Meaning.{one_program}
 use Rattle.fing_top.proofs.Answering.{program_refused}
 use Rattle.fing_top.proofs.Simplest.{is_simplified, typed_simplified}

@@ -1,7 +1,7 @@
 use Rattle.std.proofs.Common.{refl}
 use Rattle.fing_words.specs.declared.command_line.CommandLine.TheVariants as command
 use Rattle.fing_top.specs.Counts.{most_steps, node_count}
-use Rattle.fing_top.specs.Ending.{ending_status, counted_text}
+use Rattle.fing_top.specs.Inner.Ending.{ending_status, counted_text}
 use Rattle.fing_top.specs.Reply.{ProgramReplies}
 use Rattle.fing_top.specs.declared.status.Status.TheVariants as status
 use Rattle.fing_top.proofs.Answering.{of_ending, counts_told, wrote_reply}

@@ -1,5 +1,5 @@
 use Rattle.std.proofs.Common.{refl, subst}
-use Rattle.fing_top.specs.Compiled.{IsEmission}
+use Rattle.fing_top.specs.Inner.Compiled.{IsEmission}
 use Rattle.fing_top.specs.declared.status.Status.TheVariants as status
 use Rattle.fing_top.proofs.Answering.{wrote_reply}
 use Rattle.fing_top.proofs.emitting.put_emission.Goals as goal

@@ -2,7 +2,7 @@ use Rattle.std.proofs.Common.{◌≡◌, [], take, map}
 use Rattle.unit_judgments.specs.Interfaces.{env_of}
 use Rattle.unit_judgments.specs.Link.{interface_of}
 use Rattle.unit_laws.specs.Derived.{UnitsMean}
-use Rattle.fing_units.specs.Units.{units_of}
+use Rattle.fing_units.specs.Inner.Units.{units_of}
 use Rattle.fing_top.proofs.linking.elaborated.Given as goal
 
 -- the units so far are elaborated, each under the interfaces of those before it, which give the environment

@@ -1,9 +1,9 @@
 use Rattle.std.proofs.Common.{[], arith, rules}
 use Rattle.elab_rules.proofs.Given.{exit}
-use Rattle.semantic_sigs.specs.Made.{module_of}
+use Rattle.semantic_sigs.specs.Inner.Made.{module_of}
 use Rattle.unit_laws.specs.Derived.{FirstRefused}
 use Rattle.unit_laws.specs.Units.{program_of}
-use Rattle.fing_top.specs.Compiled.{IsRefused}
+use Rattle.fing_top.specs.Inner.Compiled.{IsRefused}
 use Rattle.fing_top.specs.Meaning.{separate_units}
 use Rattle.fing_top.proofs.Answering.{meaning_refused}
 use Rattle.fing_top.proofs.Separate.{first_refused, fits, is_linked, kinded_link, none_differs, typed_link}

@@ -2,7 +2,7 @@ use Rattle.std.proofs.Common.{List, refl, sym, subst}
 use Rattle.fing_lexer.specs.declared.token.Token.{Token}
 use Rattle.fing_lexer.specs.Tokens.{TokensOf}
 use Rattle.elab_rules.proofs.Given.{exit}
-use Rattle.fing_top.specs.Compiled.{IsRefused}
+use Rattle.fing_top.specs.Inner.Compiled.{IsRefused}
 use Rattle.fing_top.specs.Meaning.{separate_units}
 use Rattle.fing_top.proofs.Answering.{few_tokens, lexed_refused, parsed_refused}
 use Rattle.fing_top.proofs.linking.parsed.Goals as goal

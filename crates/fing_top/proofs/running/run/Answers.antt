@@ -1,5 +1,5 @@
 use Rattle.std.proofs.Common.{refl}
-use Rattle.fing_top.specs.Ending.{ending_status, ending_text}
+use Rattle.fing_top.specs.Inner.Ending.{ending_status, ending_text}
 use Rattle.fing_top.specs.Reply.{ProgramReplies}
 use Rattle.fing_words.specs.declared.command_line.CommandLine.TheVariants as command
 use Rattle.fing_top.specs.declared.status.Status.TheVariants as status

@@ -3,7 +3,7 @@ use Rattle.std.proofs.lemmas.Result.{err_from_is_err_and}
 use Rattle.omega_terms.specs.Typing.{HasType}
 use Rattle.omega_checker.specs.Judgment.{Judgment}
 use Rattle.fing_top.specs.declared.verifying.Unverified.{Unverified}
-use Rattle.fing_top.specs.Verdict.{verdict_line, HasLine}
+use Rattle.fing_top.specs.Inner.Verdict.{verdict_line, HasLine}
 use Rattle.fing_top.specs.Reply.{refused, VerifyReplies}
 use Rattle.fing_top.proofs.Answering.{unread_replied, well_replied, ill_replied}
 use Rattle.fing_top.proofs.verifying.verified.Goals as goal

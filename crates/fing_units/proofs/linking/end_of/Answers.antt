@@ -5,7 +5,7 @@ use Rattle.sig_premise_laws.proofs.NameOrder.{in_order-same}
 use Rattle.unit_judgments.specs.Interfaces.{env_of}
 use Rattle.unit_judgments.specs.Link.{interface_of, names_after}
 use Rattle.module_rules.proofs.Ended.{Ends}
-use Rattle.fing_units.specs.Units.{units_of}
+use Rattle.fing_units.specs.Inner.Units.{units_of}
 use Rattle.fing_units.proofs.Linked.{scope-step}
 use Rattle.fing_units.proofs.linking.end_of.Goals as goal
 

@@ -1,7 +1,7 @@
 use Rattle.std.proofs.Common.{◌≡◌, [], take, map}
 use Rattle.unit_judgments.specs.Interfaces.{env_of}
 use Rattle.unit_judgments.specs.Link.{interface_of, names_after}
-use Rattle.fing_units.specs.Units.{units_of}
+use Rattle.fing_units.specs.Inner.Units.{units_of}
 use Rattle.fing_units.proofs.linking.end_of.Given as goal
 
 abbrev pub invariant-loop-unit : goal.invariant-loop-unit

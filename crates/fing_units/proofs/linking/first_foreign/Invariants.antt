@@ -1,6 +1,6 @@
 use Rattle.std.proofs.Common.{ℕ, ◌<◌}
 use Rattle.unit_judgments.specs.Link.{Differs}
-use Rattle.fing_units.specs.Units.{units_of}
+use Rattle.fing_units.specs.Inner.Units.{units_of}
 use Rattle.fing_units.proofs.linking.first_foreign.Given as goal
 
 abbrev pub invariant-loop-at : goal.invariant-loop-at

@@ -1,11 +1,11 @@
 use Rattle.std.proofs.Common.{[], map, subst, sym}
 use Rattle.sig_laws.specs.Good.{Names}
-use Rattle.semantic_sigs.specs.Made.{module_of}
+use Rattle.semantic_sigs.specs.Inner.Made.{module_of}
 use Rattle.module_judgments.specs.Sequence.{Collected}
 use Rattle.unit_judgments.specs.Interfaces.{env_of}
 use Rattle.unit_judgments.specs.Link.{interface_of, names_after}
 use Rattle.unit_judgments.proofs.Places.{front-all}
-use Rattle.fing_units.specs.Units.{units_of}
+use Rattle.fing_units.specs.Inner.Units.{units_of}
 use Rattle.fing_units.proofs.Linked.{linked-start, linked-step}
 use Rattle.fing_units.proofs.linking.join.Goals as goal
 

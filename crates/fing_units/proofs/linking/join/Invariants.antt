@@ -1,6 +1,6 @@
 use Rattle.std.proofs.Common.{vec_len}
-use Rattle.semantic_sigs.specs.Made.{module_of}
-use Rattle.fing_units.specs.Units.{units_of}
+use Rattle.semantic_sigs.specs.Inner.Made.{module_of}
+use Rattle.fing_units.specs.Inner.Units.{units_of}
 use Rattle.fing_units.proofs.Linked.{LinkedAll}
 use Rattle.fing_units.proofs.linking.join.Given as goal
 

@@ -1,6 +1,6 @@
 use Rattle.std.proofs.Common.{ℕ, subst}
 use Rattle.unit_judgments.specs.Link.{Differs, Foreign}
-use Rattle.fing_units.specs.Units.{units_of}
+use Rattle.fing_units.specs.Inner.Units.{units_of}
 use Rattle.fing_units.proofs.linking.link.Goals as goal
 
 pub returns-in-Some-clause-foreign : goal.returns-in-Some-clause-foreign

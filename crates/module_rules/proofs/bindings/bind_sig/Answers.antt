@@ -2,7 +2,7 @@ use Rattle.std.proofs.Common.{ap, ap₂, ◌∙◌, sym, subst, []}
 use Rattle.std.proofs.lemmas.Result.{IfOk-weaker}
 use Rattle.omega_kinds.specs.declared.effect.Effect.TheVariants.{Pure}
 use Rattle.sig_definitions.specs.Signatures.Sig.{Sig, Abs, made}
-use Rattle.semantic_sigs.specs.Made.{module_of}
+use Rattle.semantic_sigs.specs.Inner.Made.{module_of}
 use Rattle.semantic_sigs.specs.declared.made.Module.{Module}
 use Rattle.module_judgments.specs.ModRules.{SignatureGives}
 use Rattle.module_rules.proofs.bindings.bind_sig.Goals as goal

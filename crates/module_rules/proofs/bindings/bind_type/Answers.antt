@@ -4,7 +4,7 @@ use Rattle.omega_kinds.specs.View.{kind_tree}
 use Rattle.omega_kinds.specs.declared.effect.Effect.TheVariants.{Pure}
 use Rattle.omega_terms.specs.PartTerms.{type_term}
 use Rattle.sig_definitions.specs.Signatures.Sig.{Sig, Abs, made}
-use Rattle.semantic_sigs.specs.Made.{module_of}
+use Rattle.semantic_sigs.specs.Inner.Made.{module_of}
 use Rattle.semantic_sigs.specs.declared.made.Module.{Module}
 use Rattle.module_judgments.specs.ModRules.{TypeGives}
 use Rattle.module_rules.proofs.bindings.bind_type.Goals as goal

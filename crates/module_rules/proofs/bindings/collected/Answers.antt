@@ -3,8 +3,8 @@ use Rattle.std.proofs.lemmas.Result.{IfOk-weaker}
 use Rattle.omega_kinds.specs.declared.effect.Effect.TheVariants.{Pure}
 use Rattle.omega_terms.specs.Fields.{term_row}
 use Rattle.omega_terms.specs.Term.{Term, TermRow}
-use Rattle.semantic_sigs.specs.Fields.{sig_row}
-use Rattle.semantic_sigs.specs.Made.{module_of}
+use Rattle.semantic_sigs.specs.Inner.Fields.{sig_row}
+use Rattle.semantic_sigs.specs.Inner.Made.{module_of}
 use Rattle.semantic_sigs.specs.declared.made.Module.{Module}
 use Rattle.sig_definitions.specs.Signatures.Sig.{Sig, SigRow, Abs, made}
 use Rattle.module_judgments.specs.Sequence.{Collected}

@@ -1,7 +1,7 @@
 use Rattle.std.proofs.Common.{◌≡◌, map, take}
 use Rattle.omega_kinds.specs.declared.label.Label.{Label}
 use Rattle.omega_terms.specs.Fields.{term_row}
-use Rattle.semantic_sigs.specs.Fields.{sig_row}
+use Rattle.semantic_sigs.specs.Inner.Fields.{sig_row}
 use Rattle.module_judgments.specs.Sequence.{Collected}
 use Rattle.module_rules.proofs.Ended.{firsts}
 use Rattle.module_rules.proofs.bindings.collected.Given as goal

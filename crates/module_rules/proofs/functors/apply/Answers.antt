@@ -1,5 +1,5 @@
 use Rattle.std.proofs.Common.{sym, ap, ◌∙◌}
-use Rattle.semantic_sigs.specs.View.{sig_of, body_of}
+use Rattle.semantic_sigs.specs.Inner.View.{sig_of, body_of}
 use Rattle.module_rules.proofs.Made.{no-functor, applied-at}
 use Rattle.module_rules.proofs.functors.apply.Goals as goal
 

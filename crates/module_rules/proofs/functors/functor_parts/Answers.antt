@@ -1,5 +1,5 @@
 use Rattle.std.proofs.Common.{refl, sym, ap, ◌∙◌}
-use Rattle.semantic_sigs.specs.View.{sig_of}
+use Rattle.semantic_sigs.specs.Inner.View.{sig_of}
 use Rattle.module_rules.proofs.Made.{no-functor, parts-given}
 use Rattle.module_rules.proofs.functors.functor_parts.Goals as goal
 

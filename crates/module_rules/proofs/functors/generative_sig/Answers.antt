@@ -2,7 +2,7 @@ use Rattle.std.proofs.Common.{◌≡◌, ◌∙◌}
 use Rattle.std.proofs.lemmas.Result.{IfOk-weaker}
 use Rattle.omega_kinds.specs.declared.effect.Effect.TheVariants.{Impure}
 use Rattle.sig_definitions.specs.Signatures.Sig.{Sig}
-use Rattle.semantic_sigs.specs.View.{kinds_of, body_of}
+use Rattle.semantic_sigs.specs.Inner.View.{kinds_of, body_of}
 use Rattle.module_rules.proofs.Made.{generative-sig}
 use Rattle.module_rules.proofs.functors.generative_sig.Goals as goal
 

@@ -8,8 +8,8 @@ use Rattle.omega_terms.specs.Term.{Term}
 use Rattle.sig_definitions.specs.Packing.{Packed}
 use Rattle.sig_definitions.specs.Signatures.Encoding.{enc}
 use Rattle.sig_laws.specs.Good.{KindedModule}
-use Rattle.semantic_sigs.specs.Made.{module_of}
-use Rattle.semantic_sigs.specs.View.{kinds_of, body_of}
+use Rattle.semantic_sigs.specs.Inner.Made.{module_of}
+use Rattle.semantic_sigs.specs.Inner.View.{kinds_of, body_of}
 use Rattle.module_rules.proofs.Made.{generative-term}
 use Rattle.module_rules.proofs.functors.generative_term.Goals as goal
 

@@ -1,4 +1,4 @@
-use Rattle.semantic_sigs.specs.Made.{module_of}
+use Rattle.semantic_sigs.specs.Inner.Made.{module_of}
 use Rattle.module_rules.proofs.Made.{named-gives, named-refuses}
 use Rattle.module_rules.proofs.Options.{none-is}
 use Rattle.module_rules.proofs.naming.named.Goals as goal

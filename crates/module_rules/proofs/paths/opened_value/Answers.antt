@@ -4,7 +4,7 @@ use Rattle.omega_kinds.specs.declared.label.Label.{Label}
 use Rattle.omega_terms.specs.Shorthands.{opens}
 use Rattle.omega_terms.specs.Term.{Term}
 use Rattle.sig_definitions.specs.Signatures.Encoding.{enc_abs}
-use Rattle.semantic_sigs.specs.View.{kinds_of}
+use Rattle.semantic_sigs.specs.Inner.View.{kinds_of}
 use Rattle.module_rules.proofs.paths.opened_value.Goals as goal
 
 pub returns : goal.returns

@@ -1,6 +1,6 @@
 use Rattle.std.proofs.Common.{◌≡◌, sym, ◌∙◌, ap}
 use Rattle.sig_definitions.specs.Signatures.Sig.{Sig, Abs}
-use Rattle.module_rules.specs.Shown.{SigMentionsHidden, SigIsOutside}
+use Rattle.module_rules.specs.Inner.Shown.{SigMentionsHidden, SigIsOutside}
 use Rattle.std.proofs.Common.{length}
 use Rattle.omega_types.specs.Index.{bump}
 use Rattle.module_rules.proofs.Made.{sig-wrong, still-shown, sig-escapes-at, sig-path-at}

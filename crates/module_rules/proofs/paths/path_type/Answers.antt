@@ -3,10 +3,10 @@ use Rattle.omega_kinds.specs.Kind.{Kind}
 use Rattle.omega_kinds.specs.View.{kind_tree}
 use Rattle.omega_types.specs.Ty.{Ty}
 use Rattle.sig_definitions.specs.Signatures.Sig.{Sig}
-use Rattle.module_rules.specs.Shown.{MentionsHidden, IsOutside}
+use Rattle.module_rules.specs.Inner.Shown.{MentionsHidden, IsOutside}
 use Rattle.std.proofs.Common.{length, subst}
 use Rattle.module_judgments.specs.PathUse.{TypeOfPath}
-use Rattle.semantic_sigs.specs.Made.{module_of}
+use Rattle.semantic_sigs.specs.Inner.Made.{module_of}
 use Rattle.module_rules.proofs.Made.{type-path, type-escapes, type-wrong}
 use Rattle.module_rules.proofs.Options.{none-case, some-case}
 use Rattle.module_rules.proofs.paths.path_type.Goals as goal

@@ -1,7 +1,7 @@
 use Rattle.std.proofs.Common.{◌≡◌, sym, ◌∙◌, ap}
 use Rattle.omega_types.specs.Ty.{Ty}
 use Rattle.sig_definitions.specs.Signatures.Sig.{Sig}
-use Rattle.module_rules.specs.Shown.{MentionsHidden, IsOutside}
+use Rattle.module_rules.specs.Inner.Shown.{MentionsHidden, IsOutside}
 use Rattle.std.proofs.Common.{length}
 use Rattle.module_rules.proofs.Made.{value-path, value-escapes, value-wrong}
 use Rattle.module_rules.proofs.Options.{none-case, some-case}

@@ -4,7 +4,7 @@ use Rattle.omega_kinds.specs.declared.effect.Effect.TheVariants.{Impure}
 use Rattle.omega_kinds.specs.declared.label.Label.{Label}
 use Rattle.omega_terms.specs.Term.{Term}
 use Rattle.sig_definitions.specs.Signatures.Encoding.{enc_abs}
-use Rattle.semantic_sigs.specs.View.{kinds_of}
+use Rattle.semantic_sigs.specs.Inner.View.{kinds_of}
 use Rattle.module_judgments.specs.PathUse.{value_of}
 use Rattle.module_rules.proofs.paths.value_of.Goals as goal
 

@@ -3,7 +3,7 @@ use Rattle.std.proofs.lemmas.Result.{IfOk-weaker}
 use Rattle.omega_terms.specs.Shorthands.{opens}
 use Rattle.omega_terms.specs.Term.{Term}
 use Rattle.sig_definitions.specs.Signatures.Encoding.{enc_abs}
-use Rattle.semantic_sigs.specs.View.{kinds_of}
+use Rattle.semantic_sigs.specs.Inner.View.{kinds_of}
 use Rattle.module_rules.proofs.Made.{opened-by}
 use Rattle.module_rules.proofs.projecting.opened.Goals as goal
 

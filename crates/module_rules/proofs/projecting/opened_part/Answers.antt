@@ -4,8 +4,8 @@ use Rattle.omega_kinds.specs.declared.label.Label.TheVariants as label
 use Rattle.omega_terms.specs.Shorthands.{opens}
 use Rattle.omega_terms.specs.Term.{Term}
 use Rattle.sig_definitions.specs.Signatures.Encoding.{enc_abs}
-use Rattle.semantic_sigs.specs.View.{kinds_of}
-use Rattle.module_rules.specs.Shown.{PackedAgain}
+use Rattle.semantic_sigs.specs.Inner.View.{kinds_of}
+use Rattle.module_rules.specs.Inner.Shown.{PackedAgain}
 use Rattle.module_rules.proofs.Made.{opened-part}
 use Rattle.module_rules.proofs.projecting.opened_part.Goals as goal
 

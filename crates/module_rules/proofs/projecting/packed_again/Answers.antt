@@ -2,7 +2,7 @@ use Rattle.std.proofs.lemmas.Bool.{eqb-true}
 use Rattle.std.proofs.lemmas.Result.{IfOk-weaker}
 use Rattle.std.proofs.Common.{◌≡◌, sym}
 use Rattle.semantic_sigs.proofs.MentionSteps.{no-kinds}
-use Rattle.module_rules.specs.Shown.{PackedAgain}
+use Rattle.module_rules.specs.Inner.Shown.{PackedAgain}
 use Rattle.module_rules.proofs.Packs.{packs-nothing}
 use Rattle.module_rules.proofs.projecting.packed_again.Goals as goal
 

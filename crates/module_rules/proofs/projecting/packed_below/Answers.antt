@@ -1,6 +1,6 @@
 use Rattle.std.proofs.lemmas.Result.{IfOk-weaker}
 use Rattle.omega_terms.specs.Term.{Term}
-use Rattle.module_rules.specs.Shown.{PackedAgain}
+use Rattle.module_rules.specs.Inner.Shown.{PackedAgain}
 use Rattle.module_rules.proofs.Made.{packs-again}
 use Rattle.module_rules.proofs.projecting.packed_below.Goals as goal
 

@@ -4,7 +4,7 @@ use Rattle.omega_kinds.specs.Kind.{Kind}
 use Rattle.omega_terms.specs.Shorthands.{Packs}
 use Rattle.omega_terms.specs.Term.{Term}
 use Rattle.sig_definitions.specs.Signatures.Encoding.{enc_abs}
-use Rattle.omega_shorthands.specs.Packed.{Fills}
+use Rattle.omega_shorthands.specs.Inner.Packed.{Fills}
 use Rattle.module_rules.proofs.Made.{packs-at, packs-none}
 use Rattle.module_rules.proofs.projecting.packed_pure.Goals as goal
 

@@ -4,7 +4,7 @@ use Rattle.omega_kinds.specs.Kind.{Kind}
 use Rattle.omega_terms.specs.Term.{Term}
 use Rattle.sig_definitions.specs.Packing.{Packed}
 use Rattle.sig_laws.specs.Good.{KindedModule}
-use Rattle.semantic_sigs.specs.Made.{module_of}
+use Rattle.semantic_sigs.specs.Inner.Made.{module_of}
 use Rattle.module_rules.proofs.Made.{packed-of-pure, packed-of-impure}
 use Rattle.module_rules.proofs.projecting.packed_term.Goals as goal
 

@@ -3,8 +3,8 @@ use Rattle.std.proofs.lemmas.Result.{IfOk-weaker}
 use Rattle.omega_kinds.specs.Kind.{Kind}
 use Rattle.sig_definitions.specs.Signatures.Sig.{Sig, Abs, SigRow, HasField}
 use Rattle.sig_laws.specs.Good.{KindedModule}
-use Rattle.semantic_sigs.specs.Made.{module_of}
-use Rattle.semantic_sigs.specs.View.{body_of}
+use Rattle.semantic_sigs.specs.Inner.Made.{module_of}
+use Rattle.semantic_sigs.specs.Inner.View.{body_of}
 use Rattle.semantic_sigs.specs.declared.made.Module.{Module}
 use Rattle.module_judgments.specs.Projection.{Projected}
 use Rattle.module_rules.proofs.projecting.part_of.Goals as goal

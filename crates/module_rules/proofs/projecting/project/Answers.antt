@@ -1,6 +1,6 @@
 use Rattle.std.proofs.Common.{◌≡◌, sym, ◌∙◌}
 use Rattle.sig_definitions.specs.Signatures.Sig.{Sig, SigRow, HasField, NoField}
-use Rattle.semantic_sigs.specs.Fields.{sig_row}
+use Rattle.semantic_sigs.specs.Inner.Fields.{sig_row}
 use Rattle.module_rules.proofs.Made.{project_no-structure, project_no-part}
 use Rattle.module_rules.proofs.Options.{none-case, some-case}
 use Rattle.module_rules.proofs.projecting.project.Goals as goal

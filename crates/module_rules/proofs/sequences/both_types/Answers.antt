@@ -1,5 +1,5 @@
 use Rattle.std.proofs.Common.{sym, ◌∙◌, ap, append-nil, map}
-use Rattle.semantic_sigs.specs.Changes.{ty_in, putting}
+use Rattle.semantic_sigs.specs.Inner.Changes.{ty_in, putting}
 use Rattle.module_rules.proofs.Own.{pushed-next, pushed-done}
 use Rattle.module_rules.proofs.sequences.both_types.Goals as goal
 

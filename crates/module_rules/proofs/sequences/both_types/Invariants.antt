@@ -1,5 +1,5 @@
 use Rattle.std.proofs.Common.{◌≡◌, ◌++◌, map, take}
-use Rattle.semantic_sigs.specs.Changes.{ty_in, putting}
+use Rattle.semantic_sigs.specs.Inner.Changes.{ty_in, putting}
 use Rattle.module_rules.proofs.sequences.both_types.Given as goal
 
 abbrev pub invariant-loop-ty : goal.invariant-loop-ty

@@ -10,7 +10,7 @@ use Rattle.sig_definitions.specs.Signatures.Alike.{IsSigAt, NormalAbs}
 use Rattle.sig_definitions.specs.Signatures.Encoding.{enc}
 use Rattle.sig_definitions.specs.Signatures.Sig.{Sig}
 use Rattle.sig_laws.specs.Good.{NormalTerm}
-use Rattle.semantic_sigs.specs.View.{body_of, kinds_of}
+use Rattle.semantic_sigs.specs.Inner.View.{body_of, kinds_of}
 use Rattle.module_rules.proofs.Made.{bound-given}
 use Rattle.module_rules.proofs.sequences.bound_term.Goals as goal
 

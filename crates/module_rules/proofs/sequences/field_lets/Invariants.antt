@@ -1,5 +1,5 @@
 use Rattle.std.proofs.Common.{◌≡◌, ◌≤◌, length, drop}
-use Rattle.semantic_sigs.specs.Fields.{sig_row}
+use Rattle.semantic_sigs.specs.Inner.Fields.{sig_row}
 use Rattle.module_judgments.specs.Sequence.{field_lets}
 use Rattle.module_rules.proofs.sequences.field_lets.Given as goal
 

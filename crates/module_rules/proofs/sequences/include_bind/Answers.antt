@@ -1,7 +1,7 @@
 use Rattle.std.proofs.Common.{◌≡◌}
 use Rattle.sig_definitions.specs.Signatures.Sig.{Sig, SigRow}
-use Rattle.semantic_sigs.specs.Fields.{sig_row}
-use Rattle.semantic_sigs.specs.Made.{module_of}
+use Rattle.semantic_sigs.specs.Inner.Fields.{sig_row}
+use Rattle.semantic_sigs.specs.Inner.Made.{module_of}
 use Rattle.module_rules.proofs.Made.{include_no-structure, include-given}
 use Rattle.module_rules.proofs.Options.{none-case, some-case}
 use Rattle.module_rules.proofs.sequences.include_bind.Goals as goal

@@ -1,7 +1,7 @@
 use Rattle.std.proofs.lemmas.Result.{IfOk-weaker}
 use Rattle.omega_terms.specs.Term.{Term}
-use Rattle.semantic_sigs.specs.Made.{module_of}
-use Rattle.module_rules.specs.Shown.{OpenedTerm}
+use Rattle.semantic_sigs.specs.Inner.Made.{module_of}
+use Rattle.module_rules.specs.Inner.Shown.{OpenedTerm}
 use Rattle.module_rules.proofs.Made.{opened-term}
 use Rattle.module_rules.proofs.sequences.opened_term.Goals as goal
 

@@ -1,5 +1,5 @@
 use Rattle.std.proofs.lemmas.Result.{IfOk-weaker}
-use Rattle.omega_types.specs.Scope.{scope_of}
+use Rattle.omega_types.specs.Inner.Scope.{scope_of}
 use Rattle.omega_checker.proofs.ForCode.{kind-is}
 use Rattle.omega_checker.proofs.forms.find_kind.Goals as goal
 

@@ -1,6 +1,6 @@
 use Rattle.std.proofs.Common.{Some, ap, ◌∙◌}
 use Rattle.omega_kinds.specs.View.{kind_tree}
-use Rattle.omega_types.specs.Scope.{scope_of}
+use Rattle.omega_types.specs.Inner.Scope.{scope_of}
 use Rattle.omega_checker.proofs.NormalAlready.{stands}
 use Rattle.omega_checker.proofs.forms.normal_at.Goals as goal
 

@@ -1,8 +1,8 @@
 use Rattle.std.proofs.Common.{◌≡◌, ◌≤◌, ◌+◌, ◌*◌, drop}
 use Rattle.omega_types.specs.Fields.{row}
-use Rattle.omega_types.specs.Scope.{scope_of}
-use Rattle.omega_types.specs.Size.{nodes, nodes_pairs}
-use Rattle.omega_checker.specs.IsNormal.{are_normal, scope_below}
+use Rattle.omega_types.specs.Inner.Scope.{scope_of}
+use Rattle.omega_types.specs.Inner.Size.{nodes, nodes_pairs}
+use Rattle.omega_checker.specs.Inner.IsNormal.{are_normal, scope_below}
 use Rattle.omega_checker.proofs.normality.+normal.Given as goal
 
 abbrev pub decreases-normal_at_kind : goal.decreases-normal_at_kind

@@ -1,8 +1,8 @@
 use Rattle.std.proofs.Common.{ap, ◌∙◌}
 use Rattle.std.proofs.lemmas.Result.{IfOk-weaker}
 use Rattle.omega_kinds.specs.View.{kind_tree}
-use Rattle.omega_types.specs.Scope.{scope_of}
-use Rattle.omega_checker.specs.IsNormal.{is_normal, scope_below}
+use Rattle.omega_types.specs.Inner.Scope.{scope_of}
+use Rattle.omega_checker.specs.Inner.IsNormal.{is_normal, scope_below}
 use Rattle.omega_checker.proofs.NormalAlready.{test-decides}
 use Rattle.omega_checker.proofs.normality.is_normal.Goals as goal
 

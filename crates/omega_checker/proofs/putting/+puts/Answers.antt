@@ -2,7 +2,7 @@ use Rattle.std.proofs.Common.{length, ap, refl, sym, ◌∙◌}
 use Rattle.std.proofs.lemmas.Result.{IfOk-weaker}
 use Rattle.omega_kinds.specs.View.{kind_tree}
 use Rattle.omega_types.specs.Index.{shift}
-use Rattle.omega_types.specs.View.{ty_of}
+use Rattle.omega_types.specs.Inner.View.{ty_of}
 use Rattle.omega_checker.proofs.PutSteps.{same-if, put-under, put-length, operators-same, operators-differ}
 use Rattle.omega_checker.proofs.putting.+puts.Goals as goal
 

@@ -3,7 +3,7 @@ use Rattle.omega_kinds.specs.View.{kind_tree}
 use Rattle.omega_types.specs.Fields.{row}
 use Rattle.omega_types.specs.Index.{shift}
 use Rattle.omega_types.specs.Normaliser.{args, put_in_row}
-use Rattle.omega_types.specs.Size.{nodes_pairs}
+use Rattle.omega_types.specs.Inner.Size.{nodes_pairs}
 use Rattle.omega_checker.proofs.putting.+puts.Given as goal
 
 abbrev pub invariant-puts_fields-loop-i : goal.invariant-puts_fields-loop-i

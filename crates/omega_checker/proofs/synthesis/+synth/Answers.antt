@@ -1,13 +1,13 @@
 use Rattle.std.proofs.Common.{◌≡◌, ◌<◌, Some, None, true, false, arith, sym, ap, ap₂, subst, ◌∙◌}
 use Rattle.std.proofs.lemmas.Grind.{common_steps}
 use Rattle.omega_types.specs.Fields.{row}
-use Rattle.omega_types.specs.Scope.{scope_of}
+use Rattle.omega_types.specs.Inner.Scope.{scope_of}
 use Rattle.omega_terms.specs.Fields.{term_row}
 use Rattle.omega_terms.proofs.OneIndex.{left-smaller}
 use Rattle.omega_checker.specs.Found.{synth_in, synth_row, synth_branches}
-use Rattle.omega_checker.specs.Vars.{types_of}
+use Rattle.omega_checker.specs.Inner.Vars.{types_of}
 use Rattle.std.proofs.lemmas.Result.{IfOk-weaker, on_ok_weaker}
-use Rattle.omega_terms.specs.View.{term_of}
+use Rattle.omega_terms.specs.Inner.View.{term_of}
 use Rattle.omega_checker.proofs.CallSteps.{without-argument, plain-call, let-call, let-differs, no-function}
 use Rattle.omega_checker.proofs.FieldLoop.{found-more, found-none, found-all, labels-more, next-follows, none-is, record-type, branches-length, passes, branch-passes, label-differs, branch-fails}
 use Rattle.omega_checker.proofs.synthesis.+synth.Goals as goal

@@ -1,11 +1,11 @@
 use Rattle.std.proofs.Common.{◌≡◌, ◌≤◌, ◌+◌, ◌*◌, drop, map, take}
 use Rattle.std.specs.Option.{option_map}
 use Rattle.omega_types.specs.Fields.{row}
-use Rattle.omega_types.specs.Scope.{scope_of}
+use Rattle.omega_types.specs.Inner.Scope.{scope_of}
 use Rattle.omega_terms.specs.Fields.{term_row}
-use Rattle.omega_terms.specs.Size.{term_size, pairs_size}
+use Rattle.omega_terms.specs.Inner.Size.{term_size, pairs_size}
 use Rattle.omega_checker.specs.Found.{synth_branches, synth_row}
-use Rattle.omega_checker.specs.Vars.{types_of}
+use Rattle.omega_checker.specs.Inner.Vars.{types_of}
 use Rattle.omega_checker.proofs.FieldLoop.{row_after}
 use Rattle.omega_checker.proofs.synthesis.+synth.Given as goal
 

@@ -1,6 +1,6 @@
 use Rattle.std.proofs.Common.{◌≡◌, ◌++◌, length}
 use Rattle.omega_compact.specs.Tokens.{Between, tokens_from}
-use Rattle.omega_compact.specs.Plain.{plain_tokens}
+use Rattle.omega_compact.specs.Inner.Plain.{plain_tokens}
 use Rattle.omega_compact.proofs.scan.tokens.Given as goal
 
 abbrev pub invariant-loop-rest : goal.invariant-loop-rest

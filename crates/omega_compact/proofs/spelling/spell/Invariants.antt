@@ -1,5 +1,5 @@
 use Rattle.std.proofs.Common.{◌≡◌, ◌≤◌, ◌++◌, None, drop}
-use Rattle.omega_compact.specs.Plain.{plain_left, plain_tokens}
+use Rattle.omega_compact.specs.Inner.Plain.{plain_left, plain_tokens}
 use Rattle.omega_compact.specs.Spelling.{spelled_from}
 use Rattle.omega_compact.proofs.spelling.spell.Given as goal
 

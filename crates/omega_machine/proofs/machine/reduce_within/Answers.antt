@@ -1,5 +1,5 @@
 use Rattle.std.proofs.Common.{◌≡◌, sym, subst, arith}
-use Rattle.omega_machine.specs.Outcomes.{Tells}
+use Rattle.omega_machine.specs.Inner.Outcomes.{Tells}
 use Rattle.omega_machine.proofs.Runs.{Going, begins, going-typed, found-value, value-tells, found-redex, stepped, faulted, still-going}
 use Rattle.omega_machine.proofs.machine.reduce_within.Goals as goal
 

@@ -1,6 +1,6 @@
 use Rattle.std.proofs.lemmas.Result.{IfOk-weaker}
 use Rattle.std.proofs.Common.{subst}
-use Rattle.omega_machine.specs.Outcomes.{Tells}
+use Rattle.omega_machine.specs.Inner.Outcomes.{Tells}
 use Rattle.omega_machine.proofs.Runs.{spent-exactly, one-outcome, not-stuck, values-fit}
 use Rattle.omega_machine.proofs.machine.run.Goals as goal
 

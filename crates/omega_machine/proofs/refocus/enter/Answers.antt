@@ -1,10 +1,10 @@
 use Rattle.std.proofs.Common.{sym, ◌∙◌, ap, subst}
 use Rattle.std.proofs.lemmas.Result.{IfOk-weaker}
 use Rattle.std.proofs.Common.{◌*◌, ◌+◌}
-use Rattle.omega_terms.specs.View.{term_of}
-use Rattle.omega_terms.specs.Size.{pairs_size}
-use Rattle.omega_machine.specs.Contexts.{with_done, left}
-use Rattle.omega_machine.specs.Moves.{Begun, Moves}
+use Rattle.omega_terms.specs.Inner.View.{term_of}
+use Rattle.omega_terms.specs.Inner.Size.{pairs_size}
+use Rattle.omega_machine.specs.Inner.Contexts.{with_done, left}
+use Rattle.omega_machine.specs.Inner.Moves.{Begun, Moves}
 use Rattle.omega_machine.proofs.Canonical.{no-variable}
 use Rattle.omega_machine.proofs.Moved.{first-begun, enter-fields}
 use Rattle.omega_machine.proofs.refocus.enter.Goals as goal

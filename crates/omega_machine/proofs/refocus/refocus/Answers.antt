@@ -1,7 +1,7 @@
 use Rattle.std.proofs.Common.{◌*◌, sym, ap, subst, refl, arith}
-use Rattle.omega_terms.specs.Size.{term_size}
-use Rattle.omega_machine.specs.Contexts.{fill_waiting, plug, term_in}
-use Rattle.omega_machine.specs.Moves.{Moves, waiting_work}
+use Rattle.omega_terms.specs.Inner.Size.{term_size}
+use Rattle.omega_machine.specs.Inner.Contexts.{fill_waiting, plug, term_in}
+use Rattle.omega_machine.specs.Inner.Moves.{Moves, waiting_work}
 use Rattle.omega_machine.proofs.Refocused.{Onward, left_work, typed-term, from-term, value-in, popped, waiting-sound, from-frame, ready-found, value-found, no-frames, down-stands, down-less, up-stands, up-less}
 use Rattle.omega_machine.proofs.refocus.refocus.Goals as goal
 use Rattle.omega_machine.proofs.refocus.refocus.Goals.{in-Term+in_ok-next-in-Term, in-Value+in-Some-Waiting+in_ok-next-in-Some-Waiting}

@@ -1,4 +1,4 @@
-use Rattle.omega_machine.specs.Contexts.{plug, term_in}
+use Rattle.omega_machine.specs.Inner.Contexts.{plug, term_in}
 use Rattle.omega_machine.proofs.Refocused.{Stands, left_work}
 use Rattle.omega_machine.proofs.refocus.refocus.Given as goal
 

@@ -1,6 +1,6 @@
 use Rattle.std.proofs.Common.{◌≡◌, ◌≤◌, ◌+◌, ◌*◌, ◌++◌, [], codes, drop}
 use Rattle.omega_terms.specs.Fields.{term_row}
-use Rattle.omega_terms.specs.Size.{term_size, pairs_size}
+use Rattle.omega_terms.specs.Inner.Size.{term_size, pairs_size}
 use Rattle.omega_terms.specs.ValueText.{shown_fields, mark_at}
 use Rattle.omega_machine.proofs.shown.+show.Given as goal
 

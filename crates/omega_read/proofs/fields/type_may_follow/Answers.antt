@@ -1,5 +1,5 @@
 use Rattle.std.proofs.Common.{◌≡◌, Some, refl, ap, sym, ◌∙◌}
-use Rattle.omega_read.specs.Onto.{last_of}
+use Rattle.omega_read.specs.Inner.Onto.{last_of}
 use Rattle.omega_read.proofs.Record.{last_get}
 use Rattle.omega_read.proofs.fields.type_may_follow.Goals as goal
 

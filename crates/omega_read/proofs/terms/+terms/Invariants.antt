@@ -2,7 +2,7 @@ use Rattle.std.proofs.Common.{◌≡◌, ◌+◌, ◌*◌, ◌-◌, None}
 use Rattle.omega_terms.specs.Term.{End, More}
 use Rattle.omega_spelling.specs.Reading.{fields_at}
 use Rattle.omega_spelling.specs.TermReading.{term_at}
-use Rattle.omega_read.specs.Onto.{last_of, with_front}
+use Rattle.omega_read.specs.Inner.Onto.{last_of, with_front}
 use Rattle.omega_read.proofs.terms.+terms.Given as goal
 
 abbrev pub decreases-term_of : goal.decreases-term_of

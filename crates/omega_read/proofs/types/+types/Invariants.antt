@@ -1,7 +1,7 @@
 use Rattle.std.proofs.Common.{◌≡◌, ◌+◌, ◌*◌, ◌-◌, None}
 use Rattle.omega_types.specs.Ty.{End, More}
 use Rattle.omega_spelling.specs.Reading.{fields_at, ty_at}
-use Rattle.omega_read.specs.Onto.{last_of, with_front}
+use Rattle.omega_read.specs.Inner.Onto.{last_of, with_front}
 use Rattle.omega_read.proofs.types.+types.Given as goal
 
 abbrev pub decreases-ty_of : goal.decreases-ty_of

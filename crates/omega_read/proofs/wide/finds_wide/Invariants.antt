@@ -1,6 +1,6 @@
 use Rattle.std.proofs.Common.{◌≡◌, ◌≤◌, [], drop}
 use Rattle.omega_spelling.specs.Refusals.{Outside, wide_from}
-use Rattle.omega_read.specs.Scan.{place_of}
+use Rattle.omega_read.specs.Inner.Scan.{place_of}
 use Rattle.omega_read.proofs.Items.{part}
 use Rattle.omega_read.proofs.wide.finds_wide.Given as goal
 

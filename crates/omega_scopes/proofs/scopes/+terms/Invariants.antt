@@ -1,7 +1,7 @@
 use Rattle.std.proofs.Common.{◌≡◌, ◌≤◌, drop}
 use Rattle.omega_terms.specs.Fields.{term_row}
-use Rattle.omega_terms.specs.Size.{pairs_size}
-use Rattle.omega_scopes.specs.Scoped.{term_row_scoped}
+use Rattle.omega_terms.specs.Inner.Size.{pairs_size}
+use Rattle.omega_scopes.specs.Inner.Scoped.{term_row_scoped}
 use Rattle.omega_scopes.proofs.scopes.+terms.Given as goal
 
 abbrev pub invariant-fits_term_fields-loop-field : goal.invariant-fits_term_fields-loop-field

@@ -1,7 +1,7 @@
 use Rattle.std.proofs.Common.{◌≡◌, ◌≤◌, drop}
 use Rattle.omega_types.specs.Fields.{row}
-use Rattle.omega_types.specs.Size.{nodes_pairs}
-use Rattle.omega_scopes.specs.Scoped.{row_scoped}
+use Rattle.omega_types.specs.Inner.Size.{nodes_pairs}
+use Rattle.omega_scopes.specs.Inner.Scoped.{row_scoped}
 use Rattle.omega_scopes.proofs.scopes.+types.Given as goal
 
 abbrev pub invariant-fits_ty_fields-loop-field : goal.invariant-fits_ty_fields-loop-field

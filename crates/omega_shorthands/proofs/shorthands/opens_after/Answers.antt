@@ -1,6 +1,6 @@
 use Rattle.std.proofs.Common.{ap, ◌∙◌}
 use Rattle.omega_terms.specs.Term.{Term}
-use Rattle.omega_shorthands.specs.Packed.{opened_times}
+use Rattle.omega_shorthands.specs.Inner.Packed.{opened_times}
 use Rattle.omega_shorthands.proofs.PackSteps.{opened-next}
 use Rattle.omega_shorthands.proofs.shorthands.opens_after.Goals as goal
 

@@ -1,5 +1,5 @@
 use Rattle.std.proofs.Common.{◌≡◌}
-use Rattle.omega_shorthands.specs.Packed.{opened_times}
+use Rattle.omega_shorthands.specs.Inner.Packed.{opened_times}
 use Rattle.omega_shorthands.proofs.shorthands.opens_after.Given as goal
 
 abbrev pub invariant-loop-left : goal.invariant-loop-left

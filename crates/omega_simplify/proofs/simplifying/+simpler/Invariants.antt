@@ -1,5 +1,5 @@
 use Rattle.std.proofs.Common.{◌≡◌, ◌≤◌, ◌+◌, ◌*◌, take, drop, true}
-use Rattle.omega_terms.specs.Size.{term_size, pairs_size}
+use Rattle.omega_terms.specs.Inner.Size.{term_size, pairs_size}
 use Rattle.omega_terms.proofs.OneIndex.{map_terms}
 use Rattle.omega_simplify_laws.specs.Simplified.{simplified}
 use Rattle.omega_simplify.proofs.RowSteps.{same_terms}

@@ -1,7 +1,7 @@
 use Rattle.std.proofs.Common.{◌≡◌, ◌≤◌, ◌+◌, ◌-◌, ◌^◌, min, drop}
 use Rattle.omega_terms.specs.Fields.{term_row}
 use Rattle.omega_terms.specs.Nodes.{row_nodes}
-use Rattle.omega_terms.specs.Size.{pairs_size}
+use Rattle.omega_terms.specs.Inner.Size.{pairs_size}
 use Rattle.omega_terms.proofs.counting.+nodes.Given as goal
 
 abbrev pub invariant-field_nodes-loop-field : goal.invariant-field_nodes-loop-field

@@ -1,5 +1,5 @@
 use Rattle.omega_terms.proofs.OneIndex.{row-more, left-smaller, row-done}
-use Rattle.omega_terms.specs.Walk.{walked_row}
+use Rattle.omega_terms.specs.Inner.Walk.{walked_row}
 use Rattle.omega_terms.proofs.WalkSteps.{row-walked}
 use Rattle.omega_terms.proofs.walking.+walk.Goals as goal
 

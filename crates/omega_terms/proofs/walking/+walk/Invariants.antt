@@ -1,7 +1,7 @@
 use Rattle.std.proofs.Common.{◌≡◌, ◌≤◌, ◌+◌, ◌*◌, take, drop}
-use Rattle.omega_terms.specs.Size.{term_size, pairs_size}
+use Rattle.omega_terms.specs.Inner.Size.{term_size, pairs_size}
 use Rattle.omega_terms.proofs.OneIndex.{map_terms}
-use Rattle.omega_terms.specs.Walk.{walked}
+use Rattle.omega_terms.specs.Inner.Walk.{walked}
 use Rattle.omega_terms.proofs.walking.+walk.Given as goal
 
 abbrev pub decreases-walk : goal.decreases-walk

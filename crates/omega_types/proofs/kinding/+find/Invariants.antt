@@ -1,7 +1,7 @@
 use Rattle.std.proofs.Common.{◌≡◌, ◌≤◌, ◌&&◌, drop}
 use Rattle.omega_types.specs.Fields.{row}
-use Rattle.omega_types.specs.Size.{nodes_pairs}
-use Rattle.omega_types.specs.Scope.{scope_of}
+use Rattle.omega_types.specs.Inner.Size.{nodes_pairs}
+use Rattle.omega_types.specs.Inner.Scope.{scope_of}
 use Rattle.omega_types.specs.KindIn.{all_star}
 use Rattle.omega_types.proofs.kinding.+find.Given as goal
 

@@ -1,5 +1,5 @@
 use Rattle.std.proofs.lemmas.Result.{IfOk-weaker}
-use Rattle.omega_types.specs.Scope.{scope_of}
+use Rattle.omega_types.specs.Inner.Scope.{scope_of}
 use Rattle.omega_types.proofs.KindsFound.{kind_means}
 use Rattle.omega_types.proofs.kinding.kind_of.Goals as goal
 

@@ -1,6 +1,6 @@
 use Rattle.std.proofs.Common.{◌≡◌, ◌≤◌, ◌+◌, ◌*◌, take, drop}
-use Rattle.omega_types.specs.Size.{nodes, nodes_pairs}
-use Rattle.omega_types.specs.Walk.{walked_ty}
+use Rattle.omega_types.specs.Inner.Size.{nodes, nodes_pairs}
+use Rattle.omega_types.specs.Inner.Walk.{walked_ty}
 use Rattle.omega_types.proofs.Steps.{map_parts}
 use Rattle.omega_types.proofs.walking.+walk.Given as goal
 

@@ -7,8 +7,8 @@ use Rattle.omega_types.specs.Fields.{Pairs, row}
 use Rattle.omega_terms.specs.Term.{Term}
 use Rattle.omega_terms.specs.Fields.{TermPairs, term_row}
 use Rattle.omega_write.specs.declared.trees.Piece.{Piece}
-use Rattle.omega_write.specs.Counted.{counted_row, counted_term_row}
-use Rattle.omega_write.specs.Pieces.{piece_text, pieces_text}
+use Rattle.omega_write.specs.Inner.Counted.{counted_row, counted_term_row}
+use Rattle.omega_write.specs.Inner.Pieces.{piece_text, pieces_text}
 use Rattle.omega_write.proofs.Sizes.{weight, ty_size, row_size, term_size, term_row_size}
 use Rattle.omega_write.proofs.Loops.{wrote-err, pieces-text, weight-at, ty_field_text, ty_fields-text, ty_field-size, term_field_text, term_fields-text, term_field-size}
 use Rattle.omega_write.proofs.trees.+trees.Goals as goal

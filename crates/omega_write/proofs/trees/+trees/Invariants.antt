@@ -4,7 +4,7 @@ use Rattle.fing_text.specs.Writes.{Grew}
 use Rattle.omega_kinds.specs.View.{kind_tree}
 use Rattle.omega_types.specs.Fields.{row}
 use Rattle.omega_terms.specs.Fields.{term_row}
-use Rattle.omega_write.specs.Pieces.{piece_text}
+use Rattle.omega_write.specs.Inner.Pieces.{piece_text}
 use Rattle.omega_write.proofs.Sizes.{kind_size, ty_size, row_size, term_size, term_row_size, weight, weights}
 use Rattle.omega_write.proofs.Loops.{ty_field_text, term_field_text}
 use Rattle.omega_write.proofs.trees.+trees.Given as goal

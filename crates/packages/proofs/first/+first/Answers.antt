@@ -1,5 +1,5 @@
 use Rattle.std.proofs.Common.{◌≡◌, ℕ, Option, IfOk, ap, sym, ◌∙◌, subst}
-use Rattle.semantic_sigs.specs.View.{sig_of}
+use Rattle.semantic_sigs.specs.Inner.View.{sig_of}
 use Rattle.packages.proofs.Steps.{first-barred, first-through, first-impure}
 use Rattle.packages.proofs.first.+first.Goals as goal
 

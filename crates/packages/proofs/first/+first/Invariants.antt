@@ -1,7 +1,7 @@
 use Rattle.std.proofs.Common.{◌≡◌, ◌≤◌, drop}
-use Rattle.semantic_sigs.specs.Fields.{sig_row}
-use Rattle.semantic_sigs.specs.Size.{sig_pairs_nodes}
-use Rattle.packages.specs.First.{first_row}
+use Rattle.semantic_sigs.specs.Inner.Fields.{sig_row}
+use Rattle.semantic_sigs.specs.Inner.Size.{sig_pairs_nodes}
+use Rattle.packages.specs.Inner.First.{first_row}
 use Rattle.packages.proofs.first.+first.Given as goal
 
 abbrev pub invariant-first_field-loop-field : goal.invariant-first_field-loop-field

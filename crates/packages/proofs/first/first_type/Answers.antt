@@ -1,5 +1,5 @@
 use Rattle.std.proofs.Common.{sym, ◌∙◌}
-use Rattle.sig_roots.specs.Rooted.{rooted}
+use Rattle.sig_roots.specs.Inner.Rooted.{rooted}
 use Rattle.packages.proofs.Steps.{type-found, type-taken}
 use Rattle.packages.proofs.first.first_type.Goals as goal
 

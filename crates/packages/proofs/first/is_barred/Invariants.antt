@@ -1,5 +1,5 @@
 use Rattle.std.proofs.Common.{◌≡◌, drop}
-use Rattle.packages.specs.First.{barred}
+use Rattle.packages.specs.Inner.First.{barred}
 use Rattle.packages.proofs.first.is_barred.Given as goal
 
 abbrev pub invariant-loop-place : goal.invariant-loop-place

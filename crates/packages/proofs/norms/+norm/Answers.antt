@@ -3,8 +3,8 @@ use Rattle.std.proofs.lemmas.Grind.{common_steps}
 use Rattle.std.proofs.lemmas.Result.{IfOk-weaker}
 use Rattle.omega_kinds.specs.declared.effect.Effect.TheVariants.{Pure}
 use Rattle.sig_definitions.specs.Signatures.Sig.{Sig, Abs}
-use Rattle.semantic_sigs.specs.View.{sig_of}
-use Rattle.packages.specs.Normed.{normed_sig, normed_abs}
+use Rattle.semantic_sigs.specs.Inner.View.{sig_of}
+use Rattle.packages.specs.Inner.Normed.{normed_sig, normed_abs}
 use Rattle.packages.proofs.Steps.{abs-ordered, impure-normed, pure-normed, row-normed}
 use Rattle.packages.proofs.norms.+norm.Goals as goal
 

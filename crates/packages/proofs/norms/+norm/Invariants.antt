@@ -1,7 +1,7 @@
 use Rattle.std.proofs.Common.{◌≡◌, ◌≤◌, take, drop}
-use Rattle.semantic_sigs.specs.Size.{sig_pairs_nodes}
+use Rattle.semantic_sigs.specs.Inner.Size.{sig_pairs_nodes}
 use Rattle.semantic_sigs.proofs.SigSteps.{map_sigs}
-use Rattle.packages.specs.Normed.{normed_sig}
+use Rattle.packages.specs.Inner.Normed.{normed_sig}
 use Rattle.packages.proofs.norms.+norm.Given as goal
 
 abbrev pub invariant-norm_fields-loop-field : goal.invariant-norm_fields-loop-field

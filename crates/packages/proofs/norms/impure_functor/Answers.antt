@@ -1,7 +1,7 @@
 use Rattle.std.proofs.Common.{◌≡◌}
 use Rattle.std.proofs.lemmas.Result.{IfOk-weaker}
 use Rattle.sig_definitions.specs.Signatures.Sig.{Sig}
-use Rattle.packages.specs.Normed.{functor_in_order}
+use Rattle.packages.specs.Inner.Normed.{functor_in_order}
 use Rattle.packages.proofs.Steps.{functor-ordered}
 use Rattle.packages.proofs.norms.impure_functor.Goals as goal
 

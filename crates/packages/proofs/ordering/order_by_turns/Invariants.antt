@@ -1,5 +1,5 @@
 use Rattle.std.proofs.Common.{◌≡◌, [], length}
-use Rattle.packages.specs.Turns.{turns, untaken}
+use Rattle.packages.specs.Inner.Turns.{turns, untaken}
 use Rattle.packages.proofs.ordering.order_by_turns.Given as goal
 
 abbrev pub invariant-loop-left : goal.invariant-loop-left

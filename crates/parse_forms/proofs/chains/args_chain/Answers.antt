@@ -1,10 +1,10 @@
 use Rattle.std.proofs.Common.{◌≡◌, sym, ◌∙◌, ap}
 use Rattle.std.specs.Prelude.{Some}
 use Rattle.std.specs.List.{slice_get}
-use Rattle.fing_syntax.specs.Leaves.{place}
+use Rattle.fing_syntax.specs.Inner.Leaves.{place}
 use Rattle.fing_syntax.specs.Phrase.{ExpAt, ExpApply}
 use Rattle.fing_syntax.specs.Place.{up_to as through, exp_span, arg_span}
-use Rattle.fing_syntax.specs.View.{arg_of, args as arguments_of}
+use Rattle.fing_syntax.specs.Inner.View.{arg_of, args as arguments_of}
 use Rattle.parse_forms.proofs.Chained.{arg_chained}
 use Rattle.parse_forms.proofs.chains.args_chain.Goals as goal
 

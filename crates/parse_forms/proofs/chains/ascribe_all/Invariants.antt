@@ -1,6 +1,6 @@
 use Rattle.std.proofs.Common.{◌≡◌, length, map}
 use Rattle.std.specs.Prelude.{reverse}
-use Rattle.parse_forms.specs.Part.{ascription_in}
+use Rattle.parse_forms.specs.Inner.Part.{ascription_in}
 use Rattle.parse_grammar.specs.Forms as form
 use Rattle.parse_forms.proofs.chains.ascribe_all.Given as goal
 

@@ -1,10 +1,10 @@
 use Rattle.std.proofs.Common.{◌≡◌, sym, ◌∙◌, ap}
 use Rattle.std.specs.Prelude.{Some}
 use Rattle.std.specs.List.{slice_get}
-use Rattle.fing_syntax.specs.Leaves.{place}
+use Rattle.fing_syntax.specs.Inner.Leaves.{place}
 use Rattle.fing_syntax.specs.Phrase.{ExpAt, ExpOps}
 use Rattle.fing_syntax.specs.Place.{up_to as through, exp_span}
-use Rattle.fing_syntax.specs.View.{ops as operators_of}
+use Rattle.fing_syntax.specs.Inner.View.{ops as operators_of}
 use Rattle.parse_forms.proofs.Chained.{op_chained}
 use Rattle.parse_forms.proofs.chains.ops_chain.Goals as goal
 

@@ -1,6 +1,6 @@
 use Rattle.std.proofs.Common.{◌≡◌, length, map}
 use Rattle.std.specs.Prelude.{reverse}
-use Rattle.fing_syntax.specs.Leaves.{spelled}
+use Rattle.fing_syntax.specs.Inner.Leaves.{spelled}
 use Rattle.parse_grammar.specs.Forms as form
 use Rattle.parse_forms.proofs.chains.project_all.Given as goal
 

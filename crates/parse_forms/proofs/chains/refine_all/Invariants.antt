@@ -1,6 +1,6 @@
 use Rattle.std.proofs.Common.{◌≡◌, length, map}
 use Rattle.std.specs.Prelude.{reverse}
-use Rattle.parse_forms.specs.Part.{where_in}
+use Rattle.parse_forms.specs.Inner.Part.{where_in}
 use Rattle.parse_grammar.specs.Forms as form
 use Rattle.parse_forms.proofs.chains.refine_all.Given as goal
 

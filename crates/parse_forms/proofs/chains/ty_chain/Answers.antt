@@ -1,10 +1,10 @@
 use Rattle.std.proofs.Common.{◌≡◌, sym, ◌∙◌, ap}
 use Rattle.std.specs.Prelude.{Some}
 use Rattle.std.specs.List.{slice_get}
-use Rattle.fing_syntax.specs.Leaves.{place}
+use Rattle.fing_syntax.specs.Inner.Leaves.{place}
 use Rattle.fing_syntax.specs.Phrase.{TyAt, TyApply}
 use Rattle.fing_syntax.specs.Place.{up_to as through, ty_span}
-use Rattle.fing_syntax.specs.View.{tys as tys_of}
+use Rattle.fing_syntax.specs.Inner.View.{tys as tys_of}
 use Rattle.parse_forms.proofs.Chained.{ty_applied}
 use Rattle.parse_forms.proofs.chains.ty_chain.Goals as goal
 

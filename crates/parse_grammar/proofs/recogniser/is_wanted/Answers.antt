@@ -1,5 +1,5 @@
 use Rattle.std.proofs.Common.{rules, ap, ◌∙◌, eqb}
-use Rattle.parse_grammar.specs.View.{terminal_in}
+use Rattle.parse_grammar.specs.Inner.View.{terminal_in}
 use Rattle.parse_grammar.specs.Tables.{number_of}
 use Rattle.parse_grammar.proofs.SameTerminal.{same_number}
 use Rattle.parse_grammar.proofs.recogniser.is_wanted.Goals as goal

@@ -1,6 +1,6 @@
 use Rattle.std.proofs.Common.{◌≡◌, ◌++◌, map, length}
-use Rattle.parse_grammar.specs.Steps.{wanted}
-use Rattle.parse_grammar.specs.View.{symbol_in}
+use Rattle.parse_grammar.specs.Inner.Steps.{wanted}
+use Rattle.parse_grammar.specs.Inner.View.{symbol_in}
 use Rattle.parse_grammar.proofs.recogniser.push_all.Given as goal
 
 abbrev pub invariant-push : goal.invariant-push

@@ -1,8 +1,8 @@
 use Rattle.std.proofs.Common.{◌≡◌, ◌-◌, ◌<◌, [], ◌∷◌, ◌++◌, length, sym, ◌∙◌, ap, subst, true, false, eqb-true, eq-eqb, arith}
-use Rattle.parse_grammar.specs.Moves.{pushed}
+use Rattle.parse_grammar.specs.Inner.Moves.{pushed}
 use Rattle.parse_grammar.specs.Reading.{need}
-use Rattle.parse_grammar.specs.Steps.{move_in, moves, wanted}
-use Rattle.parse_grammar.specs.View.{class_in, symbol_in}
+use Rattle.parse_grammar.specs.Inner.Steps.{move_in, moves, wanted}
+use Rattle.parse_grammar.specs.Inner.View.{class_in, symbol_in}
 use Rattle.parse_grammar.proofs.Moves.{Reached, WrongAt, at_start, on_move, move_smaller, on_stop, on_end, on_rest}
 use Rattle.parse_grammar.proofs.Stacked.{wanted_push, moves_push, no_items}
 use Rattle.parse_grammar.proofs.recogniser.recognise.Goals as goal

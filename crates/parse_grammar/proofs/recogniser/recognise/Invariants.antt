@@ -1,7 +1,7 @@
 use Rattle.std.proofs.Common.{length}
 use Rattle.parse_grammar.specs.Reading.{need}
-use Rattle.parse_grammar.specs.Steps.{moves, wanted}
-use Rattle.parse_grammar.specs.View.{class_in}
+use Rattle.parse_grammar.specs.Inner.Steps.{moves, wanted}
+use Rattle.parse_grammar.specs.Inner.View.{class_in}
 use Rattle.parse_grammar.proofs.Moves.{Reached}
 use Rattle.parse_grammar.proofs.recogniser.recognise.Given as goal
 

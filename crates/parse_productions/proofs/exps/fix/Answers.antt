@@ -1,8 +1,8 @@
 use Rattle.std.proofs.Common.{◌≡◌, refl}
 use Rattle.std.specs.Prelude.{None}
 use Rattle.parse_grammar.specs.Grammar as the
-use Rattle.parse_stack.specs.Part.{held}
-use Rattle.parse_stack.specs.Play.{played}
+use Rattle.parse_stack.specs.Inner.Part.{held}
+use Rattle.parse_stack.specs.Inner.Play.{played}
 use Rattle.parse_forms.proofs.Chained.{if_err}
 use Rattle.parse_productions.proofs.exps.fix.Goals as goal
 

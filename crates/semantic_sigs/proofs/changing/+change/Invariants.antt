@@ -1,7 +1,7 @@
 use Rattle.std.proofs.Common.{◌≡◌, ◌≤◌, take, drop}
-use Rattle.semantic_sigs.specs.Change.{change_of}
-use Rattle.semantic_sigs.specs.Changes.{sunk, sig_in}
-use Rattle.semantic_sigs.specs.Size.{sig_pairs_nodes}
+use Rattle.semantic_sigs.specs.Inner.Change.{change_of}
+use Rattle.semantic_sigs.specs.Inner.Changes.{sunk, sig_in}
+use Rattle.semantic_sigs.specs.Inner.Size.{sig_pairs_nodes}
 use Rattle.semantic_sigs.proofs.SigSteps.{map_sigs}
 use Rattle.semantic_sigs.proofs.changing.+change.Given as goal
 

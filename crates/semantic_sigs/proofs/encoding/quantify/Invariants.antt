@@ -1,6 +1,6 @@
 use Rattle.std.proofs.Common.{◌≡◌, ◌≤◌, length, map, take}
 use Rattle.omega_kinds.specs.View.{kind_tree}
-use Rattle.semantic_sigs.specs.Quantified.{quantified}
+use Rattle.semantic_sigs.specs.Inner.Quantified.{quantified}
 use Rattle.semantic_sigs.proofs.encoding.quantify.Given as goal
 
 abbrev pub invariant-loop-left : goal.invariant-loop-left

@@ -1,4 +1,4 @@
-use Rattle.semantic_sigs.specs.Entries.{entry_of}
+use Rattle.semantic_sigs.specs.Inner.Entries.{entry_of}
 use Rattle.semantic_sigs.proofs.SlotSteps.{forgotten, is-module, is-type, is-value}
 use Rattle.semantic_sigs.proofs.env.forget_entry.Goals as goal
 

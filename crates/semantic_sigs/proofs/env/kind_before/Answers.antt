@@ -1,8 +1,8 @@
 use Rattle.std.proofs.Common.{◌∷◌, ◌-◌, [], take, sym, ap, ◌∙◌}
 use Rattle.std.proofs.lemmas.Result.{IfOk-weaker}
 use Rattle.sig_definitions.specs.Env.{first_kind}
-use Rattle.semantic_sigs.specs.Entries.{entry_of}
-use Rattle.semantic_sigs.specs.Slots.{with_slots}
+use Rattle.semantic_sigs.specs.Inner.Entries.{entry_of}
+use Rattle.semantic_sigs.specs.Inner.Slots.{with_slots}
 use Rattle.semantic_sigs.proofs.FoundSteps.{before-place, first-other}
 use Rattle.semantic_sigs.proofs.env.kind_before.Goals as goal
 

@@ -1,5 +1,5 @@
 use Rattle.std.proofs.lemmas.Result.{IfOk-weaker, on_ok_weaker}
-use Rattle.semantic_sigs.specs.Entries.{entry_of}
+use Rattle.semantic_sigs.specs.Inner.Entries.{entry_of}
 use Rattle.semantic_sigs.proofs.SlotSteps.{hidden-is, is-module, is-type, is-value, noted}
 use Rattle.semantic_sigs.proofs.env.note_entry.Goals as goal
 

@@ -1,7 +1,7 @@
 use Rattle.std.proofs.Common.{◌≡◌, IfOk, sym, ap, ◌∙◌, subst}
 use Rattle.omega_types.specs.Ty.{Ty}
-use Rattle.semantic_sigs.specs.Change.{change_of}
-use Rattle.semantic_sigs.specs.Changes.{sunk, ty_in}
+use Rattle.semantic_sigs.specs.Inner.Change.{change_of}
+use Rattle.semantic_sigs.specs.Inner.Changes.{sunk, ty_in}
 use Rattle.semantic_sigs.proofs.HeadLaws.{ty-raised, ty-lowered, ty-moved}
 use Rattle.semantic_sigs.proofs.heads.change_ty.Goals as goal
 

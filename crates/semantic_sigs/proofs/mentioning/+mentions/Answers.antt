@@ -1,5 +1,5 @@
 use Rattle.std.proofs.Common.{ap, sym, ◌∙◌}
-use Rattle.semantic_sigs.specs.View.{sig_of}
+use Rattle.semantic_sigs.specs.Inner.View.{sig_of}
 use Rattle.semantic_sigs.proofs.MentionSteps.{sig-absent, abs-absent, abs-mentioned, fun-mentioned}
 use Rattle.semantic_sigs.proofs.mentioning.+mentions.Goals as goal
 

@@ -1,7 +1,7 @@
 use Rattle.std.proofs.Common.{◌↔◌, ◌≤◌, drop}
 use Rattle.sig_definitions.specs.Signatures.SigMentions.{MentionsRow}
-use Rattle.semantic_sigs.specs.Fields.{sig_row}
-use Rattle.semantic_sigs.specs.Size.{sig_pairs_nodes}
+use Rattle.semantic_sigs.specs.Inner.Fields.{sig_row}
+use Rattle.semantic_sigs.specs.Inner.Size.{sig_pairs_nodes}
 use Rattle.semantic_sigs.proofs.mentioning.+mentions.Given as goal
 
 abbrev pub invariant-fields_mention-loop-field : goal.invariant-fields_mention-loop-field

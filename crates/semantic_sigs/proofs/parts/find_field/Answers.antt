@@ -1,6 +1,6 @@
 use Rattle.std.proofs.Common.{◌+◌, ◌-◌, ◌/◌, ◌<◌, ◌≤◌, length, sym, ◌∙◌, subst, arith}
 use Rattle.sig_definitions.specs.Signatures.Sig.{HasField, NoField}
-use Rattle.semantic_sigs.specs.Fields.{SigPairs, sig_row}
+use Rattle.semantic_sigs.specs.Inner.Fields.{SigPairs, sig_row}
 use Rattle.semantic_sigs.proofs.Halving.{sought-found, sought-below, sought-above, sought-none}
 use Rattle.semantic_sigs.proofs.parts.find_field.Goals as goal
 

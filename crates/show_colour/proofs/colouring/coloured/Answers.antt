@@ -1,6 +1,6 @@
 use Rattle.std.proofs.Common.{◌≡◌, ℕ, List, [], ◌++◌, length, arith, rules, refl, sym, ap, subst, ◌∙◌}
 use Rattle.std.proofs.lemmas.List.{append_assoc, append-nil}
-use Rattle.show_colour.specs.Coloured.{IsColoured}
+use Rattle.show_colour.specs.Inner.Coloured.{IsColoured}
 use Rattle.show_colour.proofs.Parts.{none}
 use Rattle.show_colour.proofs.colouring.coloured.Goals as goal
 

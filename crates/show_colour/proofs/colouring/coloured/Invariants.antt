@@ -1,5 +1,5 @@
 use Rattle.std.proofs.Common.{◌≡◌, ◌++◌, ℕ, List, length}
-use Rattle.show_colour.specs.Coloured.{IsColoured}
+use Rattle.show_colour.specs.Inner.Coloured.{IsColoured}
 use Rattle.show_colour.proofs.colouring.coloured.Given as goal
 
 -- what is behind is shown, and the rest is ahead

@@ -1,5 +1,5 @@
 use Rattle.std.proofs.Common.{◌≡◌, ◌++◌, rules, sym, subst}
-use Rattle.show_colour.specs.Coloured.{IsColoured}
+use Rattle.show_colour.specs.Inner.Coloured.{IsColoured}
 use Rattle.show_colour.proofs.Parts.{plain}
 use Rattle.show_colour.proofs.colouring.put_piece.Goals as goal
 

@@ -1,5 +1,5 @@
 use Rattle.std.proofs.Common.{◌≡◌, ℕ, List, ◌++◌, rules, sym, ap, subst, ◌∙◌}
-use Rattle.show_colour.specs.Coloured.{IsColoured, sign}
+use Rattle.show_colour.specs.Inner.Coloured.{IsColoured, sign}
 use Rattle.show_colour.specs.declared.style.Style.TheVariants as style
 use Rattle.show_colour.proofs.Parts.{styled}
 use Rattle.show_colour.proofs.colouring.put_styled.Goals as goal

@@ -1,5 +1,5 @@
 use Rattle.std.proofs.Common.{◌≤◌, drop}
-use Rattle.semantic_sigs.specs.Size.{sig_pairs_nodes}
+use Rattle.semantic_sigs.specs.Inner.Size.{sig_pairs_nodes}
 use Rattle.show_paper.proofs.sigs.+sigs.Given as goal
 
 abbrev pub invariant-put_structure-loop-field : goal.invariant-put_structure-loop-field

@@ -1,6 +1,6 @@
 use Rattle.std.proofs.Common.{◌*◌, ◌+◌, ◌≤◌, drop}
-use Rattle.fing_syntax.specs.Size.{mod_size, bind_size, binds_size, sig_size, decl_size, decls_size, ty_size, tys_size, field_tys_size, exp_size, ops_size, args_size, field_exps_size, branches_size}
-use Rattle.fing_syntax.specs.View.{args, binds, branches, decls, field_exps, field_tys, ops, tys}
+use Rattle.fing_syntax.specs.Inner.Size.{mod_size, bind_size, binds_size, sig_size, decl_size, decls_size, ty_size, tys_size, field_tys_size, exp_size, ops_size, args_size, field_exps_size, branches_size}
+use Rattle.fing_syntax.specs.Inner.View.{args, binds, branches, decls, field_exps, field_tys, ops, tys}
 use Rattle.show_places.proofs.phrases.+look.Given as goal
 
 abbrev pub decreases-look_bind : goal.decreases-look_bind

@@ -1,5 +1,5 @@
 use Rattle.std.proofs.Common.{◌≤◌, drop}
-use Rattle.omega_terms.specs.Size.{pairs_size}
+use Rattle.omega_terms.specs.Inner.Size.{pairs_size}
 use Rattle.show_terms.proofs.terms.+terms.Given as goal
 
 abbrev pub invariant-put_fields-loop-field : goal.invariant-put_fields-loop-field

@@ -1,5 +1,5 @@
 use Rattle.std.proofs.Common.{◌≤◌, drop}
-use Rattle.omega_types.specs.Size.{nodes_pairs}
+use Rattle.omega_types.specs.Inner.Size.{nodes_pairs}
 use Rattle.show_types.proofs.types.+types.Given as goal
 
 abbrev pub invariant-put_fields-loop-field : goal.invariant-put_fields-loop-field

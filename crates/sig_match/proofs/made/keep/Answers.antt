@@ -1,5 +1,5 @@
 use Rattle.std.proofs.Common.{refl, sym, subst}
-use Rattle.sig_match.specs.Made.{AllHold}
+use Rattle.sig_match.specs.Inner.Made.{AllHold}
 use Rattle.sig_match.proofs.MadeSteps.{holds-for, hold-more}
 use Rattle.sig_match.proofs.made.keep.Goals as goal
 

@@ -2,16 +2,16 @@ use Rattle.std.proofs.Common.{◌+◌, ◌∷◌, length, map, rules, None, Ok, 
 use Rattle.std.proofs.lemmas.Result.{IfOk-weaker, err_from_is_err_and}
 use Rattle.omega_kinds.specs.View.{kind_tree}
 use Rattle.omega_kinds.specs.declared.effect.Effect.TheVariants.{Pure}
-use Rattle.semantic_sigs.specs.Fields.{SigPairs, sig_row}
-use Rattle.semantic_sigs.specs.Items.{item_of}
-use Rattle.semantic_sigs.specs.View.{sig_of, kinds_of}
+use Rattle.semantic_sigs.specs.Inner.Fields.{SigPairs, sig_row}
+use Rattle.semantic_sigs.specs.Inner.Items.{item_of}
+use Rattle.semantic_sigs.specs.Inner.View.{sig_of, kinds_of}
 use Rattle.sig_definitions.specs.Explicit.SigPath.{Item}
 use Rattle.sig_definitions.specs.Signatures.Sig.{Sig}
 use Rattle.sig_definitions.specs.Signatures.SigSize.{size, size_abs, size_row}
 use Rattle.sig_laws.proofs.Algebra.SizeLaws.{field-size, size_abs-rename}
-use Rattle.sig_match.specs.Looking.{EachLook, EachLookInto, NextSides}
-use Rattle.sig_match.specs.Outcomes.{EachSub, MaySub}
-use Rattle.sig_match.specs.Refusals.{plain_refusal}
+use Rattle.sig_match.specs.Inner.Looking.{EachLook, EachLookInto, NextSides}
+use Rattle.sig_match.specs.Inner.Outcomes.{EachSub, MaySub}
+use Rattle.sig_match.specs.Inner.Refusals.{plain_refusal}
 use Rattle.omega_types.specs.Binders.{past}
 use Rattle.sig_definitions.specs.Matching.MatchRefusal.{Effects, RefusesSub}
 use Rattle.sig_definitions.specs.Signatures.Encoding.{enc}

@@ -1,7 +1,7 @@
 use Rattle.std.proofs.Common.{◌≡◌, ◌+◌, ◌*◌, length, take}
 use Rattle.sig_definitions.specs.Signatures.SigSize.{size, size_abs, size_row}
-use Rattle.semantic_sigs.specs.Fields.{sig_row}
-use Rattle.sig_match.specs.Made.{AllHold}
+use Rattle.semantic_sigs.specs.Inner.Fields.{sig_row}
+use Rattle.sig_match.specs.Inner.Made.{AllHold}
 use Rattle.sig_match.proofs.CallSteps.{EachFirst, EachParts}
 use Rattle.sig_match.proofs.SubSteps.{Labelled}
 use Rattle.sig_match.proofs.matching.+matching.Given as goal

@@ -1,7 +1,7 @@
 use Rattle.sig_definitions.specs.Matching.MatchRefusal.{RefusesSub, Why}
 use Rattle.sig_definitions.specs.Signatures.Sig.{Sig}
 use Rattle.omega_kinds.specs.View.{kind_tree}
-use Rattle.sig_match.specs.Refusals.{plain_refusal}
+use Rattle.sig_match.specs.Inner.Refusals.{plain_refusal}
 use Rattle.sig_match.proofs.SubSteps.{clashed, clash-given, type-form, type-same, type-differs}
 use Rattle.sig_match.proofs.matching.sub_type.Goals as goal
 

@@ -1,6 +1,6 @@
 use Rattle.sig_definitions.specs.Matching.MatchRefusal.{RefusesSub, Why}
 use Rattle.sig_definitions.specs.Signatures.Sig.{Sig}
-use Rattle.sig_match.specs.Refusals.{plain_refusal}
+use Rattle.sig_match.specs.Inner.Refusals.{plain_refusal}
 use Rattle.sig_match.proofs.SubSteps.{clashed, clash-given, value-form, value-same, value-differs}
 use Rattle.sig_match.proofs.matching.sub_value.Goals as goal
 

@@ -2,7 +2,7 @@ use Rattle.std.proofs.Common.{◌≡◌, sym, subst}
 use Rattle.std.proofs.lemmas.Bool.{eqb-true}
 use Rattle.std.proofs.lemmas.Result.{IfOk-weaker}
 use Rattle.semantic_sigs.proofs.MentionSteps.{no-kinds}
-use Rattle.sig_match.specs.Put.{filled, EachPut}
+use Rattle.sig_match.specs.Inner.Put.{filled, EachPut}
 use Rattle.sig_match.proofs.PutSteps.{put-nothing}
 use Rattle.sig_match.proofs.putting.at_found.Goals as goal
 

@@ -1,6 +1,6 @@
 use Rattle.std.proofs.Common.{subst}
 use Rattle.std.proofs.lemmas.Result.{IfOk-weaker}
-use Rattle.semantic_sigs.specs.View.{kinds_of, body_of}
+use Rattle.semantic_sigs.specs.Inner.View.{kinds_of, body_of}
 use Rattle.sig_match.proofs.PutSteps.{InstAt, put-at, put-size}
 use Rattle.sig_match.proofs.putting.at_types.Goals as goal
 

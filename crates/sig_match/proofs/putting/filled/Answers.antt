@@ -1,5 +1,5 @@
 use Rattle.std.proofs.Common.{ap, ◌∙◌}
-use Rattle.sig_match.specs.Put.{filled}
+use Rattle.sig_match.specs.Inner.Put.{filled}
 use Rattle.sig_match.proofs.PutSteps.{filled-more, filled-whole}
 use Rattle.sig_match.proofs.putting.filled.Goals as goal
 

@@ -4,11 +4,11 @@ use Rattle.omega_types.specs.Index.{bump}
 use Rattle.semantic_sigs.specs.declared.tree.Abs.{Abs as CodeAbs}
 use Rattle.semantic_sigs.specs.declared.tree.SigNode.{SigNode}
 use Rattle.semantic_sigs.specs.declared.tree.SigNode.TheVariants as node
-use Rattle.semantic_sigs.specs.View.{sig_of}
+use Rattle.semantic_sigs.specs.Inner.View.{sig_of}
 use Rattle.sig_definitions.specs.Signatures.Sig.{Sig, Abs}
 use Rattle.sig_definitions.specs.Signatures.SigSize.{size_abs}
 use Rattle.sig_definitions.specs.Signatures.SigSubst.{rename_abs}
-use Rattle.sig_match.specs.Put.{EachPutUnder}
+use Rattle.sig_match.specs.Inner.Put.{EachPutUnder}
 use Rattle.sig_match.proofs.PutSteps.{held-by, result-put, result-held, result-size}
 use Rattle.sig_match.proofs.putting.result_at.Goals as goal
 

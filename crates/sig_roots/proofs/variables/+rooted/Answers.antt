@@ -1,6 +1,6 @@
 use Rattle.std.proofs.Common.{◌≡◌, ℕ, Option, IfOk, ap, sym, ◌∙◌, subst, arith}
 use Rattle.omega_kinds.specs.View.{kind_tree}
-use Rattle.omega_types.specs.View.{ty_of}
+use Rattle.omega_types.specs.Inner.View.{ty_of}
 use Rattle.sig_roots.proofs.RootedLaws.{lam-step, apply-step}
 use Rattle.sig_roots.proofs.variables.+rooted.Goals as goal
 

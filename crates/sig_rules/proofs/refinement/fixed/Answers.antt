@@ -1,7 +1,7 @@
 use Rattle.std.proofs.Common.{◌≡◌, ◌+◌, ◌-◌, length, take, drop, refl, arith}
 use Rattle.std.proofs.lemmas.Result.{IfOk-weaker}
 use Rattle.sig_definitions.specs.Signatures.Sig.{Abs}
-use Rattle.sig_rules.specs.Hidden.{Fixed}
+use Rattle.sig_rules.specs.Inner.Hidden.{Fixed}
 use Rattle.sig_rules.proofs.Fixing.{fixed-found}
 use Rattle.sig_rules.proofs.Lists.{tail-slice}
 use Rattle.sig_rules.proofs.refinement.fixed.Goals as goal

@@ -1,6 +1,6 @@
 use Rattle.std.proofs.Common.{ℕ, ◌<◌, map}
 use Rattle.omega_kinds.specs.View.{kind_tree}
-use Rattle.sig_rules.specs.Hidden.{IsOwn}
+use Rattle.sig_rules.specs.Inner.Hidden.{IsOwn}
 use Rattle.sig_rules.proofs.refinement.own_place.Given as goal
 
 abbrev pub invariant-loop-place : goal.invariant-loop-place

@@ -4,7 +4,7 @@ use Rattle.omega_kinds.specs.View.{kind_tree}
 use Rattle.omega_types.specs.Binders.{vars}
 use Rattle.omega_types.specs.Index.{shift}
 use Rattle.sig_definitions.specs.Signatures.Sig.{Sig}
-use Rattle.sig_rules.specs.Hidden.{PutFirst}
+use Rattle.sig_rules.specs.Inner.Hidden.{PutFirst}
 use Rattle.sig_rules.proofs.Putting.{put-first-by}
 use Rattle.sig_rules.proofs.Lists.{tail-slice}
 use Rattle.sig_rules.proofs.refinement.put_first.Goals as goal

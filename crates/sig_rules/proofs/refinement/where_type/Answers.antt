@@ -1,7 +1,7 @@
 use Rattle.std.proofs.Common.{◌<◌, length, map, sym, ◌∙◌}
 use Rattle.std.proofs.lemmas.Bool.{false≢true}
 use Rattle.omega_kinds.specs.View.{kind_tree}
-use Rattle.sig_rules.specs.Hidden.{IsOwn, NotOwn}
+use Rattle.sig_rules.specs.Inner.Hidden.{IsOwn, NotOwn}
 use Rattle.sig_rules.proofs.Fixing.{kind-refuses, kind_at-shared, leaves-refuses, mapped, not_own-refuses, refined-by, when-none, when-some}
 use Rattle.sig_rules.proofs.refinement.where_type.Goals as goal
 

@@ -3,7 +3,7 @@ use Rattle.std.proofs.lemmas.Result.{IfOk-weaker}
 use Rattle.omega_kinds.specs.Kind.{Kind}
 use Rattle.sig_definitions.specs.Signatures.Sig.{Abs, Sig, SigRow}
 use Rattle.sig_judgments.specs.SigRules.{DeclarationsGive}
-use Rattle.sig_rules.specs.Plain.{AreApart}
+use Rattle.sig_rules.specs.Inner.Plain.{AreApart}
 use Rattle.sig_rules.proofs.Merging.{sequence-given}
 use Rattle.sig_rules.proofs.sequences.seq_decl.Goals as goal
 

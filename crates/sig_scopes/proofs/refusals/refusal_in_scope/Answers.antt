@@ -1,6 +1,6 @@
 use Rattle.std.proofs.Common.{arith}
-use Rattle.fing_syntax.specs.Leaves.{place}
-use Rattle.fing_refusals.specs.Plain.{plain_reason}
+use Rattle.fing_syntax.specs.Inner.Leaves.{place}
+use Rattle.fing_refusals.specs.Inner.Plain.{plain_reason}
 use Rattle.sig_scopes.proofs.SigScopes.{line-tells, line-told}
 use Rattle.sig_scopes.proofs.refusals.refusal_in_scope.Goals as goal
 

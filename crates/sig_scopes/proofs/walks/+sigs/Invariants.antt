@@ -1,7 +1,7 @@
 use Rattle.std.proofs.Common.{◌≡◌, ◌≤◌, drop}
-use Rattle.semantic_sigs.specs.Fields.{sig_row}
-use Rattle.semantic_sigs.specs.Size.{sig_pairs_nodes}
-use Rattle.sig_scopes.specs.SigScoped.{sig_row_scoped}
+use Rattle.semantic_sigs.specs.Inner.Fields.{sig_row}
+use Rattle.semantic_sigs.specs.Inner.Size.{sig_pairs_nodes}
+use Rattle.sig_scopes.specs.Inner.SigScoped.{sig_row_scoped}
 use Rattle.sig_scopes.proofs.walks.+sigs.Given as goal
 
 abbrev pub invariant-fits_fields-loop-field : goal.invariant-fits_fields-loop-field

@@ -3,12 +3,12 @@ use Rattle.fing_text.specs.Writes.{Grew, Broke}
 use Rattle.fing_text.proofs.InARow.{broke-next, grew-all}
 use Rattle.omega_kinds.specs.Name.{Name}
 use Rattle.sig_definitions.specs.Signatures.Sig.{Sig}
-use Rattle.semantic_sigs.specs.Fields.{SigPairs, sig_row}
-use Rattle.semantic_sigs.specs.Size.{sig_nodes, sig_row_nodes}
+use Rattle.semantic_sigs.specs.Inner.Fields.{SigPairs, sig_row}
+use Rattle.semantic_sigs.specs.Inner.Size.{sig_nodes, sig_row_nodes}
 use Rattle.omega_write.proofs.Loops.{wrote-err}
 use Rattle.sig_text.specs.declared.trees.Piece.{Piece}
-use Rattle.sig_text.specs.Pieces.{piece_text, pieces_text, PieceInScope}
-use Rattle.sig_text.specs.SigInScope.{SigInScope, SigRowInScope}
+use Rattle.sig_text.specs.Inner.Pieces.{piece_text, pieces_text, PieceInScope}
+use Rattle.sig_text.specs.Inner.SigInScope.{SigInScope, SigRowInScope}
 use Rattle.sig_text.specs.SigText.{sig_row_text}
 use Rattle.sig_text.proofs.Loops.{pieces-text, weight, weight-at, scope-at, pair_text, fields-text, field-size, field-scope}
 use Rattle.sig_text.proofs.trees.+sigs.Goals as goal

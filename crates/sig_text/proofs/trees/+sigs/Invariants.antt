@@ -1,9 +1,9 @@
 use Rattle.std.proofs.Common.{◌*◌, ◌+◌, take}
 use Rattle.std.specs.Prelude.{flat_map}
 use Rattle.fing_text.specs.Writes.{Grew}
-use Rattle.semantic_sigs.specs.Fields.{sig_row}
-use Rattle.semantic_sigs.specs.Size.{sig_nodes, abs_nodes, sig_row_nodes}
-use Rattle.sig_text.specs.Pieces.{piece_text}
+use Rattle.semantic_sigs.specs.Inner.Fields.{sig_row}
+use Rattle.semantic_sigs.specs.Inner.Size.{sig_nodes, abs_nodes, sig_row_nodes}
+use Rattle.sig_text.specs.Inner.Pieces.{piece_text}
 use Rattle.sig_text.proofs.Loops.{weight, weights, pair_text}
 use Rattle.sig_text.proofs.trees.+sigs.Given as goal
 

@@ -1,6 +1,6 @@
 use Rattle.std.proofs.Common.{◌≡◌, ◌↔◌, ◌≤◌, drop}
 use Rattle.omega_types.specs.Fields.{row}
-use Rattle.omega_types.specs.Size.{nodes_pairs}
+use Rattle.omega_types.specs.Inner.Size.{nodes_pairs}
 use Rattle.type_normal.proofs.comparing.+same.Given as goal
 
 abbrev pub invariant-same_fields-loop-i : goal.invariant-same_fields-loop-i

@@ -2,8 +2,8 @@ use Rattle.std.proofs.Common.{sym, ap, ◌∙◌, arith}
 use Rattle.std.proofs.lemmas.Grind.{common_steps}
 use Rattle.omega_kinds.specs.View.{kind_tree}
 use Rattle.omega_types.specs.Index.{shift}
-use Rattle.omega_types.specs.View.{ty_of}
-use Rattle.type_normal.specs.Filled.{part_of}
+use Rattle.omega_types.specs.Inner.View.{ty_of}
+use Rattle.type_normal.specs.Inner.Filled.{part_of}
 use Rattle.type_normal.proofs.Calls.{apply-falls, body-falls, calls-under}
 use Rattle.type_normal.proofs.FillSteps.{row-put_in}
 use Rattle.type_normal.proofs.filling.+fill.Goals as goal

@@ -4,7 +4,7 @@ use Rattle.omega_types.specs.Fields.{row}
 use Rattle.omega_types.specs.Index.{shift}
 use Rattle.omega_types.specs.Normaliser.{hsubst}
 use Rattle.omega_types.proofs.Steps.{map_parts}
-use Rattle.type_normal.specs.Filled.{part_of}
+use Rattle.type_normal.specs.Inner.Filled.{part_of}
 use Rattle.type_normal.proofs.Calls.{calls, row_calls, under_calls, operator_calls}
 use Rattle.type_normal.proofs.filling.+fill.Given as goal
 

@@ -1,5 +1,5 @@
 use Rattle.std.proofs.Common.{ap, ◌∙◌}
-use Rattle.type_normal.specs.Lifted.{lower_from}
+use Rattle.type_normal.specs.Inner.Lifted.{lower_from}
 use Rattle.type_normal.proofs.LiftedSteps.{walk-lowers}
 use Rattle.type_normal.proofs.lowering.lower_from.Goals as goal
 

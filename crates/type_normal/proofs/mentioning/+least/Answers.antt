@@ -1,6 +1,6 @@
 use Rattle.std.proofs.Common.{sym, ap, ◌∙◌}
 use Rattle.omega_types.specs.Fields.{row}
-use Rattle.type_normal.specs.Least.{least_row}
+use Rattle.type_normal.specs.Inner.Least.{least_row}
 use Rattle.type_normal.proofs.LeastSteps.{lesser-first}
 use Rattle.type_normal.proofs.mentioning.+least.Goals as goal
 

@@ -1,7 +1,7 @@
 use Rattle.std.proofs.Common.{◌≡◌, ◌≤◌, ◌+◌, ◌*◌, drop}
 use Rattle.omega_types.specs.Fields.{row}
-use Rattle.omega_types.specs.Size.{nodes, nodes_pairs}
-use Rattle.type_normal.specs.Least.{lesser, least_row}
+use Rattle.omega_types.specs.Inner.Size.{nodes, nodes_pairs}
+use Rattle.type_normal.specs.Inner.Least.{lesser, least_row}
 use Rattle.type_normal.proofs.mentioning.+least.Given as goal
 
 abbrev pub decreases-least_in_ty : goal.decreases-least_in_ty

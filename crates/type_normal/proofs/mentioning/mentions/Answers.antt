@@ -1,5 +1,5 @@
 use Rattle.std.proofs.Common.{ap, ◌∙◌}
-use Rattle.type_normal.specs.Least.{is_first}
+use Rattle.type_normal.specs.Inner.Least.{is_first}
 use Rattle.type_normal.proofs.Claims.{mentions-free, mentions-avoidable}
 use Rattle.type_normal.proofs.mentioning.mentions.Goals as goal
 

@@ -1,7 +1,7 @@
 use Rattle.std.proofs.Common.{arith}
 use Rattle.std.proofs.lemmas.Grind.{common_steps}
 use Rattle.omega_types.specs.Normaliser.{normal}
-use Rattle.omega_types.specs.Scope.{scope_of}
+use Rattle.omega_types.specs.Inner.Scope.{scope_of}
 use Rattle.type_normal.proofs.NormalSteps.{may_follow-there, row-normal}
 use Rattle.type_normal.proofs.normalising.+normalise.Goals as goal
 

@@ -1,7 +1,7 @@
 use Rattle.std.proofs.Common.{◌≡◌, ◌≤◌, take, drop}
 use Rattle.omega_types.specs.Normaliser.{normal}
-use Rattle.omega_types.specs.Scope.{scope_of}
-use Rattle.omega_types.specs.Size.{nodes_pairs}
+use Rattle.omega_types.specs.Inner.Scope.{scope_of}
+use Rattle.omega_types.specs.Inner.Size.{nodes_pairs}
 use Rattle.omega_types.proofs.Steps.{map_parts}
 use Rattle.type_normal.proofs.normalising.+normalise.Given as goal
 

@@ -1,7 +1,7 @@
 use Rattle.std.proofs.Common.{ap, ◌∙◌}
 use Rattle.omega_kinds.specs.View.{kind_tree}
 use Rattle.omega_types.specs.Normaliser.{normal}
-use Rattle.omega_types.specs.Scope.{scope_of}
+use Rattle.omega_types.specs.Inner.Scope.{scope_of}
 use Rattle.type_normal.proofs.Claims.{normal-form}
 use Rattle.type_normal.proofs.normalising.normal.Goals as goal
 

@@ -1,7 +1,7 @@
 use Rattle.std.proofs.Common.{◌≡◌, ◌≤◌, ◌+◌, ◌*◌, take, drop}
-use Rattle.omega_types.specs.Size.{nodes, nodes_pairs}
+use Rattle.omega_types.specs.Inner.Size.{nodes, nodes_pairs}
 use Rattle.omega_types.proofs.Steps.{map_parts}
-use Rattle.type_normal.specs.Heads.{putting, sunk, ty_in}
+use Rattle.type_normal.specs.Inner.Heads.{putting, sunk, ty_in}
 use Rattle.type_normal.proofs.putting.+put.Given as goal
 
 abbrev pub decreases-put_head : goal.decreases-put_head

@@ -1,5 +1,5 @@
 use Rattle.std.proofs.Common.{ap, ◌∙◌}
-use Rattle.type_normal.specs.Heads.{putting, sunk, ty_in}
+use Rattle.type_normal.specs.Inner.Heads.{putting, sunk, ty_in}
 use Rattle.type_normal.proofs.HeadLaws.{ty-put}
 use Rattle.type_normal.proofs.putting.put_types.Goals as goal
 

@@ -1,7 +1,7 @@
 use Rattle.std.proofs.Common.{◌≡◌, IfOk, ◌-◌, length, refl, ap, ◌∙◌, subst}
 use Rattle.omega_types.specs.Index.{shift}
-use Rattle.type_normal.specs.Placed.{head_of}
-use Rattle.type_normal.specs.Heads.{Head, came}
+use Rattle.type_normal.specs.Inner.Placed.{head_of}
+use Rattle.type_normal.specs.Inner.Heads.{Head, came}
 use Rattle.type_normal.proofs.HeadSteps.{put-outside, put-inside}
 use Rattle.type_normal.proofs.putting.put_var.Goals as goal
 

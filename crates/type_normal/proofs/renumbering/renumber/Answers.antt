@@ -1,5 +1,5 @@
 use Rattle.std.proofs.Common.{ap, ◌∙◌}
-use Rattle.type_normal.specs.Lifted.{renumbered}
+use Rattle.type_normal.specs.Inner.Lifted.{renumbered}
 use Rattle.type_normal.proofs.LiftedSteps.{walk-moves}
 use Rattle.type_normal.proofs.renumbering.renumber.Goals as goal
 

@@ -1,7 +1,7 @@
 use Rattle.std.proofs.Common.{sym, ap₂, ◌∙◌}
 use Rattle.type_store.specs.Shape.{parts_eq, shape_eq}
-use Rattle.type_store.specs.ShapeLaws.{parts_test-is}
-use Rattle.type_store.specs.View.{shape_of}
+use Rattle.type_store.specs.Inner.ShapeLaws.{parts_test-is}
+use Rattle.type_store.specs.Inner.View.{shape_of}
 use Rattle.type_store.proofs.node.same_form.Goals as goal
 
 pub returns-in-Fields-Fields : goal.returns-in-Fields-Fields

@@ -1,5 +1,5 @@
 use Rattle.std.proofs.Common.{map, reverse, ap}
-use Rattle.omega_checker.specs.Vars.{type_under, types_of}
+use Rattle.omega_checker.specs.Inner.Vars.{type_under, types_of}
 use Rattle.omega_checker.proofs.vars.Vars.new.Goals as goal
 
 pub returns : goal.returns

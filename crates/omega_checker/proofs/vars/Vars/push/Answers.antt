@@ -1,5 +1,5 @@
 use Rattle.std.proofs.Common.{ap, ◌∙◌}
-use Rattle.omega_checker.specs.Vars.{types_of}
+use Rattle.omega_checker.specs.Inner.Vars.{types_of}
 use Rattle.omega_checker.proofs.VarSteps.{pushed, types-var}
 use Rattle.omega_checker.proofs.vars.Vars.push.Goals as goal
 

@@ -1,6 +1,6 @@
 use Rattle.std.proofs.Common.{◌≡◌, ◌↔◌, IsTrue, Bool, sym, subst, ap, ◌∙◌}
 use Rattle.omega_terms.specs.Steps.{IsValue}
-use Rattle.omega_terms.specs.ValueTest.{value_test}
+use Rattle.omega_terms.specs.Inner.ValueTest.{value_test}
 use Rattle.omega_terms.specs.declared.tree.Made.{Made}
 use Rattle.omega_terms.proofs.ValueTests.{test-exact}
 use Rattle.omega_terms.proofs.tree.Term.is_value.Goals as goal

@@ -1,5 +1,5 @@
 use Rattle.std.proofs.Common.{◌≡◌, max, drop}
-use Rattle.omega_terms.specs.Bound.{row_term_bound}
+use Rattle.omega_terms.specs.Inner.Bound.{row_term_bound}
 use Rattle.omega_terms.specs.Fields.{term_row}
 use Rattle.omega_terms.proofs.tree.TermFields.term_bound.Given as goal
 

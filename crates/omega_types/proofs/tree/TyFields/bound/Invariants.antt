@@ -1,5 +1,5 @@
 use Rattle.std.proofs.Common.{◌≡◌, max, drop}
-use Rattle.omega_types.specs.Bound.{bound_row}
+use Rattle.omega_types.specs.Inner.Bound.{bound_row}
 use Rattle.omega_types.specs.Fields.{row}
 use Rattle.omega_types.proofs.tree.TyFields.bound.Given as goal
 

@@ -1,6 +1,6 @@
 use Rattle.std.proofs.Common.{◌≡◌, map, take}
 use Rattle.omega_kinds.specs.View.{kind_tree}
-use Rattle.packages.specs.Turns.{untaken}
+use Rattle.packages.specs.Inner.Turns.{untaken}
 use Rattle.packages.proofs.ordering.Order.new.Given as goal
 
 abbrev pub invariant-loop-kind : goal.invariant-loop-kind

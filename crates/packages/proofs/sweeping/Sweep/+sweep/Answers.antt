@@ -1,9 +1,9 @@
 use Rattle.std.proofs.Common.{Bool, IsTrue, sym, ap, subst, ◌∙◌}
 use Rattle.std.proofs.lemmas.Result.{IfOk-weaker}
-use Rattle.semantic_sigs.specs.View.{sig_of}
-use Rattle.semantic_sigs.specs.Fields.{SigPairs, sig_row}
-use Rattle.packages.specs.First.{barred, first, first_row}
-use Rattle.packages.specs.Swept.{Sweeps}
+use Rattle.semantic_sigs.specs.Inner.View.{sig_of}
+use Rattle.semantic_sigs.specs.Inner.Fields.{SigPairs, sig_row}
+use Rattle.packages.specs.Inner.First.{barred, first, first_row}
+use Rattle.packages.specs.Inner.Swept.{Sweeps}
 use Rattle.packages.proofs.SweepLaws.{sweeps-typ, sweeps-str, sweeps-val, sweeps-meta, sweeps-impure, sweeps-pure, came-last}
 use Rattle.packages.proofs.sweeping.Sweep.+sweep.Goals as goal
 

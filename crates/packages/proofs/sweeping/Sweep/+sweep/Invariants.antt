@@ -1,5 +1,5 @@
 use Rattle.std.proofs.Common.{◌≡◌, ◌≤◌, drop, length}
-use Rattle.semantic_sigs.specs.Size.{sig_pairs_nodes}
+use Rattle.semantic_sigs.specs.Inner.Size.{sig_pairs_nodes}
 use Rattle.packages.proofs.SweepLaws.{CameTo}
 use Rattle.packages.proofs.sweeping.Sweep.+sweep.Given as goal
 

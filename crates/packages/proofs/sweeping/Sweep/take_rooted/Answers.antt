@@ -1,5 +1,5 @@
 use Rattle.std.proofs.Common.{sym, ◌∙◌, ap}
-use Rattle.packages.specs.First.{first_type}
+use Rattle.packages.specs.Inner.First.{first_type}
 use Rattle.packages.proofs.SweepLaws.{sweeps-rootless, sweeps-next, took-within, on-both}
 use Rattle.packages.proofs.sweeping.Sweep.take_rooted.Goals as goal
 

@@ -1,8 +1,8 @@
 use Rattle.std.proofs.Common.{rules, ◌+◌, ◌-◌, ◌<◌, ◌≤◌, [], get_or, length, take, sym, ap, ap₂, ◌∙◌, subst}
 use Rattle.std.proofs.lemmas.Result.{IfOk-weaker}
 use Rattle.sig_definitions.specs.Env.{find}
-use Rattle.semantic_sigs.specs.Entries.{here_first, seen}
-use Rattle.semantic_sigs.specs.Slots.{with_slots}
+use Rattle.semantic_sigs.specs.Inner.Entries.{here_first, seen}
+use Rattle.semantic_sigs.specs.Inner.Slots.{with_slots}
 use Rattle.semantic_sigs.proofs.FoundSteps.{find-missing, find-there, place-inside, terms-inside, types-inside}
 use Rattle.semantic_sigs.proofs.env.Env.find.Goals as goal
 

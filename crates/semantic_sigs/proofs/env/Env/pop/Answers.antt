@@ -1,5 +1,5 @@
 use Rattle.std.proofs.Common.{◌≤◌, ◌-◌, [], sym, ap, ◌∙◌, subst}
-use Rattle.semantic_sigs.specs.Slots.{with_slots}
+use Rattle.semantic_sigs.specs.Inner.Slots.{with_slots}
 use Rattle.semantic_sigs.proofs.SlotSteps.{popped, terms-left, with-last}
 use Rattle.semantic_sigs.proofs.env.Env.pop.Goals as goal
 

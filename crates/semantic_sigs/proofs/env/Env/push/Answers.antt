@@ -1,6 +1,6 @@
 use Rattle.std.proofs.Common.{◌+◌, [], ◌∷◌, ◌++◌, length, sym, ap, ◌∙◌}
-use Rattle.semantic_sigs.specs.Entries.{entry_of}
-use Rattle.semantic_sigs.specs.Slots.{with_slots}
+use Rattle.semantic_sigs.specs.Inner.Entries.{entry_of}
+use Rattle.semantic_sigs.specs.Inner.Slots.{with_slots}
 use Rattle.semantic_sigs.specs.declared.env.Slot.{Slot}
 use Rattle.semantic_sigs.proofs.SlotSteps.{pushed, with-last}
 use Rattle.semantic_sigs.proofs.env.Env.push.Goals as goal

@@ -1,6 +1,6 @@
 use Rattle.std.proofs.Common.{◌≡◌, max, drop}
-use Rattle.semantic_sigs.specs.Bound.{bound_sig_row}
-use Rattle.semantic_sigs.specs.Fields.{sig_row}
+use Rattle.semantic_sigs.specs.Inner.Bound.{bound_sig_row}
+use Rattle.semantic_sigs.specs.Inner.Fields.{sig_row}
 use Rattle.semantic_sigs.proofs.tree.SigFields.bound.Given as goal
 
 abbrev pub invariant-loop-field : goal.invariant-loop-field

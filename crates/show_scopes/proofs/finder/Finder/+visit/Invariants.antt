@@ -1,5 +1,5 @@
 use Rattle.std.proofs.Common.{◌≤◌, drop}
-use Rattle.semantic_sigs.specs.Size.{sig_pairs_nodes}
+use Rattle.semantic_sigs.specs.Inner.Size.{sig_pairs_nodes}
 use Rattle.show_scopes.proofs.finder.Finder.+visit.Given as goal
 
 abbrev pub invariant-visit_fields-loop-field : goal.invariant-visit_fields-loop-field

@@ -1,4 +1,4 @@
-use Rattle.semantic_sigs.specs.Changes.{putting}
+use Rattle.semantic_sigs.specs.Inner.Changes.{putting}
 use Rattle.sig_instances.proofs.InstanceSteps.{walk-closed}
 use Rattle.sig_instances.proofs.instances.FillingChange.is_unchanged.Goals as goal
 

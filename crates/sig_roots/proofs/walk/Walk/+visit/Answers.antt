@@ -2,8 +2,8 @@ use Rattle.std.proofs.Common.{◌≡◌, ◌-◌, length, map, take, inl, inr, r
 use Rattle.std.proofs.lemmas.Grind.{common_steps}
 use Rattle.sig_definitions.specs.Explicit.SigPath.{Item}
 use Rattle.sig_definitions.specs.Signatures.Sig.{Sig}
-use Rattle.semantic_sigs.specs.Items.{item_of}
-use Rattle.semantic_sigs.specs.View.{sig_of}
+use Rattle.semantic_sigs.specs.Inner.Items.{item_of}
+use Rattle.semantic_sigs.specs.Inner.View.{sig_of}
 use Rattle.semantic_sigs.specs.declared.path.Item.TheVariants as step
 use Rattle.sig_roots.proofs.WalkLaws.{sig-none, fields-step, fields-end, result-step}
 use Rattle.sig_roots.proofs.walk.Walk.+visit.Goals as goal

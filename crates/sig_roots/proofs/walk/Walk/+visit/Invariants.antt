@@ -1,8 +1,8 @@
 use Rattle.std.proofs.Common.{◌≡◌, ◌≤◌, map, drop}
-use Rattle.semantic_sigs.specs.Fields.{sig_row}
-use Rattle.semantic_sigs.specs.Items.{item_of}
-use Rattle.semantic_sigs.specs.Size.{sig_pairs_nodes}
-use Rattle.sig_roots.specs.Seek.{seek_row}
+use Rattle.semantic_sigs.specs.Inner.Fields.{sig_row}
+use Rattle.semantic_sigs.specs.Inner.Items.{item_of}
+use Rattle.semantic_sigs.specs.Inner.Size.{sig_pairs_nodes}
+use Rattle.sig_roots.specs.Inner.Seek.{seek_row}
 use Rattle.sig_roots.proofs.WalkLaws.{gone}
 use Rattle.sig_roots.proofs.walk.Walk.+visit.Given as goal
 

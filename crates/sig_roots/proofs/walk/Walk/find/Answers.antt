@@ -1,6 +1,6 @@
 use Rattle.std.proofs.Common.{Some, map, set, ap, ◌∙◌}
 use Rattle.sig_definitions.specs.Explicit.SigPath.{SigPath}
-use Rattle.semantic_sigs.specs.Items.{item_of}
+use Rattle.semantic_sigs.specs.Inner.Items.{item_of}
 use Rattle.sig_roots.proofs.MergeLaws.{find-put, find-kept}
 use Rattle.sig_roots.proofs.walk.Walk.find.Goals as goal
 

@@ -1,6 +1,6 @@
 use Rattle.std.proofs.Common.{map, refl, sym, ◌∙◌}
-use Rattle.semantic_sigs.specs.Items.{item_of}
-use Rattle.sig_roots.specs.Rooted.{rooted}
+use Rattle.semantic_sigs.specs.Inner.Items.{item_of}
+use Rattle.sig_roots.specs.Inner.Rooted.{rooted}
 use Rattle.sig_roots.proofs.WalkLaws.{type-barred, type-none}
 use Rattle.sig_roots.proofs.walk.Walk.visit_type.Goals as goal
 

@@ -1,5 +1,5 @@
 use Rattle.std.proofs.Common.{◌≡◌, map, take}
-use Rattle.semantic_sigs.specs.Items.{item_of}
+use Rattle.semantic_sigs.specs.Inner.Items.{item_of}
 use Rattle.sig_roots.proofs.walk.Walk.way.Given as goal
 
 abbrev pub invariant-loop-item : goal.invariant-loop-item

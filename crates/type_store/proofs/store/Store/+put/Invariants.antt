@@ -1,6 +1,6 @@
 use Rattle.std.proofs.Common.{◌≤◌, ◌+◌, ◌*◌, take, drop}
 use Rattle.omega_types.specs.Fields.{row}
-use Rattle.omega_types.specs.Size.{nodes, nodes_pairs}
+use Rattle.omega_types.specs.Inner.Size.{nodes, nodes_pairs}
 use Rattle.type_store.specs.Trees.{Begins, MakesParts}
 use Rattle.type_store.proofs.store.Store.+put.Given as goal
 

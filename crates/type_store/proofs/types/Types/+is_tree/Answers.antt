@@ -1,11 +1,11 @@
 use Rattle.std.proofs.Common.{◌≡◌, ◌<◌, length, arith, sym, ap, subst, ◌∙◌}
 use Rattle.omega_types.specs.Fields.{row}
-use Rattle.omega_types.specs.Size.{nodes}
+use Rattle.omega_types.specs.Inner.Size.{nodes}
 use Rattle.omega_types.specs.Ty.{Ty}
-use Rattle.omega_types.specs.View.{ty_of}
+use Rattle.omega_types.specs.Inner.View.{ty_of}
 use Rattle.type_store.specs.Shape.{Shape}
 use Rattle.type_store.specs.Trees.{ArePartsBelow, IsBelow}
-use Rattle.type_store.specs.View.{shape_of}
+use Rattle.type_store.specs.Inner.View.{shape_of}
 use Rattle.type_store.proofs.PartSteps.{all-same, field-smaller, must-be, row_at-length, same-step}
 use Rattle.type_store.proofs.StoreSteps.{smaller}
 use Rattle.type_store.proofs.TreeLaws.{part_below, parts_below-more}

@@ -1,6 +1,6 @@
 use Rattle.std.proofs.Common.{◌≡◌, ◌↔◌, ◌≤◌, drop}
 use Rattle.omega_types.specs.Fields.{row}
-use Rattle.omega_types.specs.Size.{nodes, nodes_pairs}
+use Rattle.omega_types.specs.Inner.Size.{nodes, nodes_pairs}
 use Rattle.type_store.specs.Trees.{row_at}
 use Rattle.type_store.proofs.types.Types.+is_tree.Given as goal
 

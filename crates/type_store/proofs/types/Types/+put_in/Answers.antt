@@ -2,10 +2,10 @@ use Rattle.std.proofs.Common.{◌≡◌, arith, sym, ap, subst, ◌∙◌}
 use Rattle.std.proofs.lemmas.Result.{IfOk-weaker}
 use Rattle.omega_kinds.specs.View.{kind_tree}
 use Rattle.omega_types.specs.Ty.{Ty}
-use Rattle.type_store.specs.Memo.{filled}
+use Rattle.type_store.specs.Inner.Memo.{filled}
 use Rattle.type_store.specs.Shape.{Shape}
 use Rattle.type_store.specs.Trees.{IsBelow, at, tree_at}
-use Rattle.type_store.specs.View.{shape_of}
+use Rattle.type_store.specs.Inner.View.{shape_of}
 use Rattle.type_store.proofs.FillSteps.{filled_all, filled_apply, filled_arrow, filled_ex, filled_lam, filled_mu, row-filled, same_arg}
 use Rattle.type_store.proofs.MapSteps.{part_step, parts_end}
 use Rattle.type_store.proofs.TreeLaws.{begins-length, part_below}

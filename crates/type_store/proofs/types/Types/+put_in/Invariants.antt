@@ -1,6 +1,6 @@
 use Rattle.std.proofs.Common.{◌+◌, ◌*◌, take}
 use Rattle.omega_types.specs.Fields.{row}
-use Rattle.type_store.specs.Memo.{filled}
+use Rattle.type_store.specs.Inner.Memo.{filled}
 use Rattle.type_store.specs.Trees.{Begins, MakesParts, at}
 use Rattle.type_store.proofs.MapSteps.{mapped_pairs}
 use Rattle.type_store.proofs.types.Types.+put_in.Given as goal

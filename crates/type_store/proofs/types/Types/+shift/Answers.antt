@@ -4,7 +4,7 @@ use Rattle.omega_kinds.specs.View.{kind_tree}
 use Rattle.omega_types.specs.Index.{shift}
 use Rattle.omega_types.specs.Ty.{Ty}
 use Rattle.type_store.specs.Trees.{at, tree_at}
-use Rattle.type_store.specs.View.{shape_of}
+use Rattle.type_store.specs.Inner.View.{shape_of}
 use Rattle.type_store.proofs.TreeLaws.{begins-length, part_below}
 use Rattle.type_store.proofs.MapSteps.{part_step, parts_end}
 use Rattle.type_store.proofs.ShiftSteps.{row-shifted, shift_all, shift_ex, shift_lam, shift_mu}

@@ -1,5 +1,5 @@
 use Rattle.std.proofs.Common.{sym, subst}
-use Rattle.type_store.specs.Memo.{IsFilled, filled}
+use Rattle.type_store.specs.Inner.Memo.{IsFilled, filled}
 use Rattle.type_store.specs.Trees.{Holds, at}
 use Rattle.type_store.proofs.types.Types.known_filled.Goals as goal
 

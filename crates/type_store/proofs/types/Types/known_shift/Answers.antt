@@ -1,6 +1,6 @@
 use Rattle.std.proofs.Common.{sym, subst}
 use Rattle.omega_types.specs.Index.{shift}
-use Rattle.type_store.specs.Memo.{IsShift}
+use Rattle.type_store.specs.Inner.Memo.{IsShift}
 use Rattle.type_store.specs.Trees.{Holds, at}
 use Rattle.type_store.proofs.types.Types.known_shift.Goals as goal
 

@@ -1,5 +1,5 @@
 use Rattle.std.proofs.Common.{sym, subst}
-use Rattle.type_store.specs.Memo.{IsFilled}
+use Rattle.type_store.specs.Inner.Memo.{IsFilled}
 use Rattle.type_store.proofs.MemoSteps.{noted}
 use Rattle.type_store.proofs.types.Types.note_filled.Goals as goal
 

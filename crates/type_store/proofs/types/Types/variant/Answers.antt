@@ -1,7 +1,7 @@
 use Rattle.std.proofs.Common.{sym, ap, subst, ◌∙◌}
 use Rattle.omega_types.specs.Fields.{at_label}
 use Rattle.type_store.specs.Trees.{IsBelow, tree_at}
-use Rattle.type_store.specs.View.{shape_of}
+use Rattle.type_store.specs.Inner.View.{shape_of}
 use Rattle.type_store.proofs.PartSteps.{variant-number}
 use Rattle.type_store.proofs.types.Types.variant.Goals as goal
 

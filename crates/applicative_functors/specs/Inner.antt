@@ -1,0 +1,2 @@
+pub mod LiftedVars
+pub mod Lifted

@@ -1,0 +1,5 @@
+pub mod Answered
+pub mod Fields
+pub mod Leaving
+pub mod Modules
+pub mod Places

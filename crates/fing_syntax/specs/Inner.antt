@@ -1,0 +1,5 @@
+pub mod Code
+pub mod Size
+pub mod Leaves
+pub mod View
+pub mod Falls

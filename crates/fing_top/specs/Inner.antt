@@ -1,0 +1,5 @@
+pub mod Compiled
+pub mod Linked
+pub mod Ending
+pub mod Verdict
+pub mod Page

@@ -1,0 +1,2 @@
+pub mod IsNormal
+pub mod Vars

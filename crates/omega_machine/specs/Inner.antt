@@ -1,0 +1,4 @@
+pub mod Contexts
+pub mod Moves
+pub mod Outcomes
+pub mod Reducts

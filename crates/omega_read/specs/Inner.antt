@@ -1,0 +1,4 @@
+pub mod Gives
+pub mod Onto
+pub mod Chars
+pub mod Scan

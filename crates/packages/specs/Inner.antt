@@ -1,0 +1,5 @@
+pub mod First
+pub mod Normed
+pub mod Plain
+pub mod Swept
+pub mod Turns

@@ -1,0 +1,4 @@
+pub mod View
+pub mod Refusal
+pub mod Moves
+pub mod Steps

@@ -1,0 +1,16 @@
+pub mod Fields
+pub mod Code
+pub mod Size
+pub mod Height
+pub mod Bound
+pub mod View
+pub mod Falls
+pub mod Changes
+pub mod Change
+pub mod Quantified
+pub mod Items
+pub mod Made
+pub mod Entries
+pub mod EnvCode
+pub mod Slots
+pub mod Standing

@@ -1,0 +1,7 @@
+pub mod Refusals
+pub mod Put
+pub mod Coerced
+pub mod Looking
+pub mod Outcomes
+pub mod Exact
+pub mod Made

@@ -1,0 +1,4 @@
+pub mod Rooted
+pub mod Least
+pub mod Seek
+pub mod Roots

@@ -1,0 +1,3 @@
+pub mod SigScoped
+pub mod SigDepth
+pub mod ReasonScoped

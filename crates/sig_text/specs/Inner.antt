@@ -1,0 +1,2 @@
+pub mod SigInScope
+pub mod Pieces

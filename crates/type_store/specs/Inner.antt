@@ -1,0 +1,5 @@
+pub mod Code
+pub mod View
+pub mod Feed
+pub mod ShapeLaws
+pub mod Memo
