@@ -98,7 +98,7 @@ class File:
             if not re.match(r"(--|//)", line):
                 break
             lines.append(re.sub(r"^(--|///?)\s?", "", line).strip())
-        return " ".join(lines)
+        return " ".join(filter(None, lines))
 
     def read(self):
         margin, item, block, sort = 0, None, None, ""
