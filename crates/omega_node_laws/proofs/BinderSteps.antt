@@ -187,19 +187,17 @@ pub pack-none : {z c : Scope} {t u : Ty} {e : Term} {o : Option ℕ} → Synthes
 pack-none {z} {c} {t} {u} {e} {o} s f =
     nothing s.grows (ap (pack_type z.kinds t (normal_at z.kinds u Kind.Star)) (no-number c.types o (synth_in z.kinds (types_of z) e) f s.is_number) ∙ pack-without z.kinds t (normal_at z.kinds u Kind.Star))
 
-pub pack-done : {z x y c : Scope} {t u : Ty} {e : Term} {o m r : Option ℕ} {b : ℕ} → Synthesises z x z.kinds (types_of z) e o → o ≡ Some b → Finds x y m (normal_at x.kinds u Kind.Star) → Finds y c r (pack_type y.kinds t (type_at y.types m) (Some (at y.types b)))
+pub pack-done : {z x c : Scope} {t u : Ty} {e : Term} {o r : Option ℕ} {b : ℕ} → Synthesises z x z.kinds (types_of z) e o → o ≡ Some b → Finds x c r (pack_type x.kinds t (normal_at x.kinds u Kind.Star) (Some (at x.types b)))
     → Synthesises z c z.kinds (types_of z) (Term.Pack t e u) r
-pack-done {z} {x} {y} {c} {t} {u} {e} {o} {m} {r} {b} s i f h =
+pack-done {z} {x} {c} {t} {u} {e} {o} {r} {b} s i h =
     let S = synth_in z.kinds (types_of z) e in
-    let N = normal_at z.kinds u Kind.Star in
-    let ks = f.grows.same_kinds ∙ s.grows.same_kinds in
-    let body = (ap (type_at y.types) (sym i) ∙ at-more x.types y.types o f.grows.begins (number-in x.types o S s.is_number)) ∙ at-number s in
-    let target = number-at y.types m (normal_at x.kinds u Kind.Star) f.is_number ∙ ap (λ k. normal_at k u Kind.Star) s.grows.same_kinds in
-    let n = subst (NumberOf c.types r) (λ i. pack_type (ks i) t (target i) (body i)) h.is_number in
+    let ks = s.grows.same_kinds in
+    let body = sym (type-some x.types o S b s.is_number i) in
+    let n = subst (NumberOf c.types r) (λ i. pack_type (ks i) t (normal_at (ks i) u Kind.Star) (body i)) h.is_number in
     record {
-      grows = grows-then s.grows (grows-then f.grows h.grows);
+      grows = grows-then s.grows h.grows;
       is_number = n;
-      held = with-parts _ n (λ v w. held-more x.types c.types (grows-then f.grows h.grows).begins z.kinds (types_of z) e (let d = pack-yes z.kinds t N S v w in held-some _ s d.4));
+      held = with-parts _ n (λ v w. held-more x.types c.types h.grows.begins z.kinds (types_of z) e (let d = pack-yes z.kinds t (normal_at z.kinds u Kind.Star) S v w in held-some _ s d.4));
     }
 
 -- ---- an opened package

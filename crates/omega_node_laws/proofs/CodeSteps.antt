@@ -1,12 +1,15 @@
 -- What each function of the synthesis needs of the calls before it.
-use Rattle.std.proofs.Common.{◌≡◌, ℕ, ◌<◌, List, Option, Some, slice_get, length, sym, subst}
+use Rattle.std.proofs.Common.{◌≡◌, ℕ, ◌<◌, List, Option, Some, slice_get, length, sym, ap, ◌∙◌, subst, arith}
 use Rattle.omega_kinds.specs.Kind.{Kind}
 use Rattle.omega_types.specs.Ty.{Ty}
 use Rattle.omega_terms.specs.Term.{Term}
 use Rattle.type_store.specs.Numbers.{NumberOf}
+use Rattle.type_store.specs.Shape.{Shape, Parts}
+use Rattle.type_store.specs.Trees.{IsBelow, at, tree_at}
+use Rattle.type_store.proofs.TreeLaws.{parts_below-more}
 use Rattle.omega_checker.specs.Found.{synth_in}
 use Rattle.omega_node_laws.specs.Held.{Has, Held}
-use Rattle.omega_node_laws.specs.Scope.{Scope, types_of, IsIn, Grows, Makes, Finds, Synthesises, FindsFunction, IsWithVar, IsWithType, IsLastType}
+use Rattle.omega_node_laws.specs.Scope.{Scope, types_of, IsIn, IsSum, Grows, Makes, Finds, Synthesises, FindsFunction, IsWithVar, IsWithType, IsLastType}
 use Rattle.omega_node_laws.proofs.ScopeSteps.{number-in, in-more, with-type-last}
 use Rattle.omega_node_laws.proofs.SynthSteps.{has-number}
 
@@ -51,3 +54,12 @@ pub leaf-done : {z c : Scope} {e : Term} {n : ℕ} (t : Ty) → synth_in z.kinds
 leaf-done {z} {c} {e} {n} t p f m =
     let number : NumberOf c.types (Some n) (synth_in z.kinds (types_of z) e) = subst (NumberOf c.types (Some n)) (sym p) m.holds in
     record { grows = m.grows; is_number = number; held = (λ k q. f (record { number = n; is_number = number })) }
+
+-- ---- sums
+
+-- the parts of a sum, from the form of its type
+pub sum-of : (ts : List Ty) (n : ℕ) (s : Shape) (parts copy : Parts) → n < length ts → s ≡ Shape.Sum parts → copy ≡ parts → IsBelow n s → tree_at ts s ≡ at ts n → IsSum ts n (Some copy)
+sum-of ts n s parts copy h e c b v =
+    let below = subst (IsBelow n) e b in
+    let same = parts_below-more n (length ts) parts (omega (arith, h)) below.0 in
+    subst (λ ps. IsSum ts n (Some ps)) (sym c) (same, below.1, sym v ∙ ap (tree_at ts) e)

@@ -3,7 +3,12 @@ use Rattle.std.proofs.Common.{◌≡◌, ℕ, zero, ◌<◌, List, Option, Some,
 use Rattle.std.specs.Option.{option_map}
 use Rattle.omega_kinds.specs.Kind.{Kind}
 use Rattle.omega_kinds.specs.declared.label.Label.{Label}
+use Rattle.omega_kinds.specs.declared.kind.Kind.{Kind as SharedKind}
+use Rattle.omega_types.specs.Inner.View.{ty_of}
 use Rattle.omega_types.specs.Normaliser.{hsubst}
+use Rattle.omega_types.specs.declared.tree.Ty.{Ty as SharedTy}
+use Rattle.omega_types.specs.declared.tree.TyNode.{TyNode}
+use Rattle.omega_types.specs.declared.tree.TyNode.TheVariants as node
 use Rattle.omega_types.specs.Ty.{Ty}
 use Rattle.omega_terms.specs.declared.op.Op.{Op}
 use Rattle.omega_terms.specs.Typing.{result_type}
@@ -62,25 +67,6 @@ inst-yes-number {z} {y} {c} t u k b a n o e h f p m =
       is_number = subst (NumberOf c.types (Some n)) (ap (λ d. Some (hsubst k zero (at y.types a) d)) (begins-at z.types y.types b f.grows.begins h) ∙ (ap (put_normal k (at z.types b)) (sym (type-some y.types o (normal_at z.kinds u k) a f.is_number p)) ∙ ap (λ t. inst_type z.kinds (Some t) u) e)) m.holds;
     }
 
--- ---- packages
-
-as-package : (ks : List Kind) (t n : Ty) (o : Option Ty) → packed ks t n o ≡ of_package n (λ k b. if_same (Ty.Ex k b) (put_normal k b (normal_at ks t k)) o)
-as-package ks t (Ty.Ex k b) o = refl
-as-package ks t _ o = refl
-
-pub pack-other : {z : Scope} (t : Ty) (g : Option ℕ) (b : ℕ) → IsPackage z.types g None → Finds z z None (pack_type z.kinds t (type_at z.types g) (Some (at z.types b)))
-pack-other {z} t g b h = record { grows = grows-itself z; is_number = none-number z.types (pack_type z.kinds t (type_at z.types g) o) (each (type_at z.types g) (h F)) }
-  where
-    o : Option Ty
-    o = Some (at z.types b)
-
-    F : Kind → Ty → Option Ty
-    F k d = if_same (Ty.Ex k d) (put_normal k d (normal_at z.kinds t k)) (Some (at z.types b))
-
-    each : (q : Option Ty) → and_then q (λ s. of_package s (λ k d. if_same (Ty.Ex k d) (put_normal k d (normal_at z.kinds t k)) (Some (at z.types b)))) ≡ None → pack_type z.kinds t q (Some (at z.types b)) ≡ None
-    each None e = refl
-    each (Some n) e = as-package z.kinds t n (Some (at z.types b)) ∙ e
-
 -- ---- recursive types
 
 pub unroll-other : {z : Scope} (t : ℕ) (s : Shape) → ((b : ℕ) → s ≡ Shape.Mu b → ⊥) → tree_at z.types s ≡ at z.types t → Finds z z None (unroll_type (Some (at z.types t)))
@@ -95,33 +81,53 @@ pub unroll-number : {z c : Scope} (t b n : ℕ) → tree_at z.types (Shape.Mu b)
 unroll-number {z} {c} t b n e m =
     record { grows = m.grows; is_number = subst (NumberOf c.types (Some n)) (ap (λ d. Some (hsubst Kind.Star zero d (at z.types b))) (sym e) ∙ ap (λ t. unroll_type (Some t)) e) m.holds }
 
--- ---- packages, whose form is known
+-- ---- packages
 
-module _ (z : Scope) (t : Ty) (g : Option ℕ) (k : Kind) (b body : ℕ) (ex : type_at z.types g ≡ Some (Ty.Ex k (at z.types b))) where
-  asks : pack_type z.kinds t (type_at z.types g) (Some (at z.types body)) ≡ if_same (Ty.Ex k (at z.types b)) (put_normal k (at z.types b) (normal_at z.kinds t k)) (Some (at z.types body))
-  asks = ap (λ q. pack_type z.kinds t q (Some (at z.types body))) ex
+-- a type that is no package type asks for nothing
+pub no-package : (ks : List Kind) (t : Ty) (n : TyNode) (u : Ty) (o : Option Ty) → ty_of n ≡ u → ((k : SharedKind) (b : SharedTy) → n ≡ node.Ex k b → ⊥) → packed ks t u o ≡ None
+no-package ks t (node.Ex k b) u o e f = absurd (f k b refl)
+no-package ks t (node.Var i) u o e f = ap (λ v. packed ks t v o) (sym e)
+no-package ks t node.Int u o e f = ap (λ v. packed ks t v o) (sym e)
+no-package ks t node.Bool u o e f = ap (λ v. packed ks t v o) (sym e)
+no-package ks t node.Text u o e f = ap (λ v. packed ks t v o) (sym e)
+no-package ks t (node.Arrow a b) u o e f = ap (λ v. packed ks t v o) (sym e)
+no-package ks t (node.Fields r) u o e f = ap (λ v. packed ks t v o) (sym e)
+no-package ks t (node.Sum r) u o e f = ap (λ v. packed ks t v o) (sym e)
+no-package ks t (node.All k b) u o e f = ap (λ v. packed ks t v o) (sym e)
+no-package ks t (node.Mu b) u o e f = ap (λ v. packed ks t v o) (sym e)
+no-package ks t (node.Lam k b) u o e f = ap (λ v. packed ks t v o) (sym e)
+no-package ks t (node.Apply a b) u o e f = ap (λ v. packed ks t v o) (sym e)
 
-  pub pack-hidden : (c : Scope) (o : Option ℕ) → Finds z c o (normal_at z.kinds t k) → ((n : ℕ) → o ≡ Some n → ⊥) → Finds z c None (pack_type z.kinds t (type_at z.types g) (Some (at z.types body)))
-  pack-hidden c o f n =
-      record { grows = f.grows; is_number = none-number c.types (pack_type z.kinds t (type_at z.types g) (Some (at z.types body))) (asks ∙ ap (λ q. if_same (Ty.Ex k (at z.types b)) (put_normal k (at z.types b) q) (Some (at z.types body))) (no-number c.types o (normal_at z.kinds t k) n f.is_number)) }
+module _ (z : Scope) (t u : Ty) (body : ℕ) where
+  abbrev whole : Option Ty
+  whole = pack_type z.kinds t (normal_at z.kinds u Kind.Star) (Some (at z.types body))
 
-  module _ (y c : Scope) (o : Option ℕ) (h n : ℕ) (lb : b < length z.types) (lbody : body < length z.types) (f : Finds z y o (normal_at z.kinds t k)) (oh : o ≡ Some h) (m : Makes y c n (hsubst k zero (at y.types h) (at y.types b))) where
-    wanted : put_normal k (at z.types b) (normal_at z.kinds t k) ≡ Some (at c.types n)
-    wanted = ap (put_normal k (at z.types b)) (type-some y.types o (normal_at z.kinds t k) h f.is_number oh) ∙ (ap (λ d. Some (hsubst k zero (at y.types h) d)) (sym (begins-at z.types y.types b f.grows.begins lb)) ∙ ap Some (sym m.holds.value))
+  pub pack-untyped : None ≡ normal_at z.kinds u Kind.Star → Finds z z None whole
+  pack-untyped e = record { grows = grows-itself z; is_number = none-number z.types whole (ap (λ q. pack_type z.kinds t q (Some (at z.types body))) (sym e)) }
 
-    all : Grows z c
-    all = grows-then f.grows m.grows
+  module _ (n : Ty) (un : Some n ≡ normal_at z.kinds u Kind.Star) where
+    known : whole ≡ packed z.kinds t n (Some (at z.types body))
+    known = ap (λ q. pack_type z.kinds t q (Some (at z.types body))) (sym un)
 
-    result : (v : Truth) → v ≡ same_ty (at c.types n) (at c.types body) → pack_type z.kinds t (type_at z.types g) (Some (at z.types body)) ≡ (if v then type_at z.types g else None)
-    result v e =
-        asks ∙ (ap (λ q. if_same (Ty.Ex k (at z.types b)) q (Some (at z.types body))) wanted ∙ (ap (λ d. if same_ty (at c.types n) d then Some (Ty.Ex k (at z.types b)) else None) (sym (begins-at z.types c.types body all.begins lbody)) ∙
-        (ap (λ w. if w then Some (Ty.Ex k (at z.types b)) else None) (sym e) ∙ ap (λ q. if v then q else None) (sym ex))))
+    pub pack-other : packed z.kinds t n (Some (at z.types body)) ≡ None → Finds z z None whole
+    pack-other e = record { grows = grows-itself z; is_number = none-number z.types whole (known ∙ e) }
 
-    pub pack-same : IsIn z.types g → true ≡ same_ty (at c.types n) (at c.types body) → Finds z c g (pack_type z.kinds t (type_at z.types g) (Some (at z.types body)))
-    pack-same i e = record { grows = all; is_number = subst (NumberOf c.types g) (sym (result true e)) (number-more z.types c.types g (type_at z.types g) all.begins (number-of-in z.types g i)) }
+    module _ (k : Kind) (b : Ty) (ex : n ≡ Ty.Ex k b) where
+      asks : whole ≡ if_same (Ty.Ex k b) (put_normal k b (normal_at z.kinds t k)) (Some (at z.types body))
+      asks = known ∙ ap (λ m. packed z.kinds t m (Some (at z.types body))) ex
 
-    pub pack-differs : false ≡ same_ty (at c.types n) (at c.types body) → Finds z c None (pack_type z.kinds t (type_at z.types g) (Some (at z.types body)))
-    pack-differs e = record { grows = all; is_number = none-number c.types (pack_type z.kinds t (type_at z.types g) (Some (at z.types body))) (result false e) }
+      pub pack-hidden : None ≡ normal_at z.kinds t k → Finds z z None whole
+      pack-hidden e = record { grows = grows-itself z; is_number = none-number z.types whole (asks ∙ ap (λ q. if_same (Ty.Ex k b) (put_normal k b q) (Some (at z.types body))) (sym e)) }
+
+      module _ (h : Ty) (th : Some h ≡ normal_at z.kinds t k) where
+        result : (v : Truth) → v ≡ same_ty (hsubst k zero h b) (at z.types body) → whole ≡ (if v then Some (Ty.Ex k b) else None)
+        result v e = asks ∙ (ap (λ q. if_same (Ty.Ex k b) (put_normal k b q) (Some (at z.types body))) (sym th) ∙ ap (λ w. if w then Some (Ty.Ex k b) else None) (sym e))
+
+        pub pack-same : {c : Scope} {m : ℕ} → true ≡ same_ty (hsubst k zero h b) (at z.types body) → Makes z c m (Ty.Ex k b) → Finds z c (Some m) whole
+        pack-same {c} {m} e made = record { grows = made.grows; is_number = subst (NumberOf c.types (Some m)) (sym (result true e)) made.holds }
+
+        pub pack-differs : false ≡ same_ty (hsubst k zero h b) (at z.types body) → Finds z z None whole
+        pack-differs e = record { grows = grows-itself z; is_number = none-number z.types whole (result false e) }
 
 -- ---- functions and functions from types
 

@@ -8,3 +8,4 @@ pub mod BranchSteps
 pub mod CodeSteps
 pub mod FormSteps
 pub mod WholeSteps
+pub mod CheckSteps

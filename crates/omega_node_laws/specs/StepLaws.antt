@@ -76,7 +76,7 @@ GetStep = (z y c : Scope) (e : Term) (l : Label) (o p : Option ℕ) → Here z y
 
 abbrev pub PackStep : Type 0
 PackStep =
-    (z x y c : Scope) (t u : Ty) (e : Term) (b : ℕ) (o m r : Option ℕ) → Here z x e o → o ≡ Some b → Named x y u m → Finds y c r (pack_type y.kinds t (type_at y.types m) (Some (at y.types b))) →
+    (z x c : Scope) (t u : Ty) (e : Term) (b : ℕ) (o r : Option ℕ) → Here z x e o → o ≡ Some b → Finds x c r (pack_type x.kinds t (normal_at x.kinds u Kind.Star) (Some (at x.types b))) →
     Here z c (Term.Pack t e u) r
 
 abbrev pub UnpackStep : Type 0

@@ -1,5 +1,5 @@
 // The types of the nodes of a term: a list of types that has the normal form of each, as a checker on numbers fills it.
-// Specifications and their laws only; no other crate stands on it yet.
+// Specifications and their laws only; omega_numbers stands on it.
 // Stands on type_store (lists of numbered types), omega_laws (synthesis) and omega_checker (the types that are found).
 // Proved: if a list holds the type that is found for each node of a term that has a type, it holds the normal form of each
 // type that the typing rules give each node, in the node's own context; a longer list keeps this (`node_types`). For each

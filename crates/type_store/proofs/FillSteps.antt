@@ -1,10 +1,10 @@
 -- What a substitution does at each form of a numbered type.
-use Rattle.std.proofs.Common.{◌≡◌, ℕ, zero, suc, ◌+◌, ◌-◌, ◌<◌, ◌≤◌, List, [], ◌∷◌, length, refl, sym, ap, ap₂, subst, ◌∙◌, arith}
+use Rattle.std.proofs.Common.{◌≡◌, ℕ, suc, ◌+◌, ◌-◌, ◌<◌, ◌≤◌, List, [], ◌∷◌, length, refl, sym, ap, ap₂, subst, ◌∙◌}
 use Rattle.omega_kinds.specs.Kind.{Kind}
 use Rattle.omega_types.specs.Inner.Bound.{bound_of}
 use Rattle.omega_types.specs.Fields.{row}
 use Rattle.omega_types.specs.Index.{Slot, taken, kept, slot, shift}
-use Rattle.omega_types.specs.Normaliser.{Args, Part, stuck, whole, tree, apply_part, args, fill_part, hsubst, put_in, put_in_row}
+use Rattle.omega_types.specs.Normaliser.{Args, Part, stuck, whole, tree, apply_part, args, fill_part, hsubst, put_in}
 use Rattle.omega_types.specs.Substitution.{rename}
 use Rattle.omega_types.specs.Ty.{Ty, Row}
 use Rattle.omega_types.proofs.Single.{shift-zero}
@@ -47,7 +47,7 @@ put-star A i a (Ty.Mu b) = tt
 put-star A i a (Ty.Lam k b) = tt
 put-star A i a (Ty.Apply f t) = subst AtStar (sym (applied (put_in Kind.Star A i a f) (tree (put_in Kind.Star A i a t)) (put-star A i a f))) tt
 
-put-apply : (A : Args Kind.Star) (i : ℕ) (a f t : Ty) → tree (put_in Kind.Star A i a (Ty.Apply f t)) ≡ Ty.Apply (tree (put_in Kind.Star A i a f)) (tree (put_in Kind.Star A i a t))
+pub put-apply : (A : Args Kind.Star) (i : ℕ) (a f t : Ty) → tree (put_in Kind.Star A i a (Ty.Apply f t)) ≡ Ty.Apply (tree (put_in Kind.Star A i a f)) (tree (put_in Kind.Star A i a t))
 put-apply A i a f t = ap tree (applied (put_in Kind.Star A i a f) (tree (put_in Kind.Star A i a t)) (put-star A i a f))
 
 -- ---- variables, and types that stay

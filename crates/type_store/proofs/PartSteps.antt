@@ -1,5 +1,5 @@
 -- The part of a numbered record or sum at a label, and parts beside the fields of a tree.
-use Rattle.std.proofs.Common.{◌≡◌, ◌<◌, ◌≤◌, ◌↔◌, ℕ, zero, suc, ◌+◌, List, [], ◌∷◌, Option, Some, None, Bool as Truth, true, false, IsTrue, if◌then◌else◌, length, map, get_or, take, drop, refl, sym, ap, subst, ◌∙◌, arith, drop-cons}
+use Rattle.std.proofs.Common.{◌≡◌, ◌<◌, ◌≤◌, ◌↔◌, ℕ, zero, suc, ◌+◌, List, [], ◌∷◌, Option, Some, Bool as Truth, true, false, IsTrue, if◌then◌else◌, length, map, get_or, take, drop, refl, sym, ap, subst, ◌∙◌, arith, drop-cons}
 use Rattle.std.proofs.Math.Seq.{take-length}
 use Rattle.std.specs.Ordering.{is_eq}
 use Rattle.omega_kinds.specs.LabelOrder.{label_cmp}

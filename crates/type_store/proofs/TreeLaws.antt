@@ -314,12 +314,16 @@ not-true : (b : Truth) → not b ≡ true → b ≡ false
 not-true true e = absurd (false≢true e)
 not-true false e = refl
 
+-- a new shape is the last one
+pub fresh-last : (shapes new : List Shape) (s : Shape) → not (list_any (shape_eq s) shapes) ≡ true → new ≡ insert_key shape_eq shapes s → new ≡ shapes ++ s ∷ []
+fresh-last shapes new s fresh keys = keys ∙ ap (λ b. if b then shapes else shapes ++ s ∷ []) (not-true (list_any (shape_eq s) shapes) fresh)
+
 -- a new shape with its bound
 pub extends_new : (shapes new : List Shape) (s : Shape) (bounds more : List ℕ) (n : ℕ) → IsStore shapes → AreBounds (trees shapes) bounds → IsBelow (length (trees shapes)) s
     → n ≡ bound_of (tree_at (trees shapes) s) → not (list_any (shape_eq s) shapes) ≡ true → new ≡ insert_key shape_eq shapes s → more ≡ bounds ++ n ∷ [] → Extends shapes new more
 extends_new shapes new s bounds more n h a below e fresh keys items =
     let none : list_any (shape_eq s) shapes ≡ false = not-true (list_any (shape_eq s) shapes) fresh in
-    let last : new ≡ shapes ++ s ∷ [] = keys ∙ ap (λ b. if b then shapes else shapes ++ s ∷ []) none in
+    let last : new ≡ shapes ++ s ∷ [] = fresh-last shapes new s fresh keys in
     subst (λ ks. Extends shapes ks more) (sym last)
     (record {
       store = store-push shapes h s below none;

@@ -3,3 +3,4 @@ pub mod View
 pub mod Feed
 pub mod ShapeLaws
 pub mod Memo
+pub mod Low

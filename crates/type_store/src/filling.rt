@@ -59,12 +59,27 @@ impl Types {
         if self.bound(body) <= index {
             return Ok(body);
         }
-        if let Some(found) = self.known_filled(body, index, arg) {
+        let place = self.fill_place(body, index);
+        if let Some(found) = self.known_filled(body, place, arg) {
             return Ok(found);
         }
-        let filled = self.put_in_parts(body, index, arg)?;
-        self.note_filled(body, index, arg, filled)?;
+        let filled = self.put_in_parts(body, place, arg)?;
+        self.note_filled(body, place, arg, filled)?;
         Ok(filled)
+    }
+
+    // An index for which a substitution in a type does the same: 0 where each free index is greater.
+    #[tactic(auto, using(crate::proofs::LowSteps::low_steps))]
+    fn fill_place(&self, body: u64, index: u64) -> u64
+        requires { body < length self.now }
+        ensures within { result ≤ index }
+        ensures same { (arg : TyTree) → filled result arg (at self.now body) ≡ filled index arg (at self.now body) }
+    {
+        if self.store().low(body).least > index {
+            0
+        } else {
+            index
+        }
     }
 
     // The same where it is not remembered, and a variable that is changed is free.

@@ -7,10 +7,13 @@
 #![tactic(auto)]
 
 mod comparing;
+mod digest;
 mod filling;
 mod finding;
 mod hinting;
+mod low;
 mod lowering;
+mod memo;
 mod node;
 mod reading;
 mod shifting;

@@ -1,12 +1,11 @@
 // Nodes: the outermost form of a type, with numbers for its parts.
-ghost use Rattle.std.specs.Prelude.{◌≡◌, ◌↔◌, IsTrue, fold};
-ghost use Rattle.omega_kinds.specs.Kind.{Kind as KindTree};
-ghost use Rattle.omega_kinds.specs.View.{kind_tree};
-ghost use Rattle.type_store.specs.Inner.Feed.{fed_kind, fed_label, fed_parts, fed_shape};
+ghost use Rattle.std.specs.Prelude.{◌≡◌, ◌↔◌, IsTrue};
+ghost use Rattle.type_store.specs.Inner.Feed.{fed_shape};
 ghost use Rattle.type_store.specs.Shape.{shape_eq};
 ghost use Rattle.type_store.specs.Inner.View.{shape_of};
 ghost use Rattle.type_store.specs.Inner.ShapeLaws.{shape_laws, shape_part_laws, shape_alike};
 
+use crate::digest::digest_of;
 use omega_kinds::{Kind, Label, same_kind, same_label};
 use std::hash::{Hash, Hasher};
 use std::marker::Model;
@@ -85,12 +84,12 @@ impl Hash for Node {
     ghost respects_eq = { shape_alike };
 
     fn hash<H: Hasher>(&self, state: &mut H) {
-        feed_form(&self.form, state);
+        state.write_u64(digest_of(&self.form));
     }
 }
 
 // Whether two forms are the same, with the same numbers.
-fn same_form(left: &Form, right: &Form) -> bool
+pub(crate) fn same_form(left: &Form, right: &Form) -> bool
     ensures { result ≡ shape_eq (shape_of left.now) (shape_of right.now) }
 {
     match (left, right) {
@@ -125,94 +124,4 @@ fn same_parts(left: &[(Label, u64)], right: &[(Label, u64)]) -> bool
         }
     }
     true
-}
-
-// The writes of a form to a hasher, kinds with all their parts: types that differ in a kind alone stand apart.
-fn feed_form<H: Hasher>(form: &Form, state: &mut H)
-    ensures { state.new ≡ fold H.write state.old (fed_shape (shape_of form.now)) }
-{
-    match form {
-        Form::Var(index) => {
-            state.write_u8(0);
-            state.write_u64(*index);
-        }
-        Form::Int => state.write_u8(1),
-        Form::Bool => state.write_u8(2),
-        Form::Text => state.write_u8(3),
-        Form::Arrow(a, b) => {
-            state.write_u8(11);
-            state.write_u64(*a);
-            state.write_u64(*b);
-        }
-        Form::Fields(parts) => {
-            state.write_u8(4);
-            feed_parts(parts.as_slice(), state);
-        }
-        Form::Sum(parts) => {
-            state.write_u8(9);
-            feed_parts(parts.as_slice(), state);
-        }
-        Form::All(k, b) => {
-            state.write_u8(5);
-            feed_kind(k, state);
-            state.write_u64(*b);
-        }
-        Form::Ex(k, b) => {
-            state.write_u8(6);
-            feed_kind(k, state);
-            state.write_u64(*b);
-        }
-        Form::Mu(b) => {
-            state.write_u8(10);
-            state.write_u64(*b);
-        }
-        Form::Lam(k, b) => {
-            state.write_u8(7);
-            feed_kind(k, state);
-            state.write_u64(*b);
-        }
-        Form::Apply(f, a) => {
-            state.write_u8(8);
-            state.write_u64(*f);
-            state.write_u64(*a);
-        }
-    }
-}
-
-// The writes of the parts of a record.
-fn feed_parts<H: Hasher>(parts: &[(Label, u64)], state: &mut H)
-    ensures { state.new ≡ fold H.write state.old (fed_parts parts.now) }
-{
-    for part in parts {
-        feed_label(&part.0, state);
-        state.write_u64(part.1);
-    }
-}
-
-// The writes of a kind.
-fn feed_kind<H: Hasher>(kind: &Kind, state: &mut H)
-    ensures { state.new ≡ fold H.write state.old (fed_kind (kind_tree kind.now)) }
-{
-    match kind {
-        Kind::Star => state.write_u8(0),
-        Kind::Arrow(from, to, _) => {
-            state.write_u8(1);
-            feed_kind(from, state);
-            feed_kind(to, state);
-        }
-    }
-}
-
-// The writes of a label.
-fn feed_label<H: Hasher>(label: &Label, state: &mut H)
-    ensures { state.new ≡ fold H.write state.old (fed_label label.now) }
-{
-    match label {
-        Label::Val => state.write_u8(0),
-        Label::Typ => state.write_u8(1),
-        Label::Sig => state.write_u8(2),
-        Label::App => state.write_u8(3),
-        Label::Gen => state.write_u8(4),
-        Label::Name(name) => state.write(name.bytes()),
-    }
 }

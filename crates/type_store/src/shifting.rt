@@ -1,5 +1,5 @@
 // Shifts of numbered types.
-ghost use Rattle.std.specs.Prelude.{◌≡◌, ◌<◌, IfOk, length};
+ghost use Rattle.std.specs.Prelude.{◌≡◌, ◌<◌, ℕ, IfOk, length};
 ghost use Rattle.omega_types.specs.Fields.{Rises};
 ghost use Rattle.omega_types.specs.Index.{bump, shift};
 ghost use Rattle.omega_types.specs.Substitution.{rename_row};
@@ -25,12 +25,26 @@ impl Types {
         if by == 0 || self.bound(number) <= from {
             return Ok(number);
         }
-        if let Some(found) = self.known_shift(number, by, from) {
+        let place = self.shift_place(number, from);
+        if let Some(found) = self.known_shift(number, by, place) {
             return Ok(found);
         }
-        let shifted = self.shift_parts(number, by, from)?;
-        self.note_shift(number, by, from, shifted)?;
+        let shifted = self.shift_parts(number, by, place)?;
+        self.note_shift(number, by, place, shifted)?;
         Ok(shifted)
+    }
+
+    // An index from which a shift of a type does the same: 0 where each free index is shifted.
+    #[tactic(auto, using(crate::proofs::LowSteps::low_steps))]
+    fn shift_place(&self, number: u64, from: u64) -> u64
+        requires { number < length self.now }
+        ensures { (by : ℕ) → shift by result (at self.now number) ≡ shift by from (at self.now number) }
+    {
+        if self.store().low(number).least >= from {
+            0
+        } else {
+            from
+        }
     }
 
     // The same where it is not remembered.

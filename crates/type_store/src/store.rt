@@ -5,8 +5,10 @@ ghost use Rattle.omega_types.specs.Inner.Bound.{bound_of};
 ghost use Rattle.omega_types.specs.Fields.{row};
 ghost use Rattle.omega_types.specs.Ty.{Ty as TyTree};
 ghost use Rattle.type_store.specs.Trees.{AreBounds, Extends, IsStore, trees, AreDistinct, ArePartsBelow, Begins, Holds, IsBelow, Makes, MakesParts, at, bound_at, bound_parts, tree_at};
+ghost use Rattle.type_store.specs.Inner.Low.{AreLows, IsLow};
 ghost use Rattle.type_store.specs.Inner.View.{shape_of};
 
+use crate::low::{Low, low_in, low_of};
 use crate::node::{Form, Node};
 use indexmap::IndexSet;
 use omega_kinds::{Kind, Label, Mem};
@@ -23,6 +25,8 @@ pub struct Store {
     nodes: IndexSet<Node>,
     // of each type the least number above all its free indexes
     bounds: Vec<u64>,
+    // of each type the numbers that its free indexes are not below
+    lows: Vec<Low>,
     alloc: Global,
 }
 
@@ -36,11 +40,12 @@ impl Model for Store {
 
     ghost coded = { coded_list ty_code };
 
+    ghost use Rattle.type_store.specs.Inner.Low.{AreLows};
     ghost use Rattle.type_store.specs.Trees.{AreBounds, IsStore, trees};
 
     ghost view = { λ s. trees s.nodes.keys };
 
-    ghost invariant = { λ s. IsStore s.nodes.keys × AreBounds (trees s.nodes.keys) s.bounds.items };
+    ghost invariant = { λ s. IsStore s.nodes.keys × AreBounds (trees s.nodes.keys) s.bounds.items × AreLows (trees s.nodes.keys) s.lows.items };
 }
 
 impl Store {
@@ -51,6 +56,7 @@ impl Store {
         Store {
             nodes: IndexSet::new(alloc),
             bounds: Vec::new(alloc),
+            lows: Vec::new(alloc),
             alloc,
         }
     }
@@ -63,7 +69,15 @@ impl Store {
         ensures number { IfOk result (λ n. Holds self.new n (tree_at self.old node)) }
     {
         let bound = bound_of(self.bounds.as_slice(), node.form())?;
-        insert(&mut self.nodes, &mut self.bounds, node, bound)
+        let low = low_of(self.lows.as_slice(), node.form());
+        insert(
+            &mut self.nodes,
+            &mut self.bounds,
+            &mut self.lows,
+            node,
+            bound,
+            low,
+        )
     }
 
     /// The number of a type, whose parts are put before it. The types that the store had keep their numbers. `Err` is out of
@@ -94,6 +108,14 @@ impl Store {
         self.bounds[number as usize]
     }
 
+    // The numbers that no free index of a type is below. Takes one step.
+    pub(crate) fn low(&self, number: u64) -> Low
+        requires { number < length self.now }
+        ensures { IsLow result (at self.now number) }
+    {
+        low_in(self.lows.as_slice(), number)
+    }
+
     /// The node of a type, whose parts have smaller numbers. Takes no memory.
     pub fn node(&self, number: u64) -> &Node
         requires { number < length self.now }
@@ -117,7 +139,7 @@ impl Store {
     // The form of a type, whose parts have their numbers.
     #[cycle(put)]
     #[tactic(auto, using(crate::proofs::StoreSteps::store_steps))]
-    fn put_parts(&mut self, ty: &Ty) -> Result<Form, Mem>
+    pub(crate) fn put_parts(&mut self, ty: &Ty) -> Result<Form, Mem>
         ensures grows { Begins self.old self.new }
         ensures form { IfOk result (λ f. Makes self.new (shape_of f) ty.now) }
     {
@@ -248,24 +270,31 @@ impl Store {
     }
 }
 
-// The number of a node among these, with the bound of its type where it is a new one.
+// The number of a node among these, with the numbers of its type's free indexes where it is a new one.
 fn insert(
     nodes: &mut IndexSet<Node>,
     bounds: &mut Vec<u64>,
+    lows: &mut Vec<Low>,
     node: Node,
     bound: u64,
+    low: Low,
 ) -> Result<u64, Mem>
     requires store { IsStore nodes.old.keys }
     requires are_bounds { AreBounds (trees nodes.old.keys) bounds.old.items }
+    requires are_lows { AreLows (trees nodes.old.keys) lows.old.items }
     requires below { IsBelow (length (trees nodes.old.keys)) node }
     requires bound { bound ≡ bound_of (tree_at (trees nodes.old.keys) node) }
+    requires low { IsLow low (tree_at (trees nodes.old.keys) node) }
     ensures kept { Extends nodes.old.keys nodes.new.keys bounds.new.items }
+    ensures lows { AreLows (trees nodes.new.keys) lows.new.items }
     ensures number { IfOk result (λ n. Holds (trees nodes.new.keys) n (tree_at (trees nodes.old.keys) node)) }
 {
     bounds.reserve(1)?;
+    lows.reserve(1)?;
     let added = nodes.insert_full(node)?;
     if added.1 {
         bounds.push(bound)?;
+        lows.push(low)?;
     }
     Ok(added.0 as u64)
 }

@@ -4,13 +4,14 @@ ghost use Rattle.omega_types.specs.Inner.Bound.{bound_of};
 ghost use Rattle.omega_types.specs.Index.{shift};
 ghost use Rattle.omega_types.specs.Ty.{Ty as TyTree};
 ghost use Rattle.type_store.specs.Inner.Memo.{filled};
-ghost use Rattle.type_store.specs.Trees.{AreDistinct, Begins, Holds, IsBelow, at, tree_at};
+ghost use Rattle.type_store.specs.Trees.{AreDistinct, Begins, Holds, IsBelow, Makes, at, tree_at};
 ghost use Rattle.type_store.specs.Inner.View.{shape_of};
 
+use crate::memo::Memo;
 use crate::node::{Form, Node};
 use crate::store::Store;
-use indexmap::IndexMap;
 use omega_kinds::Mem;
+use omega_types::Ty;
 use std::alloc::Global;
 use std::marker::Model;
 use type_normal::NormalTy;
@@ -20,10 +21,10 @@ use type_normal::NormalTy;
 #[derive(Drop)]
 pub struct Types {
     store: Store,
-    // of a number, a distance and an index, the number of the type shifted by the distance from the index
-    shifts: IndexMap<(u64, u64, u64), u64>,
+    // of a number, an index and a distance, the number of the type shifted by the distance from the index
+    shifts: Memo,
     // of a number, an index and another number, the number of the type with the other one put in for the index
-    fills: IndexMap<(u64, u64, u64), u64>,
+    fills: Memo,
     alloc: Global,
 }
 
@@ -41,7 +42,7 @@ impl Model for Types {
 
     ghost view = { λ t. t.store };
 
-    ghost invariant = { λ t. AreShifts t.store t.shifts.entries × AreFilled t.store t.fills.entries };
+    ghost invariant = { λ t. AreShifts t.store t.shifts × AreFilled t.store t.fills };
 }
 
 impl Types {
@@ -51,8 +52,8 @@ impl Types {
     {
         Types {
             store: Store::new(alloc),
-            shifts: IndexMap::new(alloc),
-            fills: IndexMap::new(alloc),
+            shifts: Memo::new(alloc),
+            fills: Memo::new(alloc),
             alloc,
         }
     }
@@ -161,14 +162,19 @@ impl Types {
         self.store.put(ty)
     }
 
+    // The form of a type, whose parts have their numbers. `Err` is out of memory.
+    pub(crate) fn put_parts(&mut self, ty: &Ty) -> Result<Form, Mem>
+        ensures grows { Begins self.old self.new }
+        ensures form { IfOk result (λ f. Makes self.new (shape_of f) ty.now) }
+    {
+        self.store.put_parts(ty)
+    }
+
     // The number of a shifted type, where it is remembered.
     pub(crate) fn known_shift(&self, number: u64, by: u64, from: u64) -> Option<u64>
         ensures { IfSome result (λ n. Holds self.now n (shift by from (at self.now number))) }
     {
-        match self.shifts.get(&(number, by, from)) {
-            Some(found) => Some(*found),
-            None => None,
-        }
+        self.shifts.get(number, from, by)
     }
 
     // The number of a shifted type is remembered. `Err` is out of memory.
@@ -183,18 +189,14 @@ impl Types {
         requires right { Holds self.old shifted (shift by from (at self.old number)) }
         ensures { self.new ≡ self.old }
     {
-        self.shifts.insert((number, by, from), shifted)?;
-        Ok(())
+        self.shifts.insert(number, from, by, shifted)
     }
 
     // The number of a type with another one put in, where it is remembered.
     pub(crate) fn known_filled(&self, body: u64, index: u64, arg: u64) -> Option<u64>
         ensures { IfSome result (λ n. Holds self.now n (filled index (at self.now arg) (at self.now body))) }
     {
-        match self.fills.get(&(body, index, arg)) {
-            Some(found) => Some(*found),
-            None => None,
-        }
+        self.fills.get(body, index, arg)
     }
 
     // The number of a type with another one put in is remembered. `Err` is out of memory.
@@ -210,7 +212,6 @@ impl Types {
         requires right { Holds self.old whole (filled index (at self.old arg) (at self.old body)) }
         ensures { self.new ≡ self.old }
     {
-        self.fills.insert((body, index, arg), whole)?;
-        Ok(())
+        self.fills.insert(body, index, arg, whole)
     }
 }

@@ -39,7 +39,7 @@ pub returns-clause-get : goal.returns-clause-get
 returns-clause-get g z y c e l o p s = get-done z y c e o p s l
 
 pub returns-clause-pack : goal.returns-clause-pack
-returns-clause-pack g z x y c t u e b o m r = pack-done
+returns-clause-pack g z x c t u e b o r = pack-done
 
 pub returns-clause-unpack : goal.returns-clause-unpack
 returns-clause-unpack g z x y c p e k b o q r = unpack-done k b
