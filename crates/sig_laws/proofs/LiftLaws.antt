@@ -1,4 +1,5 @@
 -- Lifting leads from one context to the other.
+-- Main results: lifting_maps, lifting_kinds.
 use Rattle.std.specs.Prelude.{ℕ, zero, suc, List, [], ◌∷◌, ◌≡◌, ◌⊎◌, ◌<◌, length, map}
 use Rattle.std.proofs.Math.Logic.{inl, inr}
 use Rattle.std.proofs.Common.{arith}
@@ -22,9 +23,11 @@ past-map : (f : Kind → Kind) (bs : List Kind) (i : ℕ) → past (map f bs) i 
 past-map f [] i = refl
 past-map f (b ∷ bs) i = past-map f bs (suc i)
 
+-- an index from outside keeps its kind when it goes past the lifted binders
 pub maps-lifted : (ks bs ctx : List Kind) → Maps ctx (extend ctx (lifted_kinds ks bs)) (past bs)
 maps-lifted ks bs ctx i k x = subst (λ j. Lookup (extend ctx (map (arrow_over ks) bs)) j k) (past-map (arrow_over ks) bs i) (past-maps (map (arrow_over ks) bs) ctx i k x)
 
+-- what stands under the parameter's variables alone is renamed past the lifted ones
 pub lifting_maps : LiftingMaps
 lifting_maps ctx ks bs = lifts-maps ks (maps-lifted ks bs ctx)
 
@@ -47,6 +50,7 @@ lookup-mapped F (b ∷ bs) ctx other {i} {k} h x = go (lookup-mapped F bs (b ∷
         let place : past (map F bs) zero ≡ i = omega arith in
         subst (λ n. Lookup (extend (F b ∷ other) (map F bs)) n (F k)) place (subst (λ n. Lookup (extend (F b ∷ other) (map F bs)) (past (map F bs) zero) (F n)) same (past-maps (map F bs) (F b ∷ other) zero (F b) here))
 
+-- lifting takes each variable of the result to a type of its kind under the lifted binders
 pub lifting_kinds : LiftingKinds
 lifting_kinds ctx ks bs i k x = go (split_index bs i)
   where

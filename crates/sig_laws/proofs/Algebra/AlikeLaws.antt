@@ -1,4 +1,5 @@
 -- Signatures that are alike: composition, normal forms, renaming and substitution.
+-- Main results: conv_sig-trans, form_sig-same, form_abs-unique, conv_sig-gives, same-conv_sig.
 use Rattle.std.specs.Prelude.{ℕ, List, ◌≡◌}
 use Rattle.std.proofs.Math.Path.{refl, sym, ◌∙◌, ap, ap₂, subst}
 use Rattle.omega_kinds.specs.Kind.{Kind}
@@ -66,21 +67,27 @@ mutual
 
 -- convertible signatures
 
+-- conversion of signatures is symmetric
 pub conv_sig-sym : {ctx : List Kind} {x y : Sig} → ConvSig ctx x y → ConvSig ctx y x
 conv_sig-sym c = alike-sym (λ c t k u r. c_sym r) c
 
+-- conversion of signatures is transitive
 pub conv_sig-trans : {ctx : List Kind} {x y z : Sig} → ConvSig ctx x y → ConvSig ctx y z → ConvSig ctx x z
 conv_sig-trans c d = alike-trans (λ c t k u v r q. c_trans r q) c d
 
+-- conversion of signatures that hide types is symmetric
 pub conv_abs-sym : {ctx : List Kind} {x y : Abs} → ConvAbs ctx x y → ConvAbs ctx y x
 conv_abs-sym c = alike-sym_abs (λ c t k u r. c_sym r) c
 
+-- conversion of signatures that hide types is transitive
 pub conv_abs-trans : {ctx : List Kind} {x y z : Abs} → ConvAbs ctx x y → ConvAbs ctx y z → ConvAbs ctx x z
 conv_abs-trans c d = alike-trans_abs (λ c t k u v r q. c_trans r q) c d
 
+-- a signature is convertible to its normal form
 pub form-conv_sig : {ctx : List Kind} {x y : Sig} → NormalSigForm ctx x y → ConvSig ctx x y
 form-conv_sig c = alike-map (λ c t k u r. r.1) c
 
+-- so is one that hides types
 pub form-conv_abs : {ctx : List Kind} {x y : Abs} → NormalAbsForm ctx x y → ConvAbs ctx x y
 form-conv_abs c = alike-map_abs (λ c t k u r. r.1) c
 
@@ -88,6 +95,7 @@ form-conv_abs c = alike-map_abs (λ c t k u r. r.1) c
 pub conv-form_sig : {ctx : List Kind} {x y n : Sig} → ConvSig ctx x y → NormalSigForm ctx y n → NormalSigForm ctx x n
 conv-form_sig c f = alike-trans (λ c t k u v r q. (q.0, c_trans r q.1)) c f
 
+-- convertible signatures have the same normal forms
 pub conv-form_abs : {ctx : List Kind} {x y n : Abs} → ConvAbs ctx x y → NormalAbsForm ctx y n → NormalAbsForm ctx x n
 conv-form_abs c f = alike-trans_abs (λ c t k u v r q. (q.0, c_trans r q.1)) c f
 
@@ -112,6 +120,7 @@ mutual
 pub form_sig-unique : {ctx : List Kind} {x n m : Sig} → NormalSigForm ctx x n → NormalSigForm ctx x m → n ≡ m
 form_sig-unique f g = form_sig-same f ∙ sym (form_sig-same g)
 
+-- a signature that hides types has at most one normal form
 pub form_abs-unique : {ctx : List Kind} {x n m : Abs} → NormalAbsForm ctx x n → NormalAbsForm ctx x m → n ≡ m
 form_abs-unique f g = form_abs-same f ∙ sym (form_abs-same g)
 
@@ -162,18 +171,22 @@ mutual
   conv_row-gives end = end
   conv_row-gives (more s fs) = more (conv_sig-gives s) (conv_row-gives fs)
 
+-- two well kinded signatures with one normal form are convertible
 pub same-conv_sig : {ctx : List Kind} {x y : Sig} → ConvSig ctx x x → ConvSig ctx y y → normal_sig ctx x ≡ normal_sig ctx y → ConvSig ctx x y
 same-conv_sig {ctx} {x} {y} c d e = conv_sig-trans (form-conv_sig (conv_sig-gives c)) (subst (λ n. ConvSig ctx n y) (sym e) (conv_sig-sym (form-conv_sig (conv_sig-gives d))))
 
+-- so are two that hide types
 pub same-conv_abs : {ctx : List Kind} {x y : Abs} → ConvAbs ctx x x → ConvAbs ctx y y → normal_abs ctx x ≡ normal_abs ctx y → ConvAbs ctx x y
 same-conv_abs {ctx} {x} {y} c d e = conv_abs-trans (form-conv_abs (conv_abs-gives c)) (subst (λ n. ConvAbs ctx n y) (sym e) (conv_abs-sym (form-conv_abs (conv_abs-gives d))))
 
 pub normal_sig-self : (ctx : List Kind) (x : Sig) → NormalSig ctx x → normal_sig ctx x ≡ x
 normal_sig-self ctx x n = sym (form_sig-same (normal_sig-form ctx x n))
 
+-- a normal signature does not mention a variable that it avoids
 pub avoided : {c : List Kind} {s : Sig} {i : ℕ} → NormalSig c s → Avoids c s i → MentionsSig i s → ⊥
 avoided {c} {s} {i} n (by_normal_form f h) m = h (subst (MentionsSig i) (sym (form_sig-same f ∙ normal_sig-self c s n)) m)
 
+-- a normal signature that hides types is its own normal form
 pub normal_abs-self : (ctx : List Kind) (x : Abs) → NormalAbs ctx x → normal_abs ctx x ≡ x
 normal_abs-self ctx x n = sym (form_abs-same (normal_abs-form ctx x n))
 
@@ -193,6 +206,7 @@ mutual
   conv_row-substitute f g h end = end
   conv_row-substitute f g h (more s fs) = more (conv_sig-substitute f g h s) (conv_row-substitute f g h fs)
 
+-- a substitution of types of the right kinds is convertible to itself
 pub substitutes-convertible : {ctx other : List Kind} {f : ℕ → Ty} → Substitutes ctx other f → Convertible ctx other f f
 substitutes-convertible h i k x = c_refl (h i k x)
 
@@ -232,11 +246,14 @@ mutual
   alike_row-substitute ctx f SigRow.End = end
   alike_row-substitute ctx f (SigRow.More l s rest) = more (alike-substitute ctx f s) (alike_row-substitute ctx f rest)
 
+-- renaming a signature keeps its shape
 pub alike-rename : (ctx : List Kind) (r : ℕ → ℕ) (x : Sig) → AlikeSig Any ctx x (rename_sig r x)
 alike-rename ctx r x = subst (AlikeSig Any ctx x) (substitute-vars_sig r x) (alike-substitute ctx (λ i. Ty.Var (r i)) x)
 
+-- so does renaming one that hides types
 pub alike_abs-rename : (ctx : List Kind) (r : ℕ → ℕ) (x : Abs) → AlikeAbs Any ctx x (rename_abs r x)
 alike_abs-rename ctx r x = subst (AlikeAbs Any ctx x) (substitute-vars_abs r x) (alike_abs-substitute ctx (λ i. Ty.Var (r i)) x)
 
+-- so does renaming the fields of a structure
 pub alike_row-rename : (ctx : List Kind) (r : ℕ → ℕ) (x : SigRow) → AlikeRow Any ctx x (rename_sig_row r x)
 alike_row-rename ctx r x = subst (AlikeRow Any ctx x) (substitute-vars_row r x) (alike_row-substitute ctx (λ i. Ty.Var (r i)) x)

@@ -1,4 +1,5 @@
 -- The context of an environment with more type variables.
+-- Main results: kinds-type_vars.
 use Rattle.std.specs.Prelude.{List, [], ◌∷◌, ◌≡◌}
 use Rattle.std.proofs.Math.Path.{refl, subst}
 use Rattle.omega_kinds.specs.Kind.{Kind}
@@ -7,6 +8,7 @@ use Rattle.sig_definitions.specs.Signatures.Sig.{Module}
 use Rattle.sig_definitions.specs.Env.{Env, Entry, kinds, type_vars}
 use Rattle.sig_laws.specs.Good.{OkModule}
 
+-- an environment with more type variables has the context under their binders
 pub kinds-type_vars : (g : Env) (ks : List Kind) → kinds (type_vars g ks) ≡ extend (kinds g) ks
 kinds-type_vars g [] = refl
 kinds-type_vars g (k ∷ ks) = kinds-type_vars (Entry.TypeVar k ∷ g) ks

@@ -1,4 +1,5 @@
 -- Lists of types put in for binders' variables, and normal forms of what comes out.
+-- Main results: at-substitutes, under-at-substitutes, at-raise_sig, at-raise_abs.
 use Rattle.omega_types.proofs.BinderPuts.{NormalTypes, vars-substitutes, puts-substitutes, puts-convertible, vars-convertible}
 use Rattle.omega_types.proofs.BinderPuts.NormalTypes.{none, next}
 use Rattle.std.specs.Prelude.{ℕ, suc, List, [], ◌∷◌, ◌≡◌, length}
@@ -32,23 +33,28 @@ pub some_types : List Kind → List Ty
 some_types [] = []
 some_types (k ∷ ks) = some_type k ∷ some_types ks
 
+-- closed types chosen for a list of kinds are normal
 pub some_types-normal : (ctx ks : List Kind) → NormalTypes ctx (some_types ks) ks
 unfolding some_types
 some_types-normal ctx [] = none
 some_types-normal ctx (k ∷ ks) = next (some_type-normal ctx k) (some_types-normal ctx ks)
 
+-- types of given kinds are as many as the kinds
 pub kinds-length : {ctx : List Kind} {ts : List Ty} {ks : List Kind} → OfKinds ctx ts ks → length ts ≡ length ks
 kinds-length OfKinds.none = refl
 kinds-length (OfKinds.next h hs) = ap suc (kinds-length hs)
 
 -- putting them in
 
+-- raising past binders puts each variable to one of its kind
 pub past-substitutes : (ks ctx : List Kind) → Substitutes ctx (extend ctx ks) (λ i. Ty.Var (past ks i))
 past-substitutes ks ctx i k x = k_var (past-maps ks ctx i k x)
 
+-- types put in for the binders' variables are a substitution from under the binders to outside
 pub at-substitutes : {ctx : List Kind} {ts : List Ty} {ks : List Kind} → OfKinds ctx ts ks → Substitutes (extend ctx ks) ctx (puts ts Ty.Var)
 at-substitutes {ctx} h = puts-substitutes h (vars-substitutes ctx)
 
+-- so are types that stand under further binders
 pub under-at-substitutes : {ts : List Ty} {ks : List Kind} (ctx js : List Kind) → OfKinds (extend ctx js) ts ks → Substitutes (extend ctx ks) (extend ctx js) (puts ts (λ i. Ty.Var (past js i)))
 under-at-substitutes ctx js h = puts-substitutes h (past-substitutes js ctx)
 
@@ -64,8 +70,10 @@ puts-raise_sig ks ts f s e = substitute-rename_sig (puts ts f) (past ks) s ∙ a
 pub puts-raise_abs : (ks : List Kind) (ts : List Ty) (f : ℕ → Ty) (x : Abs) → length ts ≡ length ks → substitute_abs (puts ts f) (raise_abs ks x) ≡ substitute_abs f x
 puts-raise_abs ks ts f x e = substitute-rename_abs (puts ts f) (past ks) x ∙ ap (λ g. substitute_abs g x) (fun_ext (λ i. puts-past ts f i (past ks i) (let g = past-length ks i in omega arith)))
 
+-- a signature raised past binders, at types for their variables, is the signature itself
 pub at-raise_sig : (ks : List Kind) (ts : List Ty) (s : Sig) → length ts ≡ length ks → sig_at ts (raise_sig ks s) ≡ s
 at-raise_sig ks ts s e = puts-raise_sig ks ts Ty.Var s e ∙ substitute_sig-id s
 
+-- so it is for one that hides types
 pub at-raise_abs : (ks : List Kind) (ts : List Ty) (x : Abs) → length ts ≡ length ks → abs_at ts (raise_abs ks x) ≡ x
 at-raise_abs ks ts x e = puts-raise_abs ks ts Ty.Var x e ∙ substitute_abs-id x

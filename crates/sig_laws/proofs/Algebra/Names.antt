@@ -1,4 +1,5 @@
 -- How two names, or two numbers, stand to each other.
+-- Main results: compare-names.
 use Rattle.std.specs.Prelude.{◌≡◌, ◌⊎◌, IsTrue}
 use Rattle.std.proofs.Math.Logic.{inl, inr}
 use Rattle.omega_kinds.specs.Name.{Name}
@@ -14,6 +15,7 @@ pub data Compared {A : Type 0} (R : A → A → Type 0) : A → A → Type 0 whe
 abbrev pub NameBefore : Name → Name → Type 0
 NameBefore l m = IsTrue (name_before l m)
 
+-- of two names one comes first, or they are the same
 pub compare-names : (l m : Name) → Compared NameBefore l m
 compare-names l m = go (name-total l m)
   where

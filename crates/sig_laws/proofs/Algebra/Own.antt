@@ -1,4 +1,5 @@
 -- The binders' own variables under a substitution of those outside.
+-- Main results: unders-below.
 use Rattle.std.specs.Prelude.{ℕ, zero, ◌-◌, ◌<◌, List, [], ◌∷◌, ◌≡◌, ◌⊎◌, length}
 use Rattle.std.proofs.Math.Logic.{inl, inr}
 use Rattle.std.proofs.Common.{arith}
@@ -21,6 +22,7 @@ split_index ks i = go (dec_lt i (length ks))
     go (yes h) = inl h
     go (no h) = inr (i - length ks, let e = past-length ks (i - length ks) in omega arith)
 
+-- a substitution from outside leaves the binders' own variables as they are
 pub unders-below : (ks : List Kind) (f : ℕ → Ty) (i : ℕ) → i < length ks → unders ks f i ≡ Ty.Var i
 unders-below [] f i h = absurd (omega (arith, h))
 unders-below (k ∷ ks) f i h = go (unders-below ks (under f) i) (split_index ks i)

@@ -1,4 +1,5 @@
 -- Paths into signatures: what they lead to is one thing, any two are in order, and a variable has at most one least root path.
+-- Main results: compare-roots.
 use Rattle.std.specs.Prelude.{List, ◌∷◌, ◌++◌, ◌≡◌, ℕ, ◌⊎◌}
 use Rattle.std.proofs.Math.Path.{refl, sym, ap, ap₂, subst}
 use Rattle.omega_kinds.specs.Kind.{Kind}
@@ -11,9 +12,11 @@ use Rattle.sig_laws.proofs.Algebra.Names.{Compared, before, after, same, NameBef
 use Rattle.sig_definitions.specs.Explicit.RootPath.{Rooted, at, root_path, root_of, LeastRoot, least}
 use Rattle.std.proofs.Math.Logic.{inl, inr}
 
+-- paths that are equal and begin with fields begin with the same name
 pub same_name_of : {l m : Name} {p q : SigPath} → Item.Part l ∷ p ≡ Item.Part m ∷ q → l ≡ m
 same_name_of e = cc
 
+-- paths that are equal go on in the same way
 pub same_rest_of : {a b : Item} {p q : SigPath} → a ∷ p ≡ b ∷ q → p ≡ q
 same_rest_of e = cc
 
@@ -35,6 +38,7 @@ pub before-cases : {l m : Name} {p o : SigPath} → PathBefore (Item.Part l ∷ 
 before-cases (first (by_name h)) = inl h
 before-cases (later h) = inr (refl, h)
 
+-- of paths that begin with a result, the one whose rest is first is first
 pub before-result : {p o : SigPath} → PathBefore (Item.Res ∷ p) (Item.Res ∷ o) → PathBefore p o
 before-result (later h) = h
 before-result (first h) = elim h [ ]
@@ -61,6 +65,7 @@ compare-paths (PartAt.result {p = p} x) (PartAt.result {p = q} y) = go (compare-
     go (after b) = after (later b)
     go (same e) = same (ap (λ o. Item.Res ∷ o) e)
 
+-- of two paths at which variables are rooted one comes first, or they are the same
 pub compare-roots : {ctx : List Kind} {s : Sig} {i j : ℕ} {p q : SigPath} → Rooted ctx s i p → Rooted ctx s j q → Compared PathBefore p q
 compare-roots (at x c) (at y d) = compare-paths x y
 

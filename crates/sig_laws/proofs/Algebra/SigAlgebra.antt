@@ -1,4 +1,5 @@
 -- Parallel renamings and substitutions in signatures compose.
+-- Main results: substitute_sig-id, substitute-substitute_sig.
 use Rattle.std.specs.Prelude.{ℕ, ◌≡◌}
 use Rattle.std.proofs.Math.Path.{refl, ◌∙◌, ap, ap₂}
 use Rattle.omega_types.specs.Ty.{Ty}
@@ -112,8 +113,10 @@ mutual
   rename_row-id SigRow.End = refl
   rename_row-id (SigRow.More l s rest) = ap₂ (SigRow.More l) (rename_sig-id s) (rename_row-id rest)
 
+-- the identity substitution leaves a signature as it is
 pub substitute_sig-id : (x : Sig) → substitute_sig Ty.Var x ≡ x
 substitute_sig-id x = substitute-vars_sig (λ i. i) x ∙ rename_sig-id x
 
+-- so it does with one that hides types
 pub substitute_abs-id : (x : Abs) → substitute_abs Ty.Var x ≡ x
 substitute_abs-id x = substitute-vars_abs (λ i. i) x ∙ rename_abs-id x

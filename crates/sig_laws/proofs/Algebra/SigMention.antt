@@ -1,4 +1,5 @@
 -- What renaming and substitution mention, and substitutions that agree on what is mentioned.
+-- Main results: substitute_sig-agree, unders-agree, mentions-unders.
 use Rattle.std.specs.Prelude.{ℕ, zero, suc, List, [], ◌∷◌, ◌≡◌}
 use Rattle.std.proofs.Math.Logic.{inl, inr}
 use Rattle.std.proofs.Common.{arith}
@@ -41,6 +42,7 @@ mutual
 
 -- and in signatures
 
+-- substitutions that agree on a set of variables from outside agree under binders on the set there
 pub unders-agree : (ks : List Kind) (P : ℕ → Type 0) (f g : ℕ → Ty) → ((i : ℕ) → P (past ks i) → f i ≡ g i) → (i : ℕ) → P i → unders ks f i ≡ unders ks g i
 unders-agree [] P f g h = h
 unders-agree (k ∷ ks) P f g h = unders-agree ks P (under f) (under g) (under-agree (λ i. P (past ks i)) f g h)
@@ -98,6 +100,7 @@ mutual
 
 -- what a type with a substitution mentions
 
+-- a variable that is mentioned after a weakening was mentioned before it
 pub mentions-raised : (t : Ty) (v : ℕ) → Mentions (suc v) (rename suc t) → Mentions v t
 mentions-raised t v m = let q = mentions-rename suc t (suc v) m in subst (λ i. Mentions i t) (suc-same q.2) q.1
   where
@@ -133,6 +136,7 @@ mutual
   mentions_row-substitute f (Row.More l t rest) v (m_part m) = let q = mentions-substitute f t v m in (q.0, m_part q.1, q.2)
   mentions_row-substitute f (Row.More l t rest) v (m_rest m) = let q = mentions_row-substitute f rest v m in (q.0, m_rest q.1, q.2)
 
+-- where a substitution under binders mentions a variable from outside, the substitution outside mentions it
 pub mentions-unders : (ks : List Kind) (f : ℕ → Ty) (P : ℕ → Type 0) (v : ℕ) → (j : ℕ) × P j × Mentions (past ks v) (unders ks f j) → (j : ℕ) × P (past ks j) × Mentions v (f j)
 mentions-unders [] f P v m = m
 mentions-unders (k ∷ ks) f P v m = mentions-under f (λ i. P (past ks i)) v (mentions-unders ks (under f) P (suc v) m)

@@ -1,4 +1,5 @@
 -- Sizes are kept by renaming, substitution and likeness, and parts are smaller.
+-- Main results: size-substitute, field-size.
 use Rattle.std.specs.Prelude.{ℕ, suc, ◌+◌, ◌≤◌, ◌≡◌, List, []}
 use Rattle.std.proofs.Common.{arith}
 use Rattle.std.proofs.Math.Path.{refl, ap, ap₂, sym}
@@ -26,15 +27,19 @@ mutual
   size_row-alike end = refl
   size_row-alike (more s fs) = ap₂ ◌+◌ (size-alike s) (size_row-alike fs)
 
+-- a substitution keeps the size of a signature
 pub size-substitute : (f : ℕ → Ty) (s : Sig) → size (substitute_sig f s) ≡ size s
 size-substitute f s = sym (size-alike (alike-substitute [] f s))
 
+-- so for one that hides types
 pub size_abs-substitute : (f : ℕ → Ty) (x : Abs) → size_abs (substitute_abs f x) ≡ size_abs x
 size_abs-substitute f x = sym (size_abs-alike (alike_abs-substitute [] f x))
 
+-- a renaming keeps the size of a signature that hides types
 pub size_abs-rename : (r : ℕ → ℕ) (x : Abs) → size_abs (rename_abs r x) ≡ size_abs x
 size_abs-rename r x = sym (size_abs-alike (alike_abs-rename [] r x))
 
+-- a field is at most as large as the fields together
 pub field-size : {fs : SigRow} {l : Name} {s : Sig} → HasField fs l s → size s ≤ size_row fs
 field-size here = omega arith
 field-size (there n h) = let g = field-size h in omega arith

@@ -1,4 +1,5 @@
 -- The encoding of signatures: it commutes with substitution and with normal forms, and shows the signature.
+-- Main results: enc-substitute, enc-normal, enc-injective, enc-conv, conv-enc.
 use Rattle.std.specs.Prelude.{ℕ, zero, suc, List, [], ◌∷◌, ◌≡◌}
 use Rattle.std.proofs.Common.{arith}
 use Rattle.std.proofs.Math.Path.{refl, sym, ◌∙◌, ap, ap₂}
@@ -51,31 +52,39 @@ mutual
   enc_row-substitute f SigRow.End = refl
   enc_row-substitute f (SigRow.More l s rest) = ap₂ (Row.More (Label.Name l)) (enc-substitute f s) (enc_row-substitute f rest)
 
+-- the encoding commutes with renaming
 pub enc-rename : (r : ℕ → ℕ) (s : Sig) → enc (rename_sig r s) ≡ rename r (enc s)
 enc-rename r s = sym (ap enc (substitute-vars_sig r s)) ∙ (enc-substitute (λ i. Ty.Var (r i)) s ∙ substitute-vars r (enc s))
 
+-- so it does for signatures that hide types
 pub enc_abs-rename : (r : ℕ → ℕ) (x : Abs) → enc_abs (rename_abs r x) ≡ rename r (enc_abs x)
 enc_abs-rename r x = sym (ap enc_abs (substitute-vars_abs r x)) ∙ (enc_abs-substitute (λ i. Ty.Var (r i)) x ∙ substitute-vars r (enc_abs x))
 
 -- the encoding of a normal signature is normal
 
+-- the encoding of a normal and well formed signature is normal
 pub enc-normal : {ctx : List Kind} {s : Sig} → WellFormed ctx s → NormalSig ctx s → Normal ctx (enc s) Kind.Star
 enc-normal {s = s} w n = shape_enc-normal s n (well_formed-shape w)
 
+-- so is that of one that hides types
 pub enc_well_formed-normal : {ctx : List Kind} {x : Abs} → WellFormedAbs ctx x → NormalAbs ctx x → Normal ctx (enc_abs x) Kind.Star
 enc_well_formed-normal {x = x} w n = shape_enc_abs-normal x n (well_formed_abs-shape w)
 
+-- so is that of a normal and ordered explicit one
 pub enc_abs-normal : {ctx : List Kind} {x : Abs} → Explicit ctx x → NormalAbs ctx x → Normal ctx (enc_abs x) Kind.Star
 enc_abs-normal {x = x} w n = shape_enc_abs-normal x n (explicit-shape w)
 
 -- encodings of convertible signatures are convertible
 
+-- convertible signatures have convertible encodings
 pub enc-conv : {ctx : List Kind} {s t : Sig} → WellFormed ctx s → ConvSig ctx s t → Conv ctx (enc s) (enc t) Kind.Star
 enc-conv w c = shape_enc-conv (λ ctx t k u r. r) c (well_formed-shape w)
 
+-- so have those that hide types
 pub enc_well_formed-conv : {ctx : List Kind} {x y : Abs} → WellFormedAbs ctx x → ConvAbs ctx x y → Conv ctx (enc_abs x) (enc_abs y) Kind.Star
 enc_well_formed-conv w c = shape_enc_abs-conv (λ ctx t k u r. r) c (well_formed_abs-shape w)
 
+-- so have those that are ordered explicit
 pub enc_abs-conv : {ctx : List Kind} {x y : Abs} → Explicit ctx x → ConvAbs ctx x y → Conv ctx (enc_abs x) (enc_abs y) Kind.Star
 enc_abs-conv w c = shape_enc_abs-conv (λ ctx t k u r. r) c (explicit-shape w)
 
@@ -195,6 +204,7 @@ pub conv-enc : {ctx : List Kind} {s t : Sig} → WellFormed ctx s → WellFormed
 conv-enc {ctx} {s} {t} w v c = same-conv_sig (well_formed-kinds w) (well_formed-kinds v)
     (enc-injective (normal_sig ctx s) (normal_sig ctx t) (sym (enc-normal_sig w) ∙ (same-normal c ∙ enc-normal_sig v)))
 
+-- well formed signatures that hide types are convertible if their encodings are
 pub conv-enc_abs : {ctx : List Kind} {x y : Abs} → WellFormedAbs ctx x → WellFormedAbs ctx y → Conv ctx (enc_abs x) (enc_abs y) Kind.Star → ConvAbs ctx x y
 conv-enc_abs {ctx} {x} {y} w v c = same-conv_abs (well_formed_abs-kinds w) (well_formed_abs-kinds v)
     (enc_abs-injective (normal_abs ctx x) (normal_abs ctx y) (sym (enc-normal_abs w) ∙ (same-normal c ∙ enc-normal_abs v)))

@@ -1,5 +1,6 @@
 -- The encoding goes with renaming, substitution and normal forms. What it needs of a signature is that the names of each
 -- structure differ; that the result of a pure functor hides nothing is kept beside it.
+-- Main results: enc-normal, enc-form, good-normal, good-rename, enc-field.
 use Rattle.std.specs.Prelude.{ℕ, suc, List, [], ◌∷◌, ◌≢◌, zero}
 use Rattle.std.proofs.Math.Path.{ap}
 use Rattle.omega_kinds.specs.Kind.{Kind}
@@ -77,29 +78,37 @@ mutual
   shape_row-alike AlikeRow.end h = tt
   shape_row-alike (AlikeRow.more {l = l} a b) h = (no_field-alike l b h.0, shape-alike a h.1, shape_row-alike b h.2)
 
+-- a signature has the shape of one that it is like (names differ, and results of pure functors hide nothing)
 pub shape_abs-unalike : {R : Between} {ctx : List Kind} {x y : Abs} → AlikeAbs R ctx x y → ShapeAbs y → ShapeAbs x
 shape_abs-unalike {R} a h = shape_abs-alike (alike-sym_abs {S = λ c t k u. R c u k t} (λ c t k u r. r) a) h
 
 -- so substitution and renaming keep the shape
 
+-- a substitution keeps the shape of a signature
 pub shape-substitute : (f : ℕ → Ty) (s : Sig) → Shape s → Shape (substitute_sig f s)
 shape-substitute f s h = shape-alike (alike-substitute [] f s) h
 
+-- so for one that hides types
 pub shape_abs-substitute : (f : ℕ → Ty) (x : Abs) → ShapeAbs x → ShapeAbs (substitute_abs f x)
 shape_abs-substitute f x h = shape_abs-alike (alike_abs-substitute [] f x) h
 
+-- a renaming of types gives a structure no more names
 pub no_field-rename : (r : ℕ → ℕ) (l : Name) (fs : SigRow) → NoField l fs → NoField l (rename_sig_row r fs)
 no_field-rename r l fs h = no_field-alike l (alike_row-rename [] r fs) h
 
+-- a renaming keeps the shape of a signature
 pub shape-rename : (r : ℕ → ℕ) (s : Sig) → Shape s → Shape (rename_sig r s)
 shape-rename r s h = shape-alike (alike-rename [] r s) h
 
+-- so for one that hides types
 pub shape_abs-rename : (r : ℕ → ℕ) (x : Abs) → ShapeAbs x → ShapeAbs (rename_abs r x)
 shape_abs-rename r x h = shape_abs-alike (alike_abs-rename [] r x) h
 
+-- so for the fields of a structure
 pub shape_row-rename : (r : ℕ → ℕ) (fs : SigRow) → ShapeRow fs → ShapeRow (rename_sig_row r fs)
 shape_row-rename r fs h = shape_row-alike (alike_row-rename [] r fs) h
 
+-- a signature whose renaming has the shape has it too
 pub shape_abs-unrename : (r : ℕ → ℕ) (x : Abs) → ShapeAbs (rename_abs r x) → ShapeAbs x
 shape_abs-unrename r x h = shape_abs-unalike (alike_abs-rename [] r x) h
 
@@ -109,17 +118,21 @@ name_of_label : Label → Name
 name_of_label (Label.Name l) = l
 name_of_label l = []
 
+-- different names are different labels
 pub name-differs : {l m : Name} → l ≢ m → Label.Name l ≢ Label.Name m
 unfolding name_of_label
 name-differs d e = d (ap name_of_label e)
 
+-- a name that has no field is a fresh label of the encoded fields
 pub fresh-row : (l : Name) (fs : SigRow) → NoField l fs → Fresh (Label.Name l) (enc_row fs)
 fresh-row l SigRow.End h = tt
 fresh-row l (SigRow.More m s rest) h = (name-differs h.0, fresh-row l rest h.1)
 
+-- a record type of one field of a normal type is normal
 pub one_part-normal : {ctx : List Kind} {t : Ty} (l : Label) → Normal ctx t Kind.Star → Normal ctx (one_part l t) Kind.Star
 one_part-normal l h = n_fields (n_more tt h n_end)
 
+-- the type that shows a normal type is normal
 pub shown_type-normal : {ctx : List Kind} {t : Ty} {k : Kind} → Normal ctx t k → Normal ctx (shown_type t k) Kind.Star
 shown_type-normal {ctx} {t} {k} h = n_all (n_arrow u u)
   where
@@ -156,9 +169,11 @@ mutual
   shape_row-distinct SigRow.End h = tt
   shape_row-distinct (SigRow.More l s rest) h = (h.0, shape-distinct s h.1, shape_row-distinct rest h.2)
 
+-- the encoding of a normal signature of the right shape is normal
 pub enc-normal : {ctx : List Kind} (s : Sig) → NormalSig ctx s → Shape s → Normal ctx (enc s) Kind.Star
 enc-normal s n h = distinct-normal s (shape-distinct s h) n
 
+-- so is that of one that hides types
 pub enc_abs-normal : {ctx : List Kind} (x : Abs) → NormalAbs ctx x → ShapeAbs x → Normal ctx (enc_abs x) Kind.Star
 enc_abs-normal x n h = distinct_abs-normal x (shape_abs-distinct x h) n
 
@@ -187,9 +202,11 @@ mutual
   enc_row-conv v AlikeRow.end h = c_end
   enc_row-conv v (AlikeRow.more {l = l} {fs = fs} {gs = gs} a b) h = c_more (fresh-row l fs h.0) (fresh-row l gs (no_field-alike l b h.0)) (enc-conv v a h.1) (enc_row-conv v b h.2)
 
+-- the normal form of an encoding is the encoding of the normal form
 pub enc-form : {ctx : List Kind} {s n : Sig} → NormalSigForm ctx s n → Shape s → NormalForm ctx (enc s) Kind.Star (enc n)
 enc-form {n = n} f h = (enc-normal n (form_sig-normal f) (shape-alike f h), enc-conv (λ ctx t k u a. a.1) f h)
 
+-- so for signatures that hide types
 pub enc_abs-form : {ctx : List Kind} {x n : Abs} → NormalAbsForm ctx x n → ShapeAbs x → NormalForm ctx (enc_abs x) Kind.Star (enc_abs n)
 enc_abs-form {n = n} f h = (enc_abs-normal n (form_abs-normal f) (shape_abs-alike f h), enc_abs-conv (λ ctx t k u a. a.1) f h)
 
@@ -203,19 +220,24 @@ pub record GoodAbs (ctx : List Kind) (x : Abs) : Type 0 where
   pub normal : NormalAbs ctx x
   pub shape : ShapeAbs x
 
+-- renaming keeps a signature good, that is normal and of the right shape
 pub good-rename : {ctx other : List Kind} {s : Sig} (r : ℕ → ℕ) → Maps ctx other r → Good ctx s → Good other (rename_sig r s)
 good-rename {s = s} r m g = record { normal = normal_sig-rename r m s g.normal; shape = shape-rename r s g.shape }
 
+-- the encoding of a good signature is normal
 pub good-normal : {ctx : List Kind} {s : Sig} → Good ctx s → Normal ctx (enc s) Kind.Star
 good-normal {s = s} g = enc-normal s g.normal g.shape
 
+-- so is that of a good one that hides types
 pub good_abs-normal : {ctx : List Kind} {x : Abs} → GoodAbs ctx x → Normal ctx (enc_abs x) Kind.Star
 good_abs-normal {x = x} g = enc_abs-normal x g.normal g.shape
 
+-- each field of a good structure is good
 pub good-field : {ctx : List Kind} {fs : SigRow} {l : Name} {s : Sig} → HasField fs l s → NormalSigRow ctx fs → ShapeRow fs → Good ctx s
 good-field HasField.here n h = record { normal = n.0; shape = h.1 }
 good-field (HasField.there d f) n h = good-field f n.1 h.2
 
+-- the encoding of a structure has the encoding of each field at its label
 pub enc-field : {fs : SigRow} {l : Name} {s : Sig} → HasField fs l s → HasPart (enc_row fs) (Label.Name l) (enc s)
 enc-field HasField.here = HasPart.here
 enc-field (HasField.there d f) = HasPart.there (name-differs d) (enc-field f)

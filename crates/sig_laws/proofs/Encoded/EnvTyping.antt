@@ -1,4 +1,5 @@
 -- What is found for a name in a good environment is a good signature and a term of its encoding.
+-- Main results: find-good, good-with_module, good-named_fields.
 use Rattle.std.specs.Prelude.{zero, suc, List, [], ◌∷◌, ◌≡◌, Bool, true, false, cond, Option, Some, None}
 use Rattle.std.proofs.Math.Path.{refl, sym, subst}
 use Rattle.omega_kinds.specs.Kind.{Kind}
@@ -36,6 +37,7 @@ abbrev pub GoodEnv : Env → Type 0
 GoodEnv [] = Unit {0}
 GoodEnv (entry ∷ g) = GoodEntry g entry × GoodEnv g
 
+-- the term variables of a good environment have normal types
 pub env-normal : (g : Env) → GoodEnv g → AllNormal (kinds g) (types g)
 env-normal [] h = tt
 env-normal (Entry.TypeVar k ∷ g) h = all-shift (kinds g) k (types g) (env-normal g h.1)
@@ -88,22 +90,27 @@ good-found (Entry.TypeParam y ∷ Entry.Named z s ∷ g) x h = elim (h.0) [ ]
 good-found (Entry.TypeParam y ∷ Entry.Value z t ∷ g) x h = elim (h.0) [ ]
 good-found (Entry.TypeParam y ∷ Entry.TypeParam z ∷ g) x h = elim (h.0) [ ]
 
+-- what is found for a name in a good environment is a good signature with a term of its encoding
 pub find-good : {s : Sig} {e : Term} (g : Env) (x : Name) → GoodEnv g → find g x ≡ Some (s, e) → Good (kinds g) s × Typed (kinds g) (types g) e (enc s)
 find-good g x h e = subst (λ o. GoodFound g o) e (good-found g x h)
 
 -- environments under more entries
 
+-- further type variables shift the types of the term variables
 pub types-type_vars : (g : Env) (ks : List Kind) → types (type_vars g ks) ≡ shifts ks (types g)
 types-type_vars g [] = refl
 types-type_vars g (k ∷ ks) = types-type_vars (Entry.TypeVar k ∷ g) ks
 
+-- further type variables keep an environment good
 pub good-type_vars : (g : Env) (ks : List Kind) → GoodEnv g → GoodEnv (type_vars g ks)
 good-type_vars g [] h = h
 good-type_vars g (k ∷ ks) h = good-type_vars (Entry.TypeVar k ∷ g) ks (tt, h)
 
+-- a good environment with a module of a good signature is good
 pub good-with_module : {s : Sig} (g : Env) (ks : List Kind) (x : Name) → GoodEnv g → Good (extend (kinds g) ks) s → GoodEnv (with_module g ks x s)
 good-with_module {s} g ks x h i = (subst (λ c. Good c s) (sym (kinds-type_vars g ks)) i, good-type_vars g ks h)
 
+-- fields added as modules leave the type variables of an environment as they are
 pub kinds-named_fields : (g : Env) (fs : SigRow) → kinds (named_fields g fs) ≡ kinds g
 kinds-named_fields g SigRow.End = refl
 kinds-named_fields g (SigRow.More l s rest) = kinds-named_fields (Entry.Named l s ∷ g) rest
@@ -112,10 +119,12 @@ abbrev pub field_vars : SigRow → List Ty → List Ty
 field_vars SigRow.End vars = vars
 field_vars (SigRow.More l s rest) vars = field_vars rest (enc s ∷ vars)
 
+-- fields added as modules add the encodings of their signatures to the types of the term variables
 pub types-named_fields : (g : Env) (fs : SigRow) → types (named_fields g fs) ≡ field_vars fs (types g)
 types-named_fields g SigRow.End = refl
 types-named_fields g (SigRow.More l s rest) = types-named_fields (Entry.Named l s ∷ g) rest
 
+-- a good environment with the fields of a good structure is good
 pub good-named_fields : (g : Env) (fs : SigRow) → GoodEnv g → NormalSigRow (kinds g) fs → ShapeRow fs → GoodEnv (named_fields g fs)
 good-named_fields g SigRow.End h n i = h
 good-named_fields g (SigRow.More l s rest) h n i = good-named_fields (Entry.Named l s ∷ g) rest (record { normal = n.0; shape = i.1 }, h) n.1 i.2

@@ -1,4 +1,5 @@
 -- A lifted signature at the lifted types: the functor signature of the parameter and of the result at the types.
+-- Main results: lift-good, lift-typed.
 use Rattle.std.specs.Prelude.{ℕ, zero, ◌<◌, List, [], ◌∷◌, length, map, ◌≡◌, ◌⊎◌}
 use Rattle.std.proofs.Math.Path.{refl, sym, ◌∙◌, ap, ap₂, fun_ext, subst}
 use Rattle.std.proofs.Common.{arith, inl, inr}
@@ -52,6 +53,7 @@ own-put f (b ∷ bs) s i h = go (own-put f bs (front (f (Ty.Var (past bs zero)))
 pub lifting-outer : (ks bs : List Kind) (i : ℕ) → lifting ks bs (past bs i) ≡ Ty.Var (lifts ks (past bs) i)
 lifting-outer ks bs i = puts-past (own-fit (applied ks) bs) (λ i. Ty.Var (lifts ks (past bs) i)) i
 
+-- lifting applies a variable of the result to the variables of the parameter
 pub lifting-own : (ks bs : List Kind) (i : ℕ) → i < length bs → lifting ks bs i ≡ applied ks (Ty.Var i)
 lifting-own ks bs i h = own-put (applied ks) bs (λ i. Ty.Var (lifts ks (past bs) i)) i h
 
@@ -59,6 +61,7 @@ fits-lifted : {ts : List Ty} {bs : List Kind} (ks : List Kind) → Fits ts bs �
 fits-lifted ks Fits.none = Fits.none
 fits-lifted ks (Fits.next f) = Fits.next (fits-lifted ks f)
 
+-- the lifted types of normal types are normal and have the lifted kinds
 pub lifted-normal : {ctx : List Kind} (ks : List Kind) {bs : List Kind} {ts : List Ty} → NormalTypes (extend ctx ks) ts bs → NormalTypes ctx (lifted_types ks ts) (lifted_kinds ks bs)
 lifted-normal ks NormalTypes.none = NormalTypes.none
 lifted-normal ks (NormalTypes.next n ns) = NormalTypes.next (lam_over-normal ks n) (lifted-normal ks ns)
@@ -117,9 +120,11 @@ pub record Lifted (ctx ks : List Kind) (s r : Sig) (ts : List Ty) (bs : List Kin
   pub good : Good (extend ctx (lifted_kinds ks bs)) body
   pub given : form_at ctx (puts (lifted_types ks ts) Ty.Var) (enc body) ≡ all_over ks (Ty.Arrow (enc s) (one_part Label.App (form_at (extend ctx ks) (puts ts Ty.Var) (enc r))))
 
+-- the lifted signature of a good parameter and a good result is good
 pub lift-good : {ctx ks bs : List Kind} {s r : Sig} {y : Abs} → Good (extend ctx ks) s → Good (extend (extend ctx ks) bs) r → Lift ctx ks s (Abs.Ex bs r) y → GoodAbs ctx y
 lift-good {ks = ks} {bs = bs} {s = s} {r = r} g h (Lift.lift f) = record { normal = form_abs-normal f; shape = shape_abs-alike f (shape-rename (lifts ks (past bs)) s g.shape, shape-substitute (lifting ks bs) r h.shape, tt) }
 
+-- a lifted signature at the lifted types is the functor signature of the result at the types
 pub lift-typed : {ctx ks bs : List Kind} {s r : Sig} {ts : List Ty} {y : Abs} → NormalTypes (extend ctx ks) ts bs → Good (extend ctx ks) s → Good (extend (extend ctx ks) bs) r → Lift ctx ks s (Abs.Ex bs r) y → Lifted ctx ks s r ts bs y
 lift-typed {ctx} {ks} {bs} {s} {r} {ts} n g h (Lift.lift (AlikeAbs.ex {t = t} f)) =
     let shape : Shape (Sig.Fun Pure ks (rename_sig (lifts ks (past bs)) s) (Abs.Ex [] (substitute_sig (lifting ks bs) r))) = (shape-rename (lifts ks (past bs)) s g.shape, shape-substitute (lifting ks bs) r h.shape, tt) in

@@ -1,4 +1,5 @@
 -- Conditions that are decided, with the one value that they have.
+-- Main results: part-at, field-at, new_dec.
 use Rattle.std.specs.Prelude.{List, [], ◌∷◌, ◌≡◌, ◌≢◌, ◌⊎◌}
 use Rattle.std.proofs.Common.{inl, inr}
 use Rattle.std.proofs.Math.Path.{refl, sym, subst}
@@ -52,21 +53,26 @@ kinds_dec (x ∷ xs) (y ∷ ys) = go (Kind-discrete x y) (kinds_dec xs ys)
     go (no n) d = no (λ p. n (heads p))
     go (yes p) (no n) = no (λ p. n (tails p))
 
+-- whether two signatures that hide types are the same is decided
 pub abs_dec : (x y : Abs) → Dec (x ≡ y)
 abs_dec = Abs-discrete dec_ty Kind-discrete effect_dec kinds_dec dec_name
 
+-- so it is for signatures
 pub sig_dec : (x y : Sig) → Dec (x ≡ y)
 sig_dec = Sig-discrete dec_ty Kind-discrete effect_dec kinds_dec dec_name
 
 -- forms
 
+-- a pair is what its two parts say
 pub pair-same : {A B : Type 0} {a : A} {b : B} (p : A × B) → p.0 ≡ a → p.1 ≡ b → p ≡ (a, b)
 pair-same p x y = λ i. (x i, y i)
 
+-- a kind is a function kind, of exactly one pair of kinds, or it is none
 pub kind-arrow : (k : Kind) → Perhaps (λ (p : Kind × Kind). k ≡ Kind.Arrow p.0 p.1)
 kind-arrow Kind.Star = none (λ p e. cc)
 kind-arrow (Kind.Arrow a b) = one (a, b) refl (λ p e. pair-same p (cc) (cc))
 
+-- a type is a function type, of exactly one pair of types, or it is none
 pub type-arrow : (t : Ty) → Perhaps (λ (p : Ty × Ty). t ≡ Ty.Arrow p.0 p.1)
 type-arrow (Ty.Arrow a b) = one (a, b) refl (λ p e. pair-same p (cc) (cc))
 type-arrow (Ty.Var n) = none (λ p e. cc)
@@ -81,6 +87,7 @@ type-arrow (Ty.Mu b) = none (λ p e. cc)
 type-arrow (Ty.Lam k b) = none (λ p e. cc)
 type-arrow (Ty.Apply a b) = none (λ p e. cc)
 
+-- a type is universally quantified, with exactly one kind and body, or it is not
 pub type-all : (t : Ty) → Perhaps (λ (p : Kind × Ty). t ≡ Ty.All p.0 p.1)
 type-all (Ty.All a b) = one (a, b) refl (λ p e. pair-same p (cc) (cc))
 type-all (Ty.Var n) = none (λ p e. cc)
@@ -95,6 +102,7 @@ type-all (Ty.Mu b) = none (λ p e. cc)
 type-all (Ty.Lam k b) = none (λ p e. cc)
 type-all (Ty.Apply a b) = none (λ p e. cc)
 
+-- a type is a record type, of exactly one row, or it is none
 pub type-record : (t : Ty) → Perhaps (λ row. t ≡ Ty.Fields row)
 type-record (Ty.Fields row) = one row refl (λ p e. cc)
 type-record (Ty.Sum row) = none (λ p e. cc)
@@ -109,6 +117,7 @@ type-record (Ty.Mu b) = none (λ p e. cc)
 type-record (Ty.Lam k b) = none (λ p e. cc)
 type-record (Ty.Apply a b) = none (λ p e. cc)
 
+-- a signature is that of a value, of exactly one type, or it is not
 pub sig-value : (s : Sig) → Perhaps (λ t. s ≡ Sig.Val t)
 sig-value (Sig.Val t) = one t refl (λ p e. cc)
 sig-value (Sig.Typ t k) = none (λ p e. cc)
@@ -116,6 +125,7 @@ sig-value (Sig.Meta x) = none (λ p e. cc)
 sig-value (Sig.Str fs) = none (λ p e. cc)
 sig-value (Sig.Fun e ks s x) = none (λ p q. cc)
 
+-- a signature is that of a type, with exactly one type and kind, or it is not
 pub sig-type : (s : Sig) → Perhaps (λ (p : Ty × Kind). s ≡ Sig.Typ p.0 p.1)
 sig-type (Sig.Typ t k) = one (t, k) refl (λ p e. pair-same p (cc) (cc))
 sig-type (Sig.Val t) = none (λ p e. cc)
@@ -123,6 +133,7 @@ sig-type (Sig.Meta x) = none (λ p e. cc)
 sig-type (Sig.Str fs) = none (λ p e. cc)
 sig-type (Sig.Fun e ks s x) = none (λ p q. cc)
 
+-- a signature is a signature part, of exactly one signature, or it is not
 pub sig-meta : (s : Sig) → Perhaps (λ x. s ≡ Sig.Meta x)
 sig-meta (Sig.Meta x) = one x refl (λ p e. cc)
 sig-meta (Sig.Val t) = none (λ p e. cc)
@@ -130,6 +141,7 @@ sig-meta (Sig.Typ t k) = none (λ p e. cc)
 sig-meta (Sig.Str fs) = none (λ p e. cc)
 sig-meta (Sig.Fun e ks s x) = none (λ p q. cc)
 
+-- a signature is a structure, of exactly one list of fields, or it is not
 pub sig-structure : (s : Sig) → Perhaps (λ fs. s ≡ Sig.Str fs)
 sig-structure (Sig.Str fs) = one fs refl (λ p e. cc)
 sig-structure (Sig.Val t) = none (λ p e. cc)
@@ -140,6 +152,7 @@ sig-structure (Sig.Fun e ks s x) = none (λ p q. cc)
 four-same : {f : Effect} {ks : List Kind} {s : Sig} {y : Abs} (p : Effect × List Kind × Sig × Abs) → p.0 ≡ f → p.1 ≡ ks → p.2 ≡ s → p.3 ≡ y → p ≡ (f, ks, s, y)
 four-same p a b c d = λ i. (a i, b i, c i, d i)
 
+-- a signature is a functor, of exactly one effect, kinds, parameter and result, or it is not
 pub sig-functor : (s : Sig) → Perhaps (λ (p : Effect × List Kind × Sig × Abs). s ≡ Sig.Fun p.0 p.1 p.2 p.3)
 sig-functor (Sig.Fun f ks s y) = one (f, ks, s, y) refl (λ p e. four-same p (cc) (cc) (cc) (cc))
 sig-functor (Sig.Val t) = none (λ p e. cc)
@@ -149,6 +162,7 @@ sig-functor (Sig.Str fs) = none (λ p e. cc)
 
 -- fields
 
+-- a row has exactly one part at a label, or none
 pub part-at : (row : Row) (l : Label) → Perhaps (λ t. HasPart row l t)
 part-at Row.End l = none (λ t h. elim h [ ])
 part-at (Row.More m u rest) l = go (dec_label l m) (part-at rest l)
@@ -166,6 +180,7 @@ part-at (Row.More m u rest) l = go (dec_label l m) (part-at rest l)
     go (no n) (one t h only) = one t (HasPart.there n h) (λ q g. only q (other l q n g))
     go (no n) (none never) = none (λ t h. never t (other l t n h))
 
+-- a structure has exactly one field of a name, or none
 pub field-at : (fs : SigRow) (l : Name) → Perhaps (λ t. HasField fs l t)
 field-at SigRow.End l = none (λ t h. elim h [ ])
 field-at (SigRow.More m u rest) l = go (dec_name l m) (field-at rest l)
@@ -185,6 +200,7 @@ field-at (SigRow.More m u rest) l = go (dec_name l m) (field-at rest l)
 
 -- new names
 
+-- whether a name is new is decided
 pub new_dec : (l : Name) (ms : List Name) → Dec (IsNew l ms)
 new_dec l [] = yes tt
 new_dec l (m ∷ ms) = go (dec_name l m) (new_dec l ms)
@@ -212,6 +228,7 @@ new-or-old (SigRow.More m s rest) names = go (new_dec m names) (new-or-old rest 
     go (yes n) (inl h) = inl (n, h)
     go (yes n) (inr o) = inr (o.0, FirstOld.there n o.1, λ l h. o.2 l (later n l h))
 
+-- fields whose names are all new have no first name that is old
 pub new-not_old : {fs : SigRow} {names : List Name} {l : Name} → AreNew fs names → FirstOld fs names l → ⊥
 new-not_old h (FirstOld.here f) = f h.0
 new-not_old h (FirstOld.there n g) = new-not_old h.1 g

@@ -1,4 +1,5 @@
 -- Norm keeps good signatures: the new order takes each variable once, so each gets a place of its kind.
+-- Main results: norm-good, reorder-maps, order-length.
 use Rattle.std.specs.Prelude.{ℕ, zero, suc, ◌<◌, ◌≤◌, List, [], ◌∷◌, ◌≡◌, ◌≢◌, ◌⊎◌, ◌==◌, nat_lt, Bool, true, false, cond, length, map}
 use Rattle.std.proofs.Math.Path.{refl, sym, ◌∙◌, ap, ap₂, subst}
 use Rattle.std.proofs.Math.Logic.{inl, inr}
@@ -89,6 +90,7 @@ taking-length {ks = ks} (Taking.done {taken = taken} f) = sym (free-done (length
     go j h false e = absurd (f j (h, other-mem j taken e))
 taking-length {ks = ks} (Taking.next {taken = taken} {number = number} (Counts.counts u r a) l t) = ap suc (taking-length t) ∙ free-taken (length ks) number taken u.0 (mem-other number taken u.1)
 
+-- a new order of hidden types has as many numbers as there are types
 pub order-length : {ctx ks : List Kind} {s : Sig} {order : List ℕ} → NewOrder ctx ks s order → length order ≡ length ks
 order-length {ks = ks} t = taking-length t ∙ free-none (length ks)
 
@@ -108,6 +110,7 @@ taking-place {ks = ks} (Taking.next {taken = taken} {order = order} {number = nu
 
 -- the renumbering leads each variable to one of its kind
 
+-- the variable of a hidden type has the kind that the binders give it
 pub own-lookup : (ctx ks : List Kind) (p : ℕ) → p < length ks → Lookup (extend ctx ks) (own ks p) (kind_at ks p)
 own-lookup ctx [] p h = absurd (omega (arith, h))
 own-lookup ctx (k ∷ ks) zero h =
@@ -118,6 +121,7 @@ own-lookup ctx (k ∷ ks) (suc p) h =
     let e : own ks p ≡ own (k ∷ ks) (suc p) = omega arith in
     subst (λ i. Lookup (extend (k ∷ ctx) ks) i (kind_at ks p)) e (own-lookup (k ∷ ctx) ks p (omega (arith, h)))
 
+-- renumbering takes each variable to one of its kind in the new order
 pub reorder-maps : {inner ks : List Kind} {s : Sig} {order : List ℕ} → NewOrder inner ks s order → (ctx : List Kind) → Maps (extend ctx ks) (extend ctx (reordered ks order)) (renumber ks order)
 reorder-maps {ks = ks} {order = order} t ctx i k x = go x (placed ks x)
   where
@@ -174,5 +178,6 @@ mutual
       let q = norm_row-good b n.1 h.2 in
       ((p.0, q.0), (q.2 l h.0, p.1, q.1), λ m f. (f.0, q.2 m f.1))
 
+-- the norm of a good signature is good
 pub norm-good : {ctx : List Kind} {x y : Abs} → Norm ctx x y → GoodAbs ctx x → GoodAbs ctx y
 norm-good n g = let r = norm_abs-good n g.normal g.shape in record { normal = r.0; shape = r.1 }

@@ -1,4 +1,5 @@
 -- Types that a path shows, with types put in and in signatures that are alike; and which variables are then mentioned.
+-- Main results: shows-substitute, shows-alike.
 use Rattle.std.specs.Prelude.{ℕ, List, ◌≡◌}
 use Rattle.std.proofs.Math.Path.{subst}
 use Rattle.omega_kinds.specs.Kind.{Kind}
@@ -26,16 +27,20 @@ use Rattle.omega_types.proofs.BinderPuts.{unders-substitutes}
 pub data Shows (ctx : List Kind) (s : Sig) (u : Ty) (p : SigPath) : Type 0 where
   shows : {bs : List Kind} {t : Ty} {k : Kind} → PartAt s p bs (Sig.Typ t k) → Conv (extend ctx bs) t (applied bs u) k → Shows ctx s u p
 
+-- a path at which a variable is rooted shows the variable
 pub rooted-shows : {ctx : List Kind} {s : Sig} {i : ℕ} {p : SigPath} → Rooted ctx s i p → Shows ctx s (Ty.Var i) p
 rooted-shows (at x c) = shows x c
 
+-- a path that shows a variable is one at which it is rooted
 pub shows-rooted : {ctx : List Kind} {s : Sig} {i : ℕ} {u : Ty} {p : SigPath} → u ≡ Ty.Var i → Shows ctx s u p → Rooted ctx s i p
 shows-rooted {ctx} e (shows {bs = bs} {t = t} {k = k} x c) = at x (subst (λ v. Conv (extend ctx bs) t (applied bs v) k) e c)
 
+-- a path shows, after a substitution, the type that it showed, substituted
 pub shows-substitute : {ctx other : List Kind} {s : Sig} {u : Ty} {p : SigPath} (f : ℕ → Ty) → Substitutes ctx other f → Shows ctx s u p → Shows other (substitute_sig f s) (substitute f u) p
 shows-substitute {other = other} {u = u} f h (shows {bs = bs} {t = t} {k = k} x c) =
     shows (part-substitute f x) (subst (λ v. Conv (extend other bs) (substitute (unders bs f) t) v k) (applied-substitute bs f u) (conv-substitute (unders bs f) (unders-substitutes bs h) c))
 
+-- convertible signatures show the same types at the same paths
 pub shows-alike : {ctx : List Kind} {s t : Sig} {u : Ty} {p : SigPath} → Shows ctx s u p → ConvSig ctx s t → Shows ctx t u p
 shows-alike {ctx} {s} {t} {u} {p} (shows {bs = bs} {t = a} {k = k} x c) e = go (part-alike ctx x e)
   where

@@ -1,4 +1,5 @@
 -- Well-formedness, ordered explicitness and root paths are kept by substitution and by conversion.
+-- Main results: root-substitute, well_formed-substitute, explicit-substitute, well_formed-conv.
 use Rattle.std.specs.Prelude.{ℕ, List, ◌≡◌, ◌≤◌, ◌<◌, length, []}
 use Rattle.std.proofs.Common.{arith}
 use Rattle.std.proofs.Math.Path.{refl, sym, ◌∙◌, ap, subst, subst₂}
@@ -53,6 +54,7 @@ mutual
 
 -- root paths
 
+-- a signature avoids a variable if one convertible to it does
 pub avoids-alike : {ctx : List Kind} {s t : Sig} {i : ℕ} → ConvSig ctx t s → Avoids ctx s i → Avoids ctx t i
 avoids-alike c (by_normal_form f m) = by_normal_form (conv-form_sig c f) m
 
@@ -62,11 +64,13 @@ root-alike {ctx} {ks} {s} {t} {number} {p} c (root_path b (root_of r h)) = root_
     avoid : (j : ℕ) → j ≤ own ks number → ParamsAvoid (extend ctx ks) t p j
     avoid j le ds js q on = let w = param-alike (extend ctx ks) on (conv_sig-sym c) in avoids-alike w.2 (h j le ds js w.0 w.1)
 
+-- if a variable comes only from one that a signature avoids, the substituted signature avoids it
 pub avoids-substitute : {ctx other : List Kind} (s : Sig) (i v : ℕ) (f : ℕ → Ty) → Substitutes ctx other f → ((j : ℕ) → Mentions v (f j) → j ≡ i) → Avoids ctx s i → Avoids other (substitute_sig f s) v
 avoids-substitute {ctx} s i v f h own (by_normal_form a m) =
     let c = form-conv_sig a in
     avoids-moved s v f h (conv_sig-trans c (conv_sig-sym c)) (λ j q. subst (Avoids ctx s) (sym (own j q)) (by_normal_form a m))
 
+-- a substitution from outside keeps the root paths of hidden types
 pub root-substitute : {ctx other ks : List Kind} {s : Sig} {number : ℕ} {p : SigPath} (f : ℕ → Ty) → Substitutes ctx other f → number < length ks → RootPath ctx ks s number p → RootPath other ks (substitute_sig (unders ks f) s) number p
 root-substitute {ctx} {other} {ks} {s} {number} {p} f h lt (root_path b (root_of r a)) =
     root_path b (root_of (shows-rooted (unders-below ks f (own ks number) (own-below number lt)) (shows-substitute (unders ks f) (unders-substitutes ks h) (rooted-shows r))) avoid)
@@ -93,6 +97,7 @@ root-substitute {ctx} {other} {ks} {s} {number} {p} f h lt (root_path b (root_of
 
 -- names
 
+-- a name before all of the fields is before the name of each
 pub before_all-field : (l m : Name) {q : Sig} {fs : SigRow} → BeforeAll l fs → HasField fs m q → NameBefore l m
 before_all-field l m h here = h.0
 before_all-field l m h (there n g) = before_all-field l m h.1 g
@@ -176,22 +181,28 @@ mutual
 
 -- renaming is a substitution of variables
 
+-- a renaming that keeps kinds puts each variable to a type of its kind
 pub maps-substitutes : {ctx other : List Kind} {r : ℕ → ℕ} → Maps ctx other r → Substitutes ctx other (λ i. Ty.Var (r i))
 maps-substitutes h i k x = k_var (h i k x)
 
+-- renaming keeps conversion of signatures
 pub conv_sig-rename : {ctx other : List Kind} {s t : Sig} (r : ℕ → ℕ) → Maps ctx other r → ConvSig ctx s t → ConvSig other (rename_sig r s) (rename_sig r t)
 conv_sig-rename {other = other} {s = s} {t = t} r h c =
     subst₂ (ConvSig other) (substitute-vars_sig r s) (substitute-vars_sig r t) (conv_sig-substitute (λ i. Ty.Var (r i)) (λ i. Ty.Var (r i)) (substitutes-convertible (maps-substitutes h)) c)
 
+-- so for signatures that hide types
 pub conv_abs-rename : {ctx other : List Kind} {s t : Abs} (r : ℕ → ℕ) → Maps ctx other r → ConvAbs ctx s t → ConvAbs other (rename_abs r s) (rename_abs r t)
 conv_abs-rename {other = other} {s = s} {t = t} r h c =
     subst₂ (ConvAbs other) (substitute-vars_abs r s) (substitute-vars_abs r t) (conv_abs-substitute (λ i. Ty.Var (r i)) (λ i. Ty.Var (r i)) (substitutes-convertible (maps-substitutes h)) c)
 
+-- renaming keeps signatures well formed
 pub well_formed-rename : {ctx other : List Kind} {s : Sig} (r : ℕ → ℕ) → Maps ctx other r → WellFormed ctx s → WellFormed other (rename_sig r s)
 well_formed-rename {ctx} {other} {s} r h w = subst (WellFormed other) (substitute-vars_sig r s) (well_formed-substitute (λ i. Ty.Var (r i)) (maps-substitutes h) w)
 
+-- renaming keeps the results of functors ordered explicit
 pub explicit_results-rename : {ctx other : List Kind} {s : Sig} (r : ℕ → ℕ) → Maps ctx other r → ExplicitResults ctx s → ExplicitResults other (rename_sig r s)
 explicit_results-rename {ctx} {other} {s} r h w = subst (ExplicitResults other) (substitute-vars_sig r s) (explicit_results-substitute (λ i. Ty.Var (r i)) (maps-substitutes h) w)
 
+-- renaming keeps signatures ordered explicit
 pub explicit-rename : {ctx other : List Kind} {x : Abs} (r : ℕ → ℕ) → Maps ctx other r → Explicit ctx x → Explicit other (rename_abs r x)
 explicit-rename {ctx} {other} {x} r h w = subst (Explicit other) (substitute-vars_abs r x) (explicit-substitute (λ i. Ty.Var (r i)) (maps-substitutes h) w)

@@ -1,4 +1,5 @@
 -- Well formed signatures have distinct labels, and the results of their pure functors hide nothing.
+-- Main results: well_formed-good, well_formed_abs-good.
 use Rattle.std.specs.Prelude.{List, IsTrue, ◌≢◌}
 use Rattle.std.proofs.Math.Path.{sym, subst}
 use Rattle.omega_kinds.specs.Kind.{Kind}
@@ -13,10 +14,12 @@ use Rattle.sig_laws.specs.Good.{KindedModule, OkModule}
 use Rattle.sig_laws.proofs.Encoded.EncodingTyping.{Shape, ShapeAbs, ShapeRow, Good, GoodAbs, shape_abs-distinct}
 use Rattle.sig_laws.proofs.Algebra.PathLaws.{field-not}
 
+-- a name before all of the fields has no field
 pub before-no_field : (l : Name) (fs : SigRow) → BeforeAll l fs → NoField l fs
 before-no_field l SigRow.End h = tt
 before-no_field l (SigRow.More m s rest) h = (λ e. irreflexive (Label.Name l) (subst (λ x. IsTrue (name_before l x)) (sym e) h.0), before-no_field l rest h.1)
 
+-- the name of a field is not one that comes before all of the fields
 pub after-differs : (m l : Name) {q : Sig} {fs : SigRow} → BeforeAll m fs → HasField fs l q → l ≢ m
 after-differs m l {fs = fs} b h = field-not h (before-no_field m fs b)
 
@@ -39,9 +42,11 @@ mutual
   pub explicit-shape : {ctx : List Kind} {x : Abs} → Explicit ctx x → ShapeAbs x
   explicit-shape (Explicit.explicit w e r) = well_formed-shape w
 
+-- a well formed and normal signature is good, that is normal with names that differ and pure results that hide nothing
 pub well_formed-good : {ctx : List Kind} {s : Sig} → WellFormed ctx s → NormalSig ctx s → Good ctx s
 well_formed-good w n = record { normal = n; shape = well_formed-shape w }
 
+-- so is one that hides types
 pub well_formed_abs-good : {ctx : List Kind} {x : Abs} → WellFormedAbs ctx x → NormalAbs ctx x → GoodAbs ctx x
 well_formed_abs-good w n = record { normal = n; shape = well_formed_abs-shape w }
 
