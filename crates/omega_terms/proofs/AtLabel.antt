@@ -1,4 +1,5 @@
 -- What stands at a label of the fields of a record, or of the branches of a case, is the part there.
+-- Main results: part-found, no-part, field-found, no-field.
 use Rattle.std.proofs.Common.{◌≡◌, [], ◌∷◌, Some, None, Bool, true, false, if◌then◌else◌, refl, sym, ap, subst, ◌∙◌}
 use Rattle.std.specs.Ordering.{is_eq}
 use Rattle.std.proofs.lemmas.Bool.{false≢true}
@@ -21,6 +22,7 @@ none-some {x = x} e = absurd (let f : None ≡ Some x → ⊥ = λ p. cc in f e)
 differs : (m l : Label) → is_eq (label_cmp m l) ≡ false → l ≡ m → ⊥
 differs m l e d = false≢true (sym e ∙ (ap (λ k. is_eq (label_cmp m k)) d ∙ label-self m))
 
+-- what is found at a label of a list of parts is the part of their row there
 pub part-found : (xs : Pairs) (l : Label) (t : Ty) → at_label xs l ≡ Some t → HasPart (row xs) l t
 part-found [] l t e = none-some e
 part-found (x ∷ xs) l t e = go (part-found xs l t) (is_eq (label_cmp x.0 l)) refl e
@@ -33,6 +35,7 @@ other-part : {m l : Label} {t u : Ty} {r : Row} → (m ≡ l → ⊥) → HasPar
 other-part {m} {l} n HasPart.here = absurd (n refl)
 other-part n (HasPart.there d h) = h
 
+-- where nothing is found at a label, the row has no part there
 pub no-part : (xs : Pairs) (l : Label) → at_label xs l ≡ None → (t : Ty) → HasPart (row xs) l t → ⊥
 no-part [] l e t h = elim h [ ]
 no-part (x ∷ xs) l e t h = go (λ q p. no-part xs l q t p) (is_eq (label_cmp x.0 l)) refl e h
@@ -41,6 +44,7 @@ no-part (x ∷ xs) l e t h = go (λ q p. no-part xs l q t p) (is_eq (label_cmp x
     go rest true s q p = none-some (sym q)
     go rest false s q p = rest q (other-part (λ e. differs x.0 l s (sym e)) p)
 
+-- what is found at a label of a list of fields is the field of their row there
 pub field-found : (xs : TermPairs) (l : Label) (e : Term) → at_label xs l ≡ Some e → HasField (term_row xs) l e
 field-found [] l e q = none-some q
 field-found (x ∷ xs) l e q = go (field-found xs l e) (is_eq (label_cmp x.0 l)) refl q
@@ -53,6 +57,7 @@ other-field : {m l : Label} {d e : Term} {f : TermRow} → (m ≡ l → ⊥) →
 other-field {m} {l} n HasField.here = absurd (n refl)
 other-field n (HasField.there d h) = h
 
+-- where nothing is found at a label, the row of terms has no field there
 pub no-field : (xs : TermPairs) (l : Label) → at_label xs l ≡ None → (e : Term) → HasField (term_row xs) l e → ⊥
 no-field [] l q e h = elim h [ ]
 no-field (x ∷ xs) l q e h = go (λ p f. no-field xs l p e f) (is_eq (label_cmp x.0 l)) refl q h

@@ -1,4 +1,5 @@
 -- Normal types put into a term keep its normal typing.
+-- Main results: typed-instance, all-shifts, forms-puts.
 use Rattle.std.specs.Prelude.{ℕ, suc, List, [], ◌∷◌, map, ◌≡◌}
 use Rattle.std.proofs.Math.Path.{refl, sym, ◌∙◌, ap, ap₂, subst}
 use Rattle.omega_kinds.specs.Kind.{Kind}
@@ -36,6 +37,7 @@ form_at ctx s t = normal ctx (substitute s t)
 abbrev pub Tied : (from from' to to' : List Kind) → (ℕ → Ty) → Type 0
 Tied from from' to to' s = (i : ℕ) (k : Kind) → Lookup from i k → Lookup from' i k → HasKind to (s i) k × HasKind to' (s i) k × (normal to (s i) ≡ normal to' (s i))
 
+-- substitutions with the same normal forms in two contexts have them below one more binder
 pub tied-under : {from from' to to' : List Kind} {s : ℕ → Ty} (j j' : Kind) → Tied from from' to to' s → Tied (j ∷ from) (j' ∷ from') (j ∷ to) (j' ∷ to') (under s)
 tied-under j j' h _ _ here here = (k_var here, k_var here, refl)
 tied-under {to = to} {to' = to'} {s = s} j j' h _ _ (there {k = k} {i = i} x) (there y) =
@@ -96,6 +98,7 @@ tied-form h a (TyInstance.made b f) = form-is f ∙ sym (coinc h a b).1
 pub form-normal : {from to : List Kind} {s : ℕ → Ty} {t : Ty} {k : Kind} → Substitutes from to s → HasKind from t k → NormalForm to (substitute s t) k (form_at to s t)
 form-normal {s = s} h g = normal-gives (kind-substitute s h g)
 
+-- putting convertible arguments into convertible bodies gives convertible types
 pub conv-instantiate : {ctx : List Kind} {a b s t : Ty} {k l : Kind} → Conv ctx a b k → Conv (k ∷ ctx) s t l → Conv ctx (instantiate s a) (instantiate t b) l
 conv-instantiate c d =
     let p = conv-kinds c in
@@ -121,6 +124,7 @@ at-map : {vars : List Ty} {n : ℕ} {t : Ty} (f : Ty → Ty) → At vars n t →
 at-map f At.here = At.here
 at-map f (At.there h) = At.there (at-map f h)
 
+-- the part at a label of a record type whose parts are substituted and normalised
 pub form-part : {r : Row} {l : Label} {t : Ty} (to : List Kind) (s : ℕ → Ty) → HasPart r l t → HasPart (normal_row to (substitute_row s r)) l (form_at to s t)
 form-part to s HasPart.here = HasPart.here
 form-part to s (HasPart.there d h) = HasPart.there d (form-part to s h)
@@ -185,6 +189,7 @@ mutual
   typed-branch-instances h g v n_end TypedBranches.none Instances.end = TypedBranches.none
   typed-branch-instances h g v (n_more d n ns) (TypedBranches.branch a others) (Instances.more b bs) = TypedBranches.branch (typed-instance h g (n, v) a b) (typed-branch-instances h g v ns others bs)
 
+-- a substitution of types of the right kinds has the same normal forms as itself
 pub tied-self : {from to : List Kind} {s : ℕ → Ty} → Substitutes from to s → Tied from from to to s
 tied-self h i k x y = (h i k x, h i k x, refl)
 
@@ -194,6 +199,7 @@ abbrev pub shifts : List Kind → List Ty → List Ty
 shifts [] vars = vars
 shifts (k ∷ ks) vars = shifts ks (shift_all vars)
 
+-- normal types of term variables stay normal when they are shifted past binders
 pub all-shifts : (ctx ks : List Kind) (vars : List Ty) → AllNormal ctx vars → AllNormal (extend ctx ks) (shifts ks vars)
 all-shifts ctx [] vars h = h
 all-shifts ctx (k ∷ ks) vars h = all-shifts (k ∷ ctx) ks (shift_all vars) (all-shift ctx k vars h)
@@ -202,14 +208,17 @@ forms-front : (to : List Kind) (t : Ty) (s : ℕ → Ty) (vars : List Ty) → ma
 forms-front to t s [] = refl
 forms-front to t s (u ∷ vars) = ap₂ ◌∷◌ (ap (normal to) (substitute-rename (front t s) suc u)) (forms-front to t s vars)
 
+-- types of term variables from outside binders do not change where types are put in for the binders' variables
 pub forms-puts : {ts : List Ty} {ks : List Kind} (to : List Kind) (s : ℕ → Ty) (vars : List Ty) → Fits ts ks → map (form_at to (puts ts s)) (shifts ks vars) ≡ map (form_at to s) vars
 forms-puts to s vars Fits.none = refl
 forms-puts to s vars (Fits.next {t = t} f) = forms-puts to (front t s) (shift_all vars) f ∙ forms-front to t s vars
 
+-- normal types do not change under the identity substitution, normalised
 pub forms-stay : (ctx : List Kind) (vars : List Ty) → AllNormal ctx vars → map (form_at ctx Ty.Var) vars ≡ vars
 forms-stay ctx [] h = refl
 forms-stay ctx (t ∷ vars) h = ap₂ ◌∷◌ (ap (normal ctx) (substitute-id t) ∙ normal_of_normal ctx t Kind.Star h.0) (forms-stay ctx vars h.1)
 
+-- shifting the types of term variables past binders, one after the other, raises each
 pub shifts-raise : (ks : List Kind) (vars : List Ty) → shifts ks vars ≡ map (raise ks) vars
 shifts-raise [] [] = refl
 shifts-raise [] (t ∷ vars) = ap₂ ◌∷◌ (sym (rename-id t)) (shifts-raise [] vars)

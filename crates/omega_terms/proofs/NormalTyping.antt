@@ -1,4 +1,5 @@
 -- Normal typing implies typing. It is kept by renaming and by more term variables outside, and its types are normal.
+-- Main results: typed-sound, typed-rename, typed-normal.
 use Rattle.std.specs.Prelude.{ℕ, zero, suc, List, [], ◌∷◌, ◌++◌, ◌≡◌}
 use Rattle.std.proofs.Math.Path.{refl, sym, ap, subst}
 use Rattle.omega_kinds.specs.Kind.{Kind}
@@ -19,9 +20,11 @@ use Rattle.omega_terms.specs.TermSubst.{ren_term, ren_fields, same_index}
 pub use Rattle.omega_terms.specs.NormalTyping.{Typed, TypedFields, TypedBranches, AllNormal}
 use Rattle.omega_terms.specs.Typing.{At, HasPart, HasType, FieldsHave, BranchesHave, shift_all, result_type, RenVars}
 
+-- a term has also a type that is equal to its type
 pub cast : {ctx : List Kind} {vars : List Ty} {e : Term} {t u : Ty} → t ≡ u → Typed ctx vars e t → Typed ctx vars e u
 cast {ctx} {vars} {e} p h = subst (λ x. Typed ctx vars e x) p h
 
+-- term variables of equal types type the same terms
 pub recast : {ctx : List Kind} {vars us : List Ty} {e : Term} {t : Ty} → vars ≡ us → Typed ctx vars e t → Typed ctx us e t
 recast {ctx} {e = e} {t = t} p h = subst (λ x. Typed ctx x e t) p h
 
@@ -59,6 +62,7 @@ mutual
 
 -- looking up in a list of shifted types
 
+-- a term variable keeps its type, weakened, below a type binder
 pub at-shift : {vars : List Ty} {n : ℕ} {t : Ty} → At vars n t → At (shift_all vars) n (rename suc t)
 at-shift At.here = At.here
 at-shift (At.there h) = At.there (at-shift h)
@@ -68,6 +72,7 @@ pub record ShiftedAt (vars : List Ty) (n : ℕ) (u : Ty) : Type 0 where
   pub at : At vars n ty
   pub is : rename suc ty ≡ u
 
+-- the type of a term variable below a type binder is a weakened one from outside
 pub shift-at : (vars : List Ty) {n : ℕ} {u : Ty} → At (shift_all vars) n u → ShiftedAt vars n u
 shift-at [] x = elim x [ ]
 shift-at (t ∷ vars) At.here = record { ty = t; at = At.here; is = refl }
@@ -75,20 +80,24 @@ shift-at (t ∷ vars) (At.there h) = let r = shift-at vars h in record { ty = r.
 
 -- renaming
 
+-- a renaming of variables that keeps types keeps them below one more term variable
 pub lift-vars : {from to : List Ty} {t : Ty} {q r : ℕ → ℕ} → RenVars from to q r → RenVars (t ∷ from) (rename q t ∷ to) q (lift r)
 lift-vars f zero t At.here = At.here
 lift-vars f (suc n) t (At.there h) = At.there (f n t h)
 
+-- so it does below one more type variable
 pub under-vars : (from to : List Ty) {q r : ℕ → ℕ} → RenVars from to q r → RenVars (shift_all from) (shift_all to) (lift q) r
 under-vars from to {q} {r} f n t h =
     let s = shift-at from h in
     subst (λ x. At (shift_all to) (r n) (rename (lift q) x)) s.is
     (subst (λ x. At (shift_all to) (r n) x) (sym (rename-weaken q s.ty)) (at-shift (f n s.ty s.at)))
 
+-- the part at a label of a renamed row is the renamed part
 pub rename-part : {r : Row} {l : Label} {t : Ty} (q : ℕ → ℕ) → HasPart r l t → HasPart (rename_row q r) l (rename q t)
 rename-part q HasPart.here = HasPart.here
 rename-part q (HasPart.there d h) = HasPart.there d (rename-part q h)
 
+-- renaming leaves the result type of an operation as it is
 pub rename-result : (q : ℕ → ℕ) (o : Op) → result_type o ≡ rename q (result_type o)
 rename-result q Op.Less = refl
 rename-result q Op.Equal = refl
@@ -142,6 +151,7 @@ pub all-at : {ctx : List Kind} {vars : List Ty} {n : ℕ} {t : Ty} → AllNormal
 all-at h At.here = h.0
 all-at h (At.there a) = all-at h.1 a
 
+-- normal types of term variables stay normal below one more type binder
 pub all-shift : (ctx : List Kind) (k : Kind) (vars : List Ty) → AllNormal ctx vars → AllNormal (k ∷ ctx) (shift_all vars)
 all-shift ctx k [] h = tt
 all-shift ctx k (t ∷ vars) h = (normal-rename suc (maps-suc k ctx) h.0, all-shift ctx k vars h.1)
@@ -154,18 +164,22 @@ normal-row : {ctx : List Kind} {r : Row} → Normal ctx (Ty.Fields r) Kind.Star 
 normal-row (n_fields r) = r
 normal-row (n_neutral n) = elim n [ ]
 
+-- the row of a normal sum type is normal
 pub normal-sum : {ctx : List Kind} {r : Row} → Normal ctx (Ty.Sum r) Kind.Star → Normals ctx r
 normal-sum (n_sum r) = r
 normal-sum (n_neutral n) = elim n [ ]
 
+-- the body of a normal universally quantified type is normal
 pub normal-all : {ctx : List Kind} {k : Kind} {b : Ty} → Normal ctx (Ty.All k b) Kind.Star → Normal (k ∷ ctx) b Kind.Star
 normal-all (n_all b) = b
 normal-all (n_neutral n) = elim n [ ]
 
+-- so is that of an existentially quantified one
 pub normal-ex : {ctx : List Kind} {k : Kind} {b : Ty} → Normal ctx (Ty.Ex k b) Kind.Star → Normal (k ∷ ctx) b Kind.Star
 normal-ex (n_ex b) = b
 normal-ex (n_neutral n) = elim n [ ]
 
+-- so is that of a recursive one
 pub normal-mu : {ctx : List Kind} {b : Ty} → Normal ctx (Ty.Mu b) Kind.Star → Normal (Kind.Star ∷ ctx) b Kind.Star
 normal-mu (n_mu b) = b
 normal-mu (n_neutral n) = elim n [ ]

@@ -1,4 +1,5 @@
 -- What shifting and substitution do at each form of term, with indexes counted as the code counts them.
+-- Main results: ren_term-same, put_term-same, put_type-same.
 use Rattle.std.proofs.Common.{◌≡◌, ℕ, zero, suc, ◌+◌, ◌-◌, ◌<◌, ◌≤◌, [], ◌∷◌, length, get_or, take, drop, map, ◌++◌, refl, sym, ap, ap₂, ◌∙◌, arith}
 use Rattle.std.proofs.lemmas.List.{take_all}
 use Rattle.std.proofs.Math.Seq.{take-suc}
@@ -21,6 +22,7 @@ next n = omega arith
 
 -- ---- shifting, from an index of each sort
 
+-- a shift leaves a term whose free indexes are all below its places
 pub ren_term-same : (a b i j : ℕ) (e : Term) → type_bound e ≤ i → term_bound e ≤ j → ren_term (bump a i) (bump b j) e ≡ e
 ren_term-same a b i j e p o = ren_term-unchanged i j (bump a i) (bump b j) e (bump-below a i) (bump-below b j) p o
 
@@ -30,18 +32,23 @@ bump-var_below by from i h = ap Term.Var (bump-below by from i h)
 pub bump-var_above : (by from i : ℕ) → from ≤ i → Term.Var (bump by from i) ≡ Term.Var (i + by)
 bump-var_above by from i h = ap Term.Var (let e = bump-above by from i h in omega arith)
 
+-- a shift below one term binder
 pub ren-under_term : (a b i j : ℕ) (e : Term) → ren_term (bump a i) (lift (bump b j)) e ≡ ren_term (bump a i) (bump b (j + 1)) e
 ren-under_term a b i j e = ap (λ n. ren_term (bump a i) (bump b n) e) (next j)
 
+-- the same for a row of terms, as the branches of a case
 pub ren-row_under_term : (a b i j : ℕ) (row : TermRow) → ren_fields (bump a i) (lift (bump b j)) row ≡ ren_fields (bump a i) (bump b (j + 1)) row
 ren-row_under_term a b i j row = ap (λ n. ren_fields (bump a i) (bump b n) row) (next j)
 
+-- a shift below one type binder
 pub ren-under_type : (a b i j : ℕ) (e : Term) → ren_term (lift (bump a i)) (bump b j) e ≡ ren_term (bump a (i + 1)) (bump b j) e
 ren-under_type a b i j e = ap (λ n. ren_term (bump a n) (bump b j) e) (next i)
 
+-- a shift below a type binder and a term binder, as in the body of an open
 pub ren-under_both : (a b i j : ℕ) (e : Term) → ren_term (lift (bump a i)) (lift (bump b j)) e ≡ ren_term (bump a (i + 1)) (bump b (j + 1)) e
 ren-under_both a b i j e = ap₂ (λ m n. ren_term (bump a m) (bump b n) e) (next i) (next j)
 
+-- a shift below two term binders, as in the body of a recursive function
 pub ren-under_two : (a b i j : ℕ) (e : Term) → ren_term (bump a i) (lift (lift (bump b j))) e ≡ ren_term (bump a i) (bump b (j + 1 + 1)) e
 ren-under_two a b i j e = ap (λ n. ren_term (bump a i) (bump b n) e) (ap suc (next j) ∙ next (j + 1))
 
@@ -53,6 +60,7 @@ bump-none = fun_ext (λ n. omega arith)
 bump-one : bump 1 0 ≡ suc
 bump-one = fun_ext (λ n. omega arith)
 
+-- a shift by one term variable is weakening
 pub shift-one_term : (e : Term) → shift_term e 0 1 ≡ ren_term same_index suc e
 shift-one_term e = ap₂ (λ q r. ren_term q r e) bump-none bump-one
 
@@ -82,15 +90,19 @@ slot-above (suc i) (suc (suc j)) h = ap raised (slot-above i (suc j) (omega arit
     less : (n : ℕ) → suc (suc n - 1) ≡ suc (suc n) - 1
     less n = omega arith
 
+-- a term put in for a variable stands at its index
 pub put-var_same : (i j : ℕ) (a : Term) → j ≡ i → fill_term a (slot i j) ≡ a
 put-var_same i j a e = ap (λ n. fill_term a (slot i n)) e ∙ ap (fill_term a) (slot-same i)
 
+-- it leaves each smaller index
 pub put-var_below : (i j : ℕ) (a : Term) → j < i → fill_term a (slot i j) ≡ Term.Var j
 put-var_below i j a h = ap (fill_term a) (slot-below i j h)
 
+-- it lowers each greater index by one
 pub put-var_above : (i j : ℕ) (a : Term) → i < j → fill_term a (slot i j) ≡ Term.Var (j - 1)
 put-var_above i j a h = ap (fill_term a) (slot-above i j h)
 
+-- a term put in for a variable leaves a term whose free term indexes are all below it
 pub put_term-same : (e : Term) (i : ℕ) (a : Term) → term_bound e ≤ i → put_term e i a ≡ e
 put_term-same e i a h =
     sub_term-unchanged (type_bound e) i Ty.Var (put_at i a) e (λ n p. refl) (λ j p. ap (fill_term a) (slot-below i j p)) (omega arith) h
@@ -120,23 +132,29 @@ under-vars = fun_ext go
     go zero = refl
     go (suc i) = refl
 
+-- a term put in for a variable, below one term binder
 pub put_term-under_term : (i : ℕ) (a e : Term) → sub_term Ty.Var (up_term (put_at i a)) e ≡ put_term e (i + 1) (shift_term a 0 1)
 put_term-under_term i a e = ap (λ w. sub_term Ty.Var w e) (up-put_at i a)
 
+-- the same for a row of terms, as the branches of a case
 pub put_term-row_under_term : (i : ℕ) (a : Term) (row : TermRow) → sub_fields Ty.Var (up_term (put_at i a)) row ≡ sub_fields Ty.Var (put_at (i + 1) (shift_term a 0 1)) row
 put_term-row_under_term i a row = ap (λ w. sub_fields Ty.Var w row) (up-put_at i a)
 
+-- a term put in for a variable, below one type binder
 pub put_term-under_type : (i : ℕ) (a e : Term) → sub_term (under Ty.Var) (under_type (put_at i a)) e ≡ put_term e i (shift_term a 1 0)
 put_term-under_type i a e = ap₂ (λ s w. sub_term s w e) under-vars (under_type-put_at i a)
 
+-- a term put in for a variable, below a type binder and a term binder
 pub put_term-under_both : (i : ℕ) (a e : Term) → sub_term (under Ty.Var) (up_term (under_type (put_at i a))) e ≡ sub_term Ty.Var (up_term (put_at i (shift_term a 1 0))) e
 put_term-under_both i a e = ap₂ (λ s w. sub_term s (up_term w) e) under-vars (under_type-put_at i a)
 
+-- a term put in for a variable, below two term binders
 pub put_term-under_two : (i : ℕ) (a e : Term) → sub_term Ty.Var (up_term (up_term (put_at i a))) e ≡ sub_term Ty.Var (up_term (put_at (i + 1) (shift_term a 0 1))) e
 put_term-under_two i a e = ap (λ w. sub_term Ty.Var (up_term w) e) (up-put_at i a)
 
 -- ---- a type put in for one index
 
+-- a type put in for a variable leaves a term whose free type indexes are all below it
 pub put_type-same : (e : Term) (i : ℕ) (a : Ty) → type_bound e ≤ i → put_type e i a ≡ e
 put_type-same e i a h =
     sub_term-unchanged i (term_bound e) (put i a) Term.Var e (λ j p. put-below i a j p) (λ n p. refl) h (omega arith)
@@ -151,18 +169,23 @@ up-vars = fun_ext go
 under-put : (i : ℕ) (a : Ty) → under (put i a) ≡ put (i + 1) (shift 1 0 a)
 under-put i a = put-under i a ∙ ap₂ put (next i) (sym (shift-suc a))
 
+-- a type put in for a variable, below one term binder
 pub put_type-under_term : (i : ℕ) (a : Ty) (e : Term) → sub_term (put i a) (up_term Term.Var) e ≡ put_type e i a
 put_type-under_term i a e = ap (λ w. sub_term (put i a) w e) up-vars
 
+-- the same for a row of terms, as the branches of a case
 pub put_type-row_under_term : (i : ℕ) (a : Ty) (row : TermRow) → sub_fields (put i a) (up_term Term.Var) row ≡ sub_fields (put i a) Term.Var row
 put_type-row_under_term i a row = ap (λ w. sub_fields (put i a) w row) up-vars
 
+-- a type put in for a variable, below one type binder
 pub put_type-under_type : (i : ℕ) (a : Ty) (e : Term) → sub_term (under (put i a)) (under_type Term.Var) e ≡ put_type e (i + 1) (shift 1 0 a)
 put_type-under_type i a e = ap (λ s. sub_term s Term.Var e) (under-put i a)
 
+-- a type put in for a variable, below a type binder and a term binder
 pub put_type-under_both : (i : ℕ) (a : Ty) (e : Term) → sub_term (under (put i a)) (up_term (under_type Term.Var)) e ≡ put_type e (i + 1) (shift 1 0 a)
 put_type-under_both i a e = ap₂ (λ s w. sub_term s w e) (under-put i a) up-vars
 
+-- a type put in for a variable, below two term binders
 pub put_type-under_two : (i : ℕ) (a : Ty) (e : Term) → sub_term (put i a) (up_term (up_term Term.Var)) e ≡ put_type e i a
 put_type-under_two i a e = ap (λ w. sub_term (put i a) w e) (ap up_term up-vars ∙ up-vars)
 

@@ -1,4 +1,5 @@
 -- A type or a term put in for one variable is a walk, and what the walk leaves as it is.
+-- Main results: walk-is-put_type, walk-is-put_term.
 use Rattle.std.proofs.Common.{◌≡◌, ℕ, ◌+◌, ◌≤◌, refl, sym, ap, ap₂, ◌∙◌, arith}
 use Rattle.omega_types.specs.Ty.{Ty}
 use Rattle.omega_types.specs.Substitution.{under}
@@ -63,9 +64,11 @@ mutual
 outermost : (x : ℕ) → x + 0 ≡ x
 outermost x = omega arith
 
+-- the walk that puts a type in for a type variable is the substitution for it
 pub walk-is-put_type : (x : ℕ) (a : Ty) (e : Term) → walked (typed x a) stays 0 0 e ≡ put_type e x a
 walk-is-put_type x a e = walk-puts_type x a 0 0 e ∙ ap₂ (put_type e) (outermost x) (shift-zero 0 a)
 
+-- that walk leaves a term whose free type indexes are all below its place
 pub puts-no_type : (x : ℕ) (a : Ty) (i j : ℕ) (e : Term) → type_bound e ≤ x + i → walked (typed x a) stays i j e ≡ e
 puts-no_type x a i j e le = walk-puts_type x a i j e ∙ put_type-same e (x + i) (shift i 0 a) le
 
@@ -133,9 +136,11 @@ mutual
   row-puts_term x a i j TermRow.End = refl
   row-puts_term x a i j (TermRow.More l e rest) = ap₂ (TermRow.More l) (walk-puts_term x a i j e) (row-puts_term x a i j rest)
 
+-- the walk that puts a term in for a term variable is the substitution for it
 pub walk-is-put_term : (x : ℕ) (a e : Term) → walked same_type (filled x a) 0 0 e ≡ put_term e x a
 walk-is-put_term x a e = walk-puts_term x a 0 0 e ∙ ap₂ (put_term e) (outermost x) (shift-none a)
 
+-- that walk leaves a term whose free term indexes are all below its place
 pub puts-no_term : (x : ℕ) (a : Term) (i j : ℕ) (e : Term) → term_bound e ≤ x + j → walked same_type (filled x a) i j e ≡ e
 puts-no_term x a i j e le = walk-puts_term x a i j e ∙ put_term-same e (x + j) (shift_term a i j) le
 

@@ -1,4 +1,5 @@
 -- A shift is a walk, and what the walk leaves as it is.
+-- Main results: walk-raises, raises-nothing.
 use Rattle.std.proofs.Common.{◌≡◌, ◌⊎◌, inl, inr, ℕ, zero, suc, ◌+◌, ◌<◌, ◌≤◌, refl, sym, ap, ap₂, ◌∙◌, arith}
 use Rattle.omega_types.specs.Ty.{Ty}
 use Rattle.omega_types.specs.Index.{bump, shift}
@@ -54,9 +55,11 @@ bump-kept : (by from bound n : ℕ) → (by ≡ 0) ⊎ (bound ≤ from) → n < 
 bump-kept by from bound n (inl none) h = ap (λ b. bump b from n) none ∙ bump-none from n
 bump-kept by from bound n (inr le) h = bump-below by from n (omega arith)
 
+-- the walk of a shift leaves a term where it raises nothing or meets no index at or above its places
 pub raises-nothing : (a b i j n m : ℕ) (e : Term) → n ≡ type_bound e → m ≡ term_bound e → (a ≡ 0) ⊎ (n ≤ i) → (b ≡ 0) ⊎ (m ≤ j) → walked (raised_type a) (raised_variable b) i j e ≡ e
 raises-nothing a b i j n m e p q types terms =
     walk-raises a b i j e ∙ ren_term-unchanged n m (bump a i) (bump b j) e (λ k. bump-kept a i n k types) (λ k. bump-kept b j m k terms) (omega (arith, p)) (omega (arith, q))
 
+-- a shift by nothing leaves a term as it is
 pub shift-none : (e : Term) → shift_term e 0 0 ≡ e
 shift-none e = sym (walk-raises 0 0 0 0 e) ∙ raises-nothing 0 0 0 0 (type_bound e) (term_bound e) e refl refl (inl refl) (inl refl)

@@ -1,4 +1,5 @@
 -- Renaming after renaming in terms.
+-- Main results: ren-ren_term, shift-shift_term.
 use Rattle.std.specs.Prelude.{ℕ, ◌+◌, ◌≡◌}
 use Rattle.std.proofs.Common.{arith}
 use Rattle.std.proofs.Math.Path.{refl, ◌∙◌, ap, ap₂, fun_ext}
@@ -43,6 +44,7 @@ mutual
 bump-more : (by more : ℕ) → (λ n. bump more 0 (bump by 0 n)) ≡ bump (by + more) 0
 bump-more by more = fun_ext (λ n. omega arith)
 
+-- two shifts of a term add up
 pub shift-shift_term : (e : Term) (i j p q : ℕ) → shift_term (shift_term e i j) p q ≡ shift_term e (i + p) (j + q)
 shift-shift_term e i j p q =
     ren-ren_term (bump p 0) (bump i 0) (bump q 0) (bump j 0) e ∙ ap₂ (λ r s. ren_term r s e) (bump-more i p) (bump-more j q)

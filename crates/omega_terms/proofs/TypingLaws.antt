@@ -1,5 +1,6 @@
 -- Laws of typing itself, with its rule of conversion: renaming and substitution of both kinds of variables, the kind of
 -- a type, term variables retyped at convertible types, and annotations replaced by convertible ones.
+-- Main results: type-kind, revars, replaced-typed.
 use Rattle.std.specs.Prelude.{ℕ, zero, suc, List, [], ◌∷◌, Bool, ℤ, ◌≡◌}
 use Rattle.std.proofs.Math.Path.{refl, sym, ◌∙◌, ap, subst}
 use Rattle.omega_kinds.specs.Kind.{Kind}
@@ -22,6 +23,7 @@ use Rattle.omega_terms.specs.Typing.{At, HasPart, HasType, FieldsHave, BranchesH
 use Rattle.omega_terms.proofs.NormalTyping.{at-shift, shift-at, lift-vars, under-vars, rename-part, rename-result}
 use Rattle.omega_terms.proofs.NormalInstance.{conv-instantiate}
 
+-- a term has also a type that is equal to its type
 pub cast-type : {ctx : List Kind} {vars : List Ty} {e : Term} {t u : Ty} → t ≡ u → HasType ctx vars e t → HasType ctx vars e u
 cast-type {ctx} {vars} {e} p h = subst (λ x. HasType ctx vars e x) p h
 
@@ -121,23 +123,28 @@ mutual
 
 -- a type of a term has kind *
 
+-- no term variables have types of kind *
 pub good-none : (ctx : List Kind) → GoodVars ctx []
 good-none ctx n t h = elim h [ ]
 
+-- one more term variable of a type of kind * keeps those types of kind *
 pub good-more : {ctx : List Kind} {vars : List Ty} {t : Ty} → HasKind ctx t Kind.Star → GoodVars ctx vars → GoodVars ctx (t ∷ vars)
 good-more k g zero t At.here = k
 good-more k g (suc n) t (At.there h) = g n t h
 
+-- types of term variables stay of kind * below one more type binder
 pub good-shift : {ctx : List Kind} (vars : List Ty) (k : Kind) → GoodVars ctx vars → GoodVars (k ∷ ctx) (shift_all vars)
 good-shift {ctx} vars k g n t h =
     let a = shift-at vars h in
     subst (λ x. HasKind (k ∷ ctx) x Kind.Star) a.is (kind-rename suc (maps-suc k ctx) (g n a.ty a.at))
 
+-- a part of a record or a sum type has kind *
 pub part-kind : {ctx : List Kind} {r : Row} {l : Label} {t : Ty} → HasKinds ctx r → HasPart r l t → HasKind ctx t Kind.Star
 part-kind k_end x = elim x [ ]
 part-kind (k_more f k ks) HasPart.here = k
 part-kind (k_more f k ks) (HasPart.there e p) = part-kind ks p
 
+-- the result type of an operation has kind *
 pub result-kind : {ctx : List Kind} (o : Op) → HasKind ctx (result_type o) Kind.Star
 result-kind Op.Less = k_bool
 result-kind Op.Equal = k_bool
@@ -147,10 +154,12 @@ abbrev pub some_type : Kind → Ty
 some_type Kind.Star = Ty.Int
 some_type (Kind.Arrow j l) = Ty.Lam j (some_type l)
 
+-- the closed type chosen for a kind has the kind
 pub some-kind : (ctx : List Kind) (k : Kind) → HasKind ctx (some_type k) k
 some-kind ctx Kind.Star = k_int
 some-kind ctx (Kind.Arrow j l) = k_lam (some-kind (j ∷ ctx) l)
 
+-- a type whose weakening has a kind has it outside
 pub kind-unshift : {ctx : List Kind} {t : Ty} {k j : Kind} → HasKind (j ∷ ctx) (rename suc t) k → HasKind ctx t k
 kind-unshift {ctx} {t} {k} {j} h = subst (λ u. HasKind ctx u k) (single-rename t (some_type j)) (kind-substitute (single (some_type j)) (single-substitutes (some-kind ctx j)) h)
 
@@ -186,6 +195,7 @@ mutual
 abbrev pub ConvVars : List Kind → List Ty → List Ty → Type 0
 ConvVars ctx vars others = (n : ℕ) (t : Ty) → At vars n t → HasType ctx others (Term.Var n) t
 
+-- term variables at convertible types, with one more such variable
 pub conv-more : {ctx : List Kind} {vars others : List Ty} {t u : Ty} → Conv ctx u t Kind.Star → ConvVars ctx vars others → ConvVars ctx (t ∷ vars) (u ∷ others)
 conv-more c g zero t At.here = HasType.conv (HasType.var At.here) c
 conv-more {u = u} c g (suc n) t (At.there h) = shift-vars u (g n t h)
@@ -193,6 +203,7 @@ conv-more {u = u} c g (suc n) t (At.there h) = shift-vars u (g n t h)
 conv-shift : {ctx : List Kind} (vars : List Ty) {others : List Ty} (k : Kind) → ConvVars ctx vars others → ConvVars (k ∷ ctx) (shift_all vars) (shift_all others)
 conv-shift vars k g n t h = let a = shift-at vars h in cast-type a.is (shift-types k (g n a.ty a.at))
 
+-- term variables at the same types have their types
 pub conv-same : (ctx : List Kind) (vars : List Ty) → ConvVars ctx vars vars
 conv-same ctx vars n t h = HasType.var h
 

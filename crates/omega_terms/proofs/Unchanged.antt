@@ -1,4 +1,5 @@
 -- What does not reach an index of a term leaves the term as it is.
+-- Main results: ren_term-unchanged.
 use Rattle.std.proofs.Common.{◌≡◌, ℕ, zero, suc, ◌<◌, ◌≤◌, refl, ap, ap₂, arith}
 use Rattle.omega_types.specs.Ty.{Ty, lift}
 use Rattle.omega_types.specs.Substitution.{rename, under}
@@ -7,6 +8,7 @@ use Rattle.omega_terms.specs.Term.{Term, TermRow}
 use Rattle.omega_terms.specs.TermSubst.{ren_term, ren_fields, sub_term, sub_fields, under_type, up_term, same_index}
 use Rattle.omega_terms.specs.Inner.Bound.{type_bound, row_type_bound, term_bound, row_term_bound}
 
+-- a function of three arguments takes equal ones to equal results
 pub ap₃ : {A B C D : Type 0} (f : A → B → C → D) {a b : A} {p q : B} {x y : C} → a ≡ b → p ≡ q → x ≡ y → f a p x ≡ f b q y
 ap₃ f d e g = λ i. f (d i) (e i) (g i)
 

@@ -1,4 +1,5 @@
 -- The test for values is exact.
+-- Main results: test-exact.
 use Rattle.std.proofs.Common.{◌≡◌, ◌↔◌, ◌&&◌, Bool as Truth, true, false, IsTrue, [], ◌∷◌, ◌++◌, refl, sym, ap, ◌∙◌}
 use Rattle.omega_kinds.specs.declared.label.Label.{Label}
 use Rattle.omega_terms.specs.Fields.{TermPairs, term_row}
@@ -65,6 +66,7 @@ mutual
   all_pass AreValues.end = refl
   all_pass (AreValues.more v f) = both _ _ (passes v) (all_pass f)
 
+-- the test accepts exactly the values
 pub test-exact : (e : Term) → IsTrue (value_test e) ↔ IsValue e
 test-exact e = (tested e, passes)
 

@@ -1,4 +1,5 @@
 -- Hereditary substitution gives the normal form of the substitution, and the normaliser the normal form.
+-- Main results: hsubst-gives, normaliser_gives, each_has_one, same_exactly.
 use Rattle.std.specs.Prelude.{ℕ, zero, suc, List, ◌∷◌, ◌≡◌}
 use Rattle.std.proofs.Math.Path.{refl, sym, subst}
 use Rattle.omega_kinds.specs.Kind.{Kind}
@@ -89,11 +90,13 @@ good-args : (k : Kind) → Good k (args k)
 good-args Kind.Star = tt
 good-args (Kind.Arrow k l) = (λ i ctx more a t j h n m. put-normal (args k) (good-args k) h n m, good-args l)
 
+-- hereditary substitution gives the normal form of the substitution
 pub hsubst-gives : HsubstGives
 hsubst-gives ctx more i a b k l h n m = put-normal (args k) (good-args k) h n m
 
 -- eta-long forms
 
+-- the eta-long form of a neutral type is its normal form
 pub eta-normal : (k : Kind) {ctx : List Kind} {t : Ty} → Neutral ctx t k → NormalForm ctx t k (eta k t)
 eta-normal Kind.Star n = (n_neutral n, c_refl (neutral-kind n))
 eta-normal (Kind.Arrow k l) {ctx = ctx} n =
@@ -102,6 +105,7 @@ eta-normal (Kind.Arrow k l) {ctx = ctx} n =
     let b = eta-normal l (n_apply w a.0) in
     (n_lam b.0, c_trans (c_sym (c_eta (neutral-kind n))) (c_lam (c_trans (c_apply (c_refl (neutral-kind w)) a.1) b.1)))
 
+-- the kind at an index of a context is that of its variable
 pub lookup-kind_at : {ctx : List Kind} {i : ℕ} {k : Kind} → Lookup ctx i k → k ≡ kind_at ctx i
 lookup-kind_at here = refl
 lookup-kind_at (there x) = lookup-kind_at x
@@ -138,18 +142,23 @@ mutual
 one-normal-form : {ctx : List Kind} {t : Ty} {k : Kind} (n : Ty) → NormalForm ctx t k n → OneNormalForm ctx t k
 one-normal-form {ctx} {t} {k} n f = (n, f, λ m h. unique_normal_forms ctx m n k h.0 f.0 (c_trans (c_sym h.1) f.1))
 
+-- the normaliser gives the normal form of each type of a kind
 pub normaliser_gives : NormaliserGives
 normaliser_gives ctx t k h = normal-gives h
 
+-- each type of a kind has exactly one normal form
 pub each_has_one : EachHasOne
 each_has_one ctx t k h = one-normal-form (normal ctx t) (normal-gives h)
 
+-- a normal body with a normal argument put in has exactly one normal form
 pub instance_has_one : InstanceHasOne
 instance_has_one ctx more i a b k l h n m = one-normal-form (hsubst k i a b) (hsubst-gives ctx more i a b k l h n m)
 
+-- renaming keeps types normal
 pub renaming_keeps : RenamingKeeps
 renaming_keeps ctx other r t k h n = normal-rename r h n
 
+-- normal types of one kind are convertible exactly where they are the same
 pub same_exactly : SameExactlyWhereConvertible
 same_exactly ctx s t k n m = (λ e. subst (λ u. Conv ctx s u k) e (c_refl (normal-kind n)), unique_normal_forms ctx s t k n m)
 

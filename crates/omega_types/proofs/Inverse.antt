@@ -1,4 +1,5 @@
 -- Inversion of conversion, by normal forms.
+-- Main results: one_kind, decides, arrow_parts, all_parts, fields_parts.
 use Rattle.std.specs.Prelude.{List, ◌∷◌, ◌≡◌}
 use Rattle.std.proofs.Math.Path.{sym, ◌∙◌, ap, subst}
 use Rattle.omega_kinds.specs.Kind.{Kind}
@@ -17,9 +18,11 @@ use Rattle.omega_types.proofs.Preservation.{conv-kinds}
 use Rattle.omega_types.proofs.Hereditary.{normal-gives}
 use Rattle.omega_types.proofs.Readback.{unique_normal_forms}
 
+-- a type has at most one kind
 pub one_kind : OneKind
 one_kind ctx t k l h g = ap (λ c. c.0) (sym (kinded-code h).1 ∙ (kinded-code g).1)
 
+-- convertible types have the same normal form
 pub same-normal : {ctx : List Kind} {s t : Ty} {k : Kind} → Conv ctx s t k → normal ctx s ≡ normal ctx t
 same-normal {ctx} {s} {t} {k} c =
     let h = conv-kinds c in
@@ -27,9 +30,11 @@ same-normal {ctx} {s} {t} {k} c =
     let q = normal-gives h.1 in
     unique_normal_forms ctx (normal ctx s) (normal ctx t) k p.0 q.0 (c_trans (c_sym p.1) (c_trans c q.1))
 
+-- types of one kind with the same normal form are convertible
 pub normal-same : {ctx : List Kind} {s t : Ty} {k : Kind} → HasKind ctx s k → HasKind ctx t k → normal ctx s ≡ normal ctx t → Conv ctx s t k
 normal-same {ctx} {s} {t} {k} h g e = c_trans (normal-gives h).1 (c_sym (subst (λ u. Conv ctx t u k) (sym e) (normal-gives g).1))
 
+-- types of one kind are convertible exactly where their normal forms are the same
 pub decides : Decides
 decides ctx s t k h g = (same-normal, normal-same h g)
 
@@ -57,24 +62,31 @@ fields_of (Ty.Fields row) = row
 fields_of (Ty.Sum row) = row
 fields_of t = Row.End
 
+-- both sides of a function type have kind *
 pub arrow-kinds : {ctx : List Kind} {a b : Ty} {k : Kind} → HasKind ctx (Ty.Arrow a b) k → HasKind ctx a Kind.Star × HasKind ctx b Kind.Star
 arrow-kinds (k_arrow a b) = (a, b)
 
+-- the body of a universally quantified type has kind *
 pub all-kinds : {ctx : List Kind} {l : Kind} {b : Ty} {k : Kind} → HasKind ctx (Ty.All l b) k → HasKind (l ∷ ctx) b Kind.Star
 all-kinds (k_all b) = b
 
+-- the body of an existentially quantified type has kind *
 pub ex-kinds : {ctx : List Kind} {l : Kind} {b : Ty} {k : Kind} → HasKind ctx (Ty.Ex l b) k → HasKind (l ∷ ctx) b Kind.Star
 ex-kinds (k_ex b) = b
 
+-- the parts of a record type have kind *, at distinct labels
 pub fields-kinds : {ctx : List Kind} {row : Row} {k : Kind} → HasKind ctx (Ty.Fields row) k → HasKinds ctx row
 fields-kinds (k_fields row) = row
 
+-- so have those of a sum type
 pub sum-kinds : {ctx : List Kind} {row : Row} {k : Kind} → HasKind ctx (Ty.Sum row) k → HasKinds ctx row
 sum-kinds (k_sum row) = row
 
+-- the body of a recursive type has kind *
 pub mu-kinds : {ctx : List Kind} {b : Ty} {k : Kind} → HasKind ctx (Ty.Mu b) k → HasKind (Kind.Star ∷ ctx) b Kind.Star
 mu-kinds (k_mu b) = b
 
+-- convertible function types have convertible sides
 pub arrow_parts : ArrowParts
 unfolding from_of to_of
 arrow_parts ctx a b c d e =
@@ -84,6 +96,7 @@ arrow_parts ctx a b c d e =
     let n = same-normal e in
     (normal-same p.0 q.0 (ap from_of n), normal-same p.1 q.1 (ap to_of n))
 
+-- convertible universally quantified types have one kind and convertible bodies
 pub all_parts : AllParts
 unfolding body_of kind_of
 all_parts ctx k l b c e =
@@ -95,6 +108,7 @@ all_parts ctx k l b c e =
     let m : normal (k ∷ ctx) b ≡ normal (l ∷ ctx) c = ap body_of n in
     (i, normal-same p (subst (λ j. HasKind (j ∷ ctx) c Kind.Star) (sym i) q) (subst (λ j. normal (k ∷ ctx) b ≡ normal (j ∷ ctx) c) (sym i) m))
 
+-- so have existentially quantified ones
 pub ex_parts : ExParts
 unfolding body_of kind_of
 ex_parts ctx k l b c e =
@@ -106,6 +120,7 @@ ex_parts ctx k l b c e =
     let m : normal (k ∷ ctx) b ≡ normal (l ∷ ctx) c = ap body_of n in
     (i, normal-same p (subst (λ j. HasKind (j ∷ ctx) c Kind.Star) (sym i) q) (subst (λ j. normal (k ∷ ctx) b ≡ normal (j ∷ ctx) c) (sym i) m))
 
+-- convertible recursive types have convertible bodies
 pub mu_parts : MuParts
 unfolding body_of
 mu_parts ctx b c e =
@@ -141,12 +156,14 @@ rows-same {ctx} (k_more {l = l} {t = s} {rest = rest} f t ts) (k_more {l = m} {t
     let r = rows-same ts vs (ap rest_of e) in
     subst (λ x. Convs ctx (Row.More l s rest) (Row.More x u other)) i (c_more f (subst (λ x. Fresh x other) (sym i) g) j r)
 
+-- convertible record types have the same labels at convertible parts
 pub fields_parts : FieldsParts
 unfolding fields_of
 fields_parts ctx row other e =
     let h = conv-kinds e in
     rows-same (fields-kinds h.0) (fields-kinds h.1) (ap fields_of (same-normal e))
 
+-- so have convertible sum types
 pub sum_parts : SumParts
 unfolding fields_of
 sum_parts ctx row other e =

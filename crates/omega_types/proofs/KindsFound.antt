@@ -1,4 +1,5 @@
 -- The recursion on types finds the kind that kinding gives, and none where there is none.
+-- Main results: kind_means, lookup-found, found-lookup.
 use Rattle.std.proofs.Common.{◌≡◌, ℕ, zero, suc, List, [], ◌∷◌, Option, Some, None, Bool as Truth, true, false, ◌&&◌, not, if◌then◌else◌, MatchOption, slice_get, subst, refl, sym, ap, ◌∙◌}
 use Rattle.std.proofs.lemmas.Bool.{false≢true}
 use Rattle.std.proofs.lemmas.Cmp.{tied_itself}
@@ -71,10 +72,12 @@ applied-yes (Some (Kind.Arrow k i)) (Some m) j e =
 
 -- ---- variables
 
+-- a variable of a kind in the context is found there with it
 pub lookup-found : {ctx : List Kind} {i : ℕ} {k : Kind} → Lookup ctx i k → slice_get ctx i ≡ Some k
 lookup-found here = refl
 lookup-found (there x) = lookup-found x
 
+-- what is found at an index of the context is the kind of the variable
 pub found-lookup : (ctx : List Kind) (i : ℕ) (k : Kind) → slice_get ctx i ≡ Some k → Lookup ctx i k
 found-lookup [] i k e = cc
 found-lookup (j ∷ ctx) zero k e = let s : j ≡ k = cc in subst (λ m. Lookup (j ∷ ctx) zero m) s here
@@ -92,6 +95,7 @@ not-eq Less h = refl
 not-eq Equal h = absurd (h refl)
 not-eq Greater h = refl
 
+-- a label that the test finds fresh is none of the row's
 pub fresh-sound : (l : Label) (r : Row) → is_fresh l r ≡ true → Fresh l r
 fresh-sound l Row.End e = tt
 fresh-sound l (Row.More m t rest) e =
@@ -101,6 +105,7 @@ fresh-sound l (Row.More m t rest) e =
     same : (l m : Label) → l ≡ m → label_cmp l m ≡ Equal
     same l m s = ap (label_cmp l) (sym s) ∙ tied_itself label_total l
 
+-- a label that is none of the row's passes the test
 pub fresh-complete : (l : Label) (r : Row) → Fresh l r → is_fresh l r ≡ true
 fresh-complete l Row.End f = refl
 fresh-complete l (Row.More m t rest) f = rw (not-eq (label_cmp l m) (λ s. f.0 (label_exact l m s)), fresh-complete l rest f.1) refl
@@ -170,6 +175,7 @@ mutual
 
 -- ---- for the code
 
+-- the recursion finds the kind of a type, and nothing for a type that has none
 pub kind_means : (ctx : List Kind) (t : Ty) (o : Option SharedKind) → option_map kind_tree o ≡ kind_in ctx t
     → MatchOption o ((k : Kind) → HasKind ctx t k → ⊥) (λ k. HasKind ctx t (kind_tree k))
 kind_means ctx t None e = λ k h. let c = kind_in-complete h in cc
@@ -183,6 +189,7 @@ rises-fresh : (l : Label) (x : Label × Ty) (xs : Pairs) → LabelBefore l x.0 �
 rises-fresh l x [] h r = rw (before-not l x.0 h) refl
 rises-fresh l x (y ∷ xs) h r = rw (before-not l x.0 h, rises-fresh l y xs (transitive l x.0 y.0 h r.0) r.1) refl
 
+-- fields whose labels rise have distinct labels
 pub rises-distinct : (xs : Pairs) → Rises xs → are_distinct (row xs) ≡ true
 rises-distinct [] r = refl
 rises-distinct (x ∷ []) r = refl

@@ -1,4 +1,5 @@
 -- Renaming and substitution keep kinds, normality and conversion, and convertible types have the kind.
+-- Main results: kind-rename, kind-substitute, conv-rename, conv-kinds, normal-kind.
 use Rattle.std.specs.Prelude.{ℕ, zero, suc, List, ◌∷◌}
 use Rattle.std.proofs.Math.Path.{sym, subst}
 use Rattle.omega_kinds.specs.Kind.{Kind}
@@ -20,13 +21,16 @@ use Rattle.omega_types.proofs.Algebra.{rename-instantiate, rename-weaken, substi
 
 -- renaming
 
+-- weakening keeps kinds
 pub maps-suc : (l : Kind) (ctx : List Kind) → Maps ctx (l ∷ ctx) suc
 maps-suc l ctx i k x = there x
 
+-- a renaming that keeps kinds keeps them below one more binder
 pub lift-maps : {ctx other : List Kind} {r : ℕ → ℕ} (l : Kind) → Maps ctx other r → Maps (l ∷ ctx) (l ∷ other) (lift r)
 lift-maps l h _ _ here = here
 lift-maps l h _ _ (there {k = k} {i = i} x) = there (h i k x)
 
+-- a label that is none of a row's is none of the renamed row's
 pub fresh-rename : (r : ℕ → ℕ) (l : Label) (row : Row) → Fresh l row → Fresh l (rename_row r row)
 fresh-rename r l Row.End f = tt
 fresh-rename r l (Row.More m t rest) f = (f.0, fresh-rename r l rest f.1)
@@ -98,14 +102,17 @@ mutual
 abbrev pub Substitutes : List Kind → List Kind → (ℕ → Ty) → Type 0
 Substitutes ctx other s = (i : ℕ) (k : Kind) → Lookup ctx i k → HasKind other (s i) k
 
+-- a substitution of types of the right kinds is one below one more binder
 pub under-substitutes : {ctx other : List Kind} {s : ℕ → Ty} (l : Kind) → Substitutes ctx other s → Substitutes (l ∷ ctx) (l ∷ other) (under s)
 under-substitutes l h _ _ here = k_var here
 under-substitutes {other = other} l h _ _ (there {k = k} {i = i} x) = kind-rename suc (maps-suc l other) (h i k x)
 
+-- the substitution of one argument of the right kind gives types of the right kinds
 pub single-substitutes : {ctx : List Kind} {a : Ty} {l : Kind} → HasKind ctx a l → Substitutes (l ∷ ctx) ctx (single a)
 single-substitutes ha _ _ here = ha
 single-substitutes ha _ _ (there x) = k_var x
 
+-- a label that is none of a row's is none of the substituted row's
 pub fresh-substitute : (s : ℕ → Ty) (l : Label) (row : Row) → Fresh l row → Fresh l (substitute_row s row)
 fresh-substitute s l Row.End f = tt
 fresh-substitute s l (Row.More m t rest) f = (f.0, fresh-substitute s l rest f.1)
@@ -200,6 +207,7 @@ mutual
 abbrev pub Convertible : List Kind → List Kind → (ℕ → Ty) → (ℕ → Ty) → Type 0
 Convertible ctx other s q = (i : ℕ) (k : Kind) → Lookup ctx i k → Conv other (s i) (q i) k
 
+-- convertible substitutions are convertible below one more binder
 pub under-convertible : {ctx other : List Kind} {s q : ℕ → Ty} (l : Kind) → Convertible ctx other s q → Convertible (l ∷ ctx) (l ∷ other) (under s) (under q)
 under-convertible l h _ _ here = c_refl (k_var here)
 under-convertible {other = other} l h _ _ (there {k = k} {i = i} x) = conv-rename suc (maps-suc l other) (h i k x)

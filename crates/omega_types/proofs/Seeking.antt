@@ -1,4 +1,5 @@
 -- A field sought by halving among fields whose labels rise.
+-- Main results: sought-at, sought-not.
 use Rattle.std.proofs.Common.{◌≡◌, ℕ, zero, suc, ◌+◌, ◌<◌, List, [], ◌∷◌, false, if◌then◌else◌, Some, None, length, get_or, refl, ap, subst, ◌∙◌, arith}
 use Rattle.std.specs.Ordering.{is_eq, is_lt, ordering_index, ordering_reverse}
 use Rattle.std.specs.declared.cmp.Ordering.TheVariants.{Less, Equal, Greater}
@@ -56,6 +57,7 @@ nowhere (x ∷ xs) l h =
 pub sought-at : {T : Type 0} (xs : List (Label × T)) (l : Label) (i : ℕ) → Rises xs → i < length xs → HoldsAt (λ (x : Label × T). label_cmp x.0 l ≡ Equal) xs i → (d : Label × T) → at_label xs l ≡ Some (get_or xs i d).1
 sought-at xs l i rises lt found d = subst (λ m. at_label xs m ≡ Some (get_or xs i d).1) (label_exact (get_or xs i d).0 l (found d)) (at-place xs i d rises lt)
 
+-- no field has the label where the search by halving ends between smaller and greater labels
 pub sought-not : {T : Type 0} (xs : List (Label × T)) (l : Label) (i : ℕ) → Rises xs
     → (IsNonDecreasingBy (λ (x : Label × T). ordering_index (label_cmp x.0 l)) xs → IsPartitionPoint (λ x. label_cmp x.0 l ≡ Less) (λ x. label_cmp x.0 l ≡ Greater) xs i)
     → at_label xs l ≡ None

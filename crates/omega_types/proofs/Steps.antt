@@ -1,5 +1,6 @@
 -- What a walk over a type does, with indexes counted as the code counts them: a walk by substitutions is a substitution, one
 -- by renamings is a renaming, and one that leaves what is bound inside leaves a closed type.
+-- Main results: walk-shifts, walk-puts, shifts-nothing, puts-nothing.
 use Rattle.std.proofs.Common.{◌≡◌, ℕ, zero, suc, ◌+◌, ◌-◌, ◌<◌, ◌≤◌, [], ◌∷◌, length, get_or, take, map, refl, sym, ap, ap₂, ◌∙◌, arith}
 use Rattle.omega_kinds.specs.declared.label.Label.{Label}
 use Rattle.omega_types.specs.Ty.{Ty, Row, lift}
@@ -23,6 +24,7 @@ may_follow-at f (x ∷ []) (suc i) d p r = absurd (omega arith)
 may_follow-at f (x ∷ y ∷ xs) (suc zero) d p r = r.0
 may_follow-at f (x ∷ y ∷ xs) (suc (suc i)) d p r = may_follow-at f (y ∷ xs) (suc i) d (omega arith) r.1
 
+-- a walk over a list of fields is the walk over their row
 pub row-walked : (f : ℕ → ℕ → Ty) (d : ℕ) (xs : Pairs) → row (map_parts (walked_ty f d) xs) ≡ walked_row f d (row xs)
 row-walked f d [] = refl
 row-walked f d (x ∷ xs) = ap (Row.More x.0 (walked_ty f d x.1)) (row-walked f d xs)
@@ -54,6 +56,7 @@ mutual
 abbrev vars : (ℕ → ℕ) → ℕ → Ty
 vars r i = Ty.Var (r i)
 
+-- a walk that renames variables, as renamings go below binders, is that renaming
 pub walked-rename : (r : ℕ → ℕ → ℕ) (d : ℕ) (t : Ty) → ((e : ℕ) → r (suc e) ≡ lift (r e)) → walked_ty (λ e i. Ty.Var (r e i)) d t ≡ rename (r d) t
 walked-rename r d t h = walked-substitute (λ e. vars (r e)) 0 d t (λ e _. under-next e) (omega arith) ∙ substitute-vars (r d) t
   where
@@ -85,15 +88,19 @@ mutual
 
 -- shifts
 
+-- the walk that raises indexes is the shift
 pub walk-shifts : (by from : ℕ) (t : Ty) → walked_ty (λ d i. Ty.Var (bump by d i)) from t ≡ shift by from t
 walk-shifts by from t = walked-rename (bump by) from t (λ e. refl)
 
+-- that walk leaves a type without indexes at or above its place
 pub shifts-nothing : (by from : ℕ) (t : Ty) → bound_of t ≤ from → walked_ty (λ d i. Ty.Var (bump by d i)) from t ≡ t
 shifts-nothing by from t p = walked-closed (λ d i. Ty.Var (bump by d i)) from t (λ d i h. ap Ty.Var (bump-below by d i h)) p
 
+-- a shift by nothing leaves a type as it is
 pub shift-still : (by from : ℕ) (t : Ty) → by ≡ 0 → shift by from t ≡ t
 shift-still by from t e = ap (λ n. shift n from t) e ∙ shift-zero from t
 
+-- an index at or above the place of a shift is raised
 pub bump-past : (by from i : ℕ) → from ≤ i → bump by from i ≡ i + by
 bump-past by from i h = let e = bump-above by from i h in omega arith
 
@@ -112,11 +119,13 @@ put-next index at arg h =
     next : (n : ℕ) → suc n ≡ n + 1
     next n = omega arith
 
+-- the walk that puts an argument in at an index is the substitution for that index
 pub walk-puts : (index : ℕ) (arg t : Ty) → walked_ty (λ at i. put at (shift (at - index) 0 arg) i) index t ≡ substitute_at index arg t
 walk-puts index arg t =
     walked-substitute (λ at i. put at (shift (at - index) 0 arg) i) index index t (λ at h. put-next index at arg h) (omega arith) ∙
     ap (λ a. substitute_at index a t) (ap (λ n. shift n 0 arg) (omega arith) ∙ shift-zero 0 arg)
 
+-- that walk leaves a type without indexes at or above its place
 pub puts-nothing : (index at : ℕ) (arg t : Ty) → bound_of t ≤ at → walked_ty (λ d i. put d (shift (d - index) 0 arg) i) at t ≡ t
 puts-nothing index at arg t p = walked-closed (λ d i. put d (shift (d - index) 0 arg) i) at t (λ d i h. put-below d (shift (d - index) 0 arg) i h) p
 

@@ -1,4 +1,5 @@
 -- What does not reach an index of a type leaves the type as it is.
+-- Main results: shift-unchanged, substitute_at-unchanged.
 use Rattle.std.proofs.Common.{◌≡◌, ℕ, zero, suc, ◌<◌, ◌≤◌, refl, ap, ap₂, arith}
 use Rattle.omega_types.specs.Ty.{Ty, Row, lift}
 use Rattle.omega_types.specs.Substitution.{rename, rename_row, substitute, substitute_row, under}
@@ -52,8 +53,10 @@ mutual
   substitute_row-unchanged n s Row.End h p = refl
   substitute_row-unchanged n s (Row.More l t rest) h p = ap₂ (Row.More l) (substitute-unchanged n s t h (omega arith)) (substitute_row-unchanged n s rest h (omega arith))
 
+-- a shift leaves a type whose free indexes are all below its place
 pub shift-unchanged : (by from : ℕ) (t : Ty) → bound_of t ≤ from → shift by from t ≡ t
 shift-unchanged by from t p = rename-unchanged from (bump by from) t (bump-below by from) p
 
+-- substitution for one index leaves a type whose free indexes are all below it
 pub substitute_at-unchanged : (index : ℕ) (arg t : Ty) → bound_of t ≤ index → substitute_at index arg t ≡ t
 substitute_at-unchanged index arg t p = substitute-unchanged index (put index arg) t (put-below index arg) p

@@ -1,4 +1,5 @@
 -- A recursive type whose unfolding is convertible to it: by the sizes of normal forms its body is its own variable.
+-- Main results: mu_unfolds.
 use Rattle.std.specs.Prelude.{ℕ, zero, suc, ◌+◌, ◌≤◌, ◌∷◌, ◌≡◌}
 use Rattle.std.proofs.Common.{arith}
 use Rattle.std.proofs.Math.Path.{refl, sym, ◌∙◌, ap, subst}
@@ -135,6 +136,7 @@ own-variable n e = go (put_in-grown tt zero (Ty.Mu n) n (nodes n + 1) refl (omeg
     go (same f) = absurd (omega (arith, sizes, f))
     go (more f) = small n (Ty.Mu n) n (omega (arith, sizes, f)) e
 
+-- a recursive type is convertible to its unfolding only where its body is convertible to its own variable
 pub mu_unfolds : MuUnfolds
 mu_unfolds ctx b e =
     let h = conv-kinds e in
