@@ -1,4 +1,5 @@
 -- What is given along the way: good environments, and answers where the environment is as before.
+-- Main results: value-env, fix-env.
 use Rattle.std.proofs.Common.{◌≡◌, ◌≢◌, inl, inr, ◌∷◌, Option, Some, None, Result, Ok, Err, IfErr, IfOk, IfSome, IsErrAnd, OnOk, sym, subst}
 use Rattle.std.specs.Prelude.{MatchOption}
 use Rattle.std.proofs.lemmas.Result.{IfErr-weaker, IfOk-weaker, err_from_is_err_and}
@@ -26,6 +27,7 @@ exit Q r e out h = let p = err_from_is_err_and r out in subst (λ s. IfErr s Q) 
 pub ok-map : {T E : Type 0} {P Q : T → Type 0} (r : Result T E) → IfOk r P → ((x : T) → P x → Q x) → IfOk r Q
 ok-map {P = P} {Q = Q} r h f = IfOk-weaker r P Q f h
 
+-- what holds of an error, if there is one, may be weakened
 pub err-map : {T E : Type 0} {P Q : E → Type 0} (r : Result T E) → IfErr r P → ((e : E) → P e → Q e) → IfErr r Q
 err-map {P = P} {Q = Q} r h f = IfErr-weaker r P Q f h
 
@@ -33,6 +35,7 @@ err-map {P = P} {Q = Q} r h f = IfErr-weaker r P Q f h
 pub ok-at : {T E A : Type 0} {P : T → Type 0} {Q : T → A → Type 0} (r : Result T E) → IfOk r P → ((x : T) → P x → (a : A) → Q x a) → IfOk r (λ x. (a : A) → Q x a)
 ok-at {A = A} {P = P} {Q = Q} r h f = IfOk-weaker r P (λ x. (a : A) → Q x a) f h
 
+-- what holds of an error for each value of a parameter, if there is an error
 pub err-at : {T E A : Type 0} {P : E → Type 0} {Q : E → A → Type 0} (r : Result T E) → IfErr r P → ((e : E) → P e → (a : A) → Q e a) → IfErr r (λ e. (a : A) → Q e a)
 err-at {A = A} {P = P} {Q = Q} r h f = IfErr-weaker r P (λ e. (a : A) → Q e a) f h
 
@@ -41,9 +44,11 @@ pub stays : {T E P : Type 0} (r : Result T E) → P → OnOk r P
 stays (Ok x) h = h
 stays (Err e) h = tt
 
+-- a good environment with a value parameter of a derived type is good
 pub value-env : {g : Env} {a : TyEx} {t : Ty} (x : Name) → OkEnv g → TyMeans g a t Kind.Star → OkEnv (Value x t ∷ g)
 value-env {g} {a} {t} x h m = (type_ok g a t Kind.Star h m, h)
 
+-- a good environment with a recursive function and its parameter is good
 pub fix-env : {g : Env} {a b : TyEx} {t u : Ty} (f x : Name) → OkEnv g → TyMeans g a t Kind.Star → TyMeans g b u Kind.Star → OkEnv (Value x t ∷ Value f (Ty.Arrow t u) ∷ g)
 fix-env {g} {a} {b} {t} {u} f x h m n = let p = type_ok g a t Kind.Star h m in (p, (n_arrow p (type_ok g b u Kind.Star h n), h))
 
@@ -51,6 +56,7 @@ fix-env {g} {a} {b} {t} {u} f x h m n = let p = type_ok g a t Kind.Star h m in (
 pub no_type : {g : Env} {a : TyEx} {e : CodeRefusal} → RefusedAs g (a_type a) e → NoValueType g a e
 no_type {e = e} h = record { stands = says-map e (λ r q. inl q) h.stands }
 
+-- a type phrase of another kind than * is refused where a type of values is asked for
 pub no_star : {g h : Env} {at : Span} {a : TyEx} {t : Ty} {k : Kind} {e : CodeRefusal} → h ≡ g → at ≡ ty_span a → TyMeans g a t k → ByTest h at (k ≢ Kind.Star) (KindDiffer k Kind.Star) e → NoValueType g a e
 no_star {g} {h} {at} {a} {t} {k} {e} s p m b = record { stands = says-map e (λ r q. inr (t, k, m, (q.0, rw (← s, ← p) q.1))) b.stands }
 
@@ -59,5 +65,6 @@ pub found-map : {A : Type 0} (N : Type 0) {P Q : A → Type 0} (o : Option A) �
 found-map N None h f = tt
 found-map N (Some a) h f = f a h
 
+-- what holds of an option's value, if there is one, holds of the value that it has
 pub found-is : {A : Type 0} (P : A → Type 0) (o : Option A) (a : A) → o ≡ Some a → IfSome o P → P a
 found-is P o a e h = subst (λ p. IfSome p P) e h

@@ -1,4 +1,5 @@
 -- From the reason of an injection or of a rolled value, and its place, to a refusal of the rule.
+-- Main results: by-injection, by-roll.
 use Rattle.std.proofs.Common.{◌≡◌, ◌∙◌, inl, inr, Option, Some, None, IfSome, refl, ap, subst}
 use Rattle.std.specs.Option.{option_map}
 use Rattle.omega_kinds.specs.Kind.{Kind}
@@ -33,6 +34,7 @@ injected g x v p at {why = why} (InjectionRefuses.no_sum n) q e = inl (why, SumR
 injected g x v p at {why = why} (InjectionRefuses.no_label {row = row} n) q e = inr (row, SumGives.sum, inl (why, LabelRefuses.no_label n, e ∙ ap (λ s. refuse g s (of_core why)) q))
 injected g x v p at {why = why} (InjectionRefuses.value_type {row = row} {t = s} h n) q e = inr (row, SumGives.sum, inr (s, LabelGives.label h, (why, InjectionRefuses.value_type h n, e ∙ ap (λ s. refuse g s (of_core why)) q)))
 
+-- the reason of an injection, at its place, is a refusal of the rule of injections
 pub by-injection : (o : Option CoreWhy) (g : Env) (x : SpanName) (v p at : Span) (t u : Ty) {k : Kind} (e : CodeRefusal)
     → k ≡ Kind.Star
     → IfSome o (λ why. InjectionRefuses (name_of x) t u k why)
@@ -56,6 +58,7 @@ rolled g v p at (RollRefuses.target_kind n) q e = absurd (n refl)
 rolled g v p at {why = why} (RollRefuses.no_data n) q e = inl (λ b i. subst IsNoMu i n, e ∙ ap (λ s. refuse g s (of_data why)) q)
 rolled g v p at {why = why} (RollRefuses.value_type {b = b} h n) q e = inr (b, refl, (why, RollRefuses.value_type h n, e ∙ ap (λ s. refuse g s (of_data why)) q))
 
+-- the reason of a rolled value, at its place, is a refusal of the rule of rolled values
 pub by-roll : (o : Option DataWhy) (g : Env) (v p at : Span) (t u : Ty) {k : Kind} (e : CodeRefusal)
     → k ≡ Kind.Star
     → IfSome o (λ why. RollRefuses (kinds g) t u k why)

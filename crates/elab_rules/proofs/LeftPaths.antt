@@ -1,4 +1,5 @@
 -- Where a path leaves the structures of a signature, and the place of the refusal of a fixed type.
+-- Main results: by-where, left-next.
 use Rattle.std.proofs.Common.{◌≡◌, ◌<◌, ◌≤◌, length, get_or, map, List, [], ◌∷◌, Option, Some, None, IfSome, refl, sym, ap, ◌∙◌, subst, subst₂}
 use Rattle.std.specs.Option.{option_map}
 use Rattle.omega_kinds.specs.Kind.{Kind}
@@ -57,6 +58,7 @@ never : {s t : Sig} {l : Name} {at : Span} (z : SpanName) → IsAt s (name_of z)
 never z p (LeavesAt.here m) = absurd (lacks-none p m)
 never z p (LeavesAt.there f h) = elim h [ ]
 
+-- a path leaves a signature that lacks its first name at this name
 pub left-here : (s : Sig) (z : SpanName) (path : List SpanName) → Lacks s (name_of z) → LeftAt s (z ∷ path) (name_span z)
 left-here s z path n = λ l h. lacking z path n h
 
@@ -71,9 +73,11 @@ left-never s t z at p = λ l h. never z p h
 abbrev Left : Sig → NameAt → List NameAt → Span → Type 0
 Left s z rest at = LeftAt s (spelled z ∷ map spelled rest) at
 
+-- a path of one name that is in the signature leaves it nowhere
 pub left-last : (s t : Sig) (z : NameAt) (rest : List NameAt) → length rest < 1 → IsAt s z.name t → LeftAt s (spelled z ∷ map spelled rest) (place z.span)
 left-last s t z rest h p = subst (λ (r : List NameAt). Left s z r (place z.span)) (sym (empty rest h)) (left-never s t (spelled z) (place z.span) p)
 
+-- where a path leaves the part of its first name, it leaves the whole signature
 pub left-next : (s t : Sig) (z y : NameAt) (rest : List NameAt) (at : Span) → 1 ≤ length rest → y ≡ get_or rest 0 y → IsAt s z.name t → LeftAt t (spelled y ∷ map spelled (rest-of rest)) at → LeftAt s (spelled z ∷ map spelled rest) at
 left-next s t z y rest at h e p left = subst (λ (r : List NameAt). Left s z r at) (sym (first-rest rest y h e)) (left-further s t (spelled z) (spelled y) (map spelled (rest-of rest)) at p left)
 
@@ -99,6 +103,7 @@ by-place (Some why) g (Abs.Ex ks s) z path b t k at of e w f st p = record { sta
     some-is : {v w : ElabWhy} → Some v ≡ Some w → w ≡ v
     some-is e = cc
 
+-- the reason of a fixed type, at its place, is a refusal of the rule of fixed types
 pub by-where : (o : Option SigWhy) (g : Env) (x : Abs) (s : Sig) (z : SpanName) (path : List SpanName) (b : TyEx) (t : Ty) (k : Kind) (at of : Span) (e : CodeRefusal)
     → s ≡ body_of x
     → of ≡ ty_span b

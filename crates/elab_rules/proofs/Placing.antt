@@ -1,4 +1,5 @@
 -- From a rule's reason, and its place, to a refusal of the rule.
+-- Main results: by-rule, by-test, mapped.
 use Rattle.std.proofs.Common.{◌≡◌, Option, Some, None, Result, Ok, Err, IfErr, IfOk, IfSome, IsErrAnd, sym, subst, ap, ◌∙◌}
 use Rattle.std.specs.Prelude.{MatchOption, MatchResult}
 use Rattle.std.proofs.lemmas.Result.{err_from_is_err_and}
@@ -11,6 +12,7 @@ use Rattle.fing_refusals.specs.Inner.Plain.{Says, plain_refusal, want_of_memory}
 use Rattle.fing_refusals.specs.declared.refusal.Refusal.{Refusal as CodeRefusal}
 use Rattle.elab_rules.specs.Inner.Answered.{Placed, ByRule, ByTest}
 
+-- what holds of an option's value, if there is one, may be weakened
 pub if_some-map : {A : Type 0} {P Q : A → Type 0} (o : Option A) → ((a : A) → P a → Q a) → IfSome o P → IfSome o Q
 if_some-map None f h = tt
 if_some-map (Some a) f h = f a h
@@ -19,6 +21,7 @@ told-map : {A : Type 0} (N : Type 0) {P Q : A → Type 0} (o : Option A) → ((a
 told-map N None f h = h
 told-map N (Some a) f h = f a h
 
+-- what a refusal of the code says may be weakened
 pub says-map : {P Q : Refusal → Type 0} (e : CodeRefusal) → ((r : Refusal) → P r → Q r) → Says e P → Says e Q
 says-map e f h = told-map (e ≡ want_of_memory) (plain_refusal e) f h
 
@@ -26,9 +29,11 @@ reasoned : {W : Type 0} (reason : W → ElabWhy) (o : Option W) {Refuses : W →
 reasoned reason None h e = absurd cc
 reasoned reason (Some why) h e = (why, h, cc)
 
+-- the reason of a rule, where it is placed, is a refusal by the rule
 pub by-rule : {W : Type 0} (reason : W → ElabWhy) (o : Option W) (Refuses : W → Type 0) (g : Env) (at : Span) (e : CodeRefusal) → IfSome o Refuses → Placed g at (option_map reason o) e → ByRule reason g at Refuses e
 by-rule {W} reason o Refuses g at e h p = record { stands = says-map e (λ r q. let v : (why : W) × Refuses why × (q.0 ≡ reason why) = reasoned reason o h q.1 in (v.0, v.1, q.2 ∙ ap (refuse g at) v.2)) p.stands }
 
+-- a test that fails, with its reason where it is placed, is a refusal by the test
 pub by-test : (why : ElabWhy) (fails : Type 0) (g : Env) (at : Span) (e : CodeRefusal) → fails → Placed g at (Some why) e → ByTest g at fails why e
 by-test why fails g at e h p = record { stands = says-map e (λ r q. (h, q.2 ∙ ap (refuse g at) (some-is q.1))) p.stands }
   where
@@ -40,6 +45,7 @@ pub kept : {T E F : Type 0} {P Q : T → Type 0} (post : E → F → Type 0) (s 
 kept {Q = Q} post (Ok x) r m h f = subst (λ y. IfOk y Q) (sym m) (f x h)
 kept {Q = Q} post (Err e) r m h f = let p = err_from_is_err_and {Q = post e} r m in subst (λ y. IfOk y Q) (sym p.1) tt
 
+-- an error of a rule, placed on the way, is a refusal by the rule, for a reason that is made of the error's
 pub mapped-by : {W E T : Type 0} (reason : W → ElabWhy) (plain : E → Option W) {P : W → Type 0} (Refuses : W → Type 0) {g : Env} {at : Span} {post : E → CodeRefusal → Type 0} (s : Result T E) (r : Result T CodeRefusal)
     → MatchResult s (λ x. r ≡ Ok x) (λ e. IsErrAnd r (post e))
     → IfErr s (λ e. IfSome (plain e) P)
@@ -51,6 +57,7 @@ mapped-by reason plain Refuses {g} {at} (Err e) r m h i f =
     let p = err_from_is_err_and r m in
     subst (λ y. IfErr y (ByRule reason g at Refuses)) (sym p.1) (by-rule reason (plain e) Refuses g at p.0 (if_some-map (plain e) i h) (f e p.0 p.2))
 
+-- an error of a rule, placed on the way, is a refusal by the rule
 pub mapped : {W E T : Type 0} (reason : W → ElabWhy) (plain : E → Option W) (Refuses : W → Type 0) {g : Env} {at : Span} {post : E → CodeRefusal → Type 0} (s : Result T E) (r : Result T CodeRefusal)
     → MatchResult s (λ x. r ≡ Ok x) (λ e. IsErrAnd r (post e))
     → IfErr s (λ e. IfSome (plain e) Refuses)

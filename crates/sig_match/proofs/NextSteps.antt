@@ -1,4 +1,5 @@
 -- Hidden variables looked up one after the other.
+-- Main results: next-some, next-none, first-more, first-all.
 use Rattle.std.proofs.Common.{◌≡◌, ℕ, ◌<◌, List, [], ◌∷◌, ◌++◌, length, Option, Some, None, refl, sym, ap, subst}
 use Rattle.omega_kinds.specs.Kind.{Kind}
 use Rattle.omega_types.specs.Ty.{Ty}
@@ -27,6 +28,7 @@ use Rattle.sig_laws.specs.Good.{OkSig, OkRight}
 root-of : {ctx ks : List Kind} {r : Sig} {n : ℕ} {p : SigPath} → LeastRoot ctx ks r n p → RootPath ctx ks r n p
 root-of (least x y) = x
 
+-- the next hidden type may be looked up in the two sides
 pub next-sides : {ctx : List Kind} {s : Sig} (x : Abs) {ts : List Ty} (root : Option SigPath) → NextSides ctx s x ts root → LookSides ctx s (kinds_of x) (body_of x) ts
 next-sides (Abs.Ex ks r) root n = (n.0, (explicit-right n.1.0, n.1.1), n.2.1)
 
@@ -44,9 +46,11 @@ next-lost {ctx} {ks} {s} {r} {n} {ts} {p} {t} lt root a f never (found_at {p = q
     let z = root-agreed ts others (after ks ts) refl (filled-after ks ts lt) g (forms-kinds a) lt (root-of root) h f in
     never t (found-agree z.5.2 (subst (λ x. Found ctx s x m t) (one_least k root) d))
 
+-- what is looked up along the least root path is found for the next hidden type
 pub next-some : (ctx : List Kind) (s : Sig) (x : Abs) (ts : List Ty) (p : SigPath) (t : Ty) → NextSides ctx s x ts (Some p) → ((n : Sig) → IsSigAt ctx (body_of x) (filled (kinds_of x) ts) n → Looks ctx s p n (Some t)) → FoundAt ctx s (kinds_of x) (body_of x) ts t
 next-some ctx s (Abs.Ex ks r) ts p t v k = let f = put-form ts v.1 v.2.1 in next-found v.3 v.4 v.2.1 f (k _ f)
 
+-- where nothing is, matching is refused: the hidden type has no root on the left
 pub next-none : (ctx : List Kind) (s : Sig) (x : Abs) (ts : List Ty) (p : SigPath) → NextSides ctx s x ts (Some p) → ((n : Sig) → IsSigAt ctx (body_of x) (filled (kinds_of x) ts) n → Looks ctx s p n None) → RefusesMatch ctx s x (NoRoot (length ts) p)
 next-none ctx s (Abs.Ex ks r) ts p v k = let f = put-form ts v.1 v.2.1 in RefusesMatch.no_root v.2.0 v.3 v.4 (λ t d. next-lost v.3 v.4 v.2.1 f (k _ f) d)
 
@@ -68,14 +72,17 @@ looked-more {ctx} {ks} {s} {r} before (u ∷ more) t (FoundAfter.next g gs) f = 
     one [] vs u = refl
     one (w ∷ us) vs u = ap (◌∷◌ w) (one us vs u)
 
+-- before the first hidden type is looked up, none is found
 pub first-none : (ctx : List Kind) (s : Sig) (x : Abs) → FirstFound ctx s x []
 first-none ctx s (Abs.Ex ks r) = (FoundAfter.none, any-normal ctx ks)
 
+-- with the next hidden type found, those found so far are one more
 pub first-more : (ctx : List Kind) (s : Sig) (x : Abs) (ts : List Ty) (t : Ty) → OkSig ctx s → OkRight ctx x → length ts < length (kinds_of x) → FirstFound ctx s x ts → FoundAt ctx s (kinds_of x) (body_of x) ts t → FirstFound ctx s x (ts ++ (t ∷ []))
 first-more ctx s (Abs.Ex ks r) ts t w v lt k f =
     let z = split ks (length ts) lt in
     let n = found_at-normal ts z.0 z.1 z.2 w v z.3 z.4 f in
     (looked-more [] ts t k.0 f, subst (λ js. AreNormal ctx (filled js (ts ++ (t ∷ []))) js) (sym z.3) (filled-more ctx z.0 z.1 z.2 ts t z.4 n (subst (λ js. AreNormal ctx (filled js ts) js) z.3 k.1)))
 
+-- when as many hidden types are found as there are, all are, and their types are normal
 pub first-all : (ctx : List Kind) (s : Sig) (x : Abs) (ts : List Ty) → length ts ≡ length (kinds_of x) → FirstFound ctx s x ts → Looked ctx s (kinds_of x) (body_of x) ts × AreNormal ctx ts (kinds_of x)
 first-all ctx s (Abs.Ex ks r) ts e k = (k.0, subst (λ us. AreNormal ctx us ks) (filled-all ks ts e) k.1)

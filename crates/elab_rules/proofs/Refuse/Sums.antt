@@ -1,4 +1,5 @@
 -- Where an injection, a case, a rolled value or an unrolled one is refused, what stands before that place being derived.
+-- Main results: exp_inj-rule, exp_case-rule, branch-later, exp_roll-rule, exp_unroll-rule.
 use Rattle.std.proofs.Common.{◌≡◌, inl, inr, List, [], ◌∷◌, refl}
 use Rattle.omega_kinds.specs.Kind.{Kind}
 use Rattle.omega_kinds.specs.Name.{Name}
@@ -22,17 +23,20 @@ use Rattle.elab_rules.proofs.Standing.{within, fails, tested, valued, injected, 
 
 -- an injection
 
+-- an injection is refused where its value is
 pub exp_inj-value : {g : Env} {at : Span} {x : SpanName} {a : Exp} {b : TyEx} {e : CodeRefusal}
     → RefusedAs g (an_exp a) e
     → RefusedAs g (an_exp (ExpAt at (ExpInj x a b))) e
 exp_inj-value h = within (inl (refl, refl)) h
 
+-- an injection is refused where its type is no type of values
 pub exp_inj-type : {g : Env} {at : Span} {x : SpanName} {a : Exp} {b : TyEx} {t : Ty} {d : Term} {e : CodeRefusal}
     → ExpMeans g a t d
     → NoValueType g b e
     → RefusedAs g (an_exp (ExpAt at (ExpInj x a b))) e
 exp_inj-type {t = t} {d = d} p h = valued (inr ((t, d), p, inl (refl, refl))) (λ u k r q w. ((t, d), p, ((u, k), q, inl w))) h
 
+-- an injection is refused by the rule of injections
 pub exp_inj-rule : {g : Env} {at : Span} {x : SpanName} {a : Exp} {b : TyEx} {t u : Ty} {d : Term} {e : CodeRefusal}
     → ExpMeans g a t d
     → TyMeans g b u Kind.Star
@@ -47,17 +51,20 @@ exp_inj-rule {g} {at} {x} {a} {b} {t} {u} {d} p q h = injected go h
 
 -- a case and its branches
 
+-- a case is refused where what it takes apart is
 pub exp_case-whole : {g : Env} {at : Span} {a : Exp} {b : TyEx} {rest : Branches} {e : CodeRefusal}
     → RefusedAs g (an_exp a) e
     → RefusedAs g (an_exp (ExpAt at (ExpCase a b rest))) e
 exp_case-whole h = within (inl (refl, refl)) h
 
+-- a case is refused where this is of no sum type
 pub exp_case-no_sum : {g : Env} {at : Span} {a : Exp} {b : TyEx} {rest : Branches} {t : Ty} {d : Term} {e : CodeRefusal}
     → ExpMeans g a t d
     → ByRule of_core g (exp_span a) (SumRefuses t) e
     → RefusedAs g (an_exp (ExpAt at (ExpCase a b rest))) e
 exp_case-no_sum {t = t} {d = d} p h = fails (λ r w. ((t, d), p, inl w)) h
 
+-- a case is refused where its result's type is no type of values
 pub exp_case-type : {g : Env} {at : Span} {a : Exp} {b : TyEx} {rest : Branches} {t : Ty} {row : Row} {d : Term} {e : CodeRefusal}
     → ExpMeans g a t d
     → SumGives t row
@@ -65,6 +72,7 @@ pub exp_case-type : {g : Env} {at : Span} {a : Exp} {b : TyEx} {rest : Branches}
     → RefusedAs g (an_exp (ExpAt at (ExpCase a b rest))) e
 exp_case-type {t = t} {row = row} {d = d} p s h = valued (inr ((t, d), p, (row, s, inl (refl, refl)))) (λ u k r q w. ((t, d), p, inr (row, s, ((u, k), q, inl w)))) h
 
+-- a case is refused where its branches are
 pub exp_case-branches : {g : Env} {at : Span} {a : Exp} {b : TyEx} {rest : Branches} {t u : Ty} {row : Row} {d : Term} {e : CodeRefusal}
     → ExpMeans g a t d
     → SumGives t row
@@ -73,6 +81,7 @@ pub exp_case-branches : {g : Env} {at : Span} {a : Exp} {b : TyEx} {rest : Branc
     → RefusedAs g (an_exp (ExpAt at (ExpCase a b rest))) e
 exp_case-branches {t = t} {u = u} {row = row} {d = d} p s q h = within (inr ((t, d), p, (row, s, inr ((u, Kind.Star), q, (tt, refl, inl (refl, refl)))))) h
 
+-- a case is refused by the rule of cases
 pub exp_case-rule : {g : Env} {at : Span} {a : Exp} {b : TyEx} {rest : Branches} {parts : List FieldExp} {t u : Ty} {row : Row} {d : Term} {e : CodeRefusal}
     → ExpMeans g a t d
     → SumGives t row
@@ -83,17 +92,20 @@ pub exp_case-rule : {g : Env} {at : Span} {a : Exp} {b : TyEx} {rest : Branches}
 exp_case-rule {parts = parts} {t = t} {u = u} {row = row} {d = d} p s q m h =
     fails (λ r w. ((t, d), p, inr (row, s, ((u, Kind.Star), q, inr (tt, refl, (parts, m, inl w)))))) h
 
+-- branches are refused where the first one's label is one of those before
 pub branch-again : {g : Env} {w t : Ty} {x y : SpanName} {a : Exp} {rest : Branches} {before : List Name} {e : CodeRefusal}
     → ByTest g (name_span x) (IsNew (name_of x) before → ⊥) (DuplicateField (name_of x)) e
     → RefusedAs g (branches w t before (MoreBranches x y a rest)) e
 branch-again h = tested (λ r q. inl q) h
 
+-- branches are refused where the sum lacks the first one's label
 pub branch-no_label : {g : Env} {w t : Ty} {x y : SpanName} {a : Exp} {rest : Branches} {before : List Name} {e : CodeRefusal}
     → IsNew (name_of x) before
     → ByRule of_core g (name_span x) (LabelRefuses w (name_of x)) e
     → RefusedAs g (branches w t before (MoreBranches x y a rest)) e
 branch-no_label n h = fails (λ r q. inr (tt, n, inl q)) h
 
+-- branches are refused where the first one's body is
 pub branch-body : {g : Env} {w t u : Ty} {x y : SpanName} {a : Exp} {rest : Branches} {before : List Name} {e : CodeRefusal}
     → IsNew (name_of x) before
     → LabelGives w (name_of x) u
@@ -101,6 +113,7 @@ pub branch-body : {g : Env} {w t u : Ty} {x y : SpanName} {a : Exp} {rest : Bran
     → RefusedAs g (branches w t before (MoreBranches x y a rest)) e
 branch-body {u = u} n l h = within (tt, n, (u, l, inl (refl, refl))) h
 
+-- branches are refused where the first one's body is of another type than the result
 pub branch-type : {g : Env} {w t u v : Ty} {d : Term} {x y : SpanName} {a : Exp} {rest : Branches} {before : List Name} {e : CodeRefusal}
     → IsNew (name_of x) before
     → LabelGives w (name_of x) u
@@ -109,6 +122,7 @@ pub branch-type : {g : Env} {w t u v : Ty} {d : Term} {x y : SpanName} {a : Exp}
     → RefusedAs g (branches w t before (MoreBranches x y a rest)) e
 branch-type {u = u} {v = v} {d = d} n l m h = tested (λ r q. inr (tt, n, inr (u, l, ((v, d), m, inl q)))) h
 
+-- branches are refused where those after the first are
 pub branch-later : {g : Env} {w t u v : Ty} {d : Term} {x y : SpanName} {a : Exp} {rest : Branches} {before : List Name} {e : CodeRefusal}
     → IsNew (name_of x) before
     → LabelGives w (name_of x) u
@@ -120,17 +134,20 @@ branch-later {u = u} {v = v} {d = d} n l m s h = within (tt, n, (u, l, inr ((v, 
 
 -- a rolled value
 
+-- a rolled value is refused where its value is
 pub exp_roll-value : {g : Env} {at : Span} {a : Exp} {b : TyEx} {e : CodeRefusal}
     → RefusedAs g (an_exp a) e
     → RefusedAs g (an_exp (ExpAt at (ExpRoll a b))) e
 exp_roll-value h = within (inl (refl, refl)) h
 
+-- a rolled value is refused where its type is no type of values
 pub exp_roll-type : {g : Env} {at : Span} {a : Exp} {b : TyEx} {t : Ty} {d : Term} {e : CodeRefusal}
     → ExpMeans g a t d
     → NoValueType g b e
     → RefusedAs g (an_exp (ExpAt at (ExpRoll a b))) e
 exp_roll-type {t = t} {d = d} p h = valued (inr ((t, d), p, inl (refl, refl))) (λ u k r q w. ((t, d), p, ((u, k), q, inl w))) h
 
+-- a rolled value is refused by the rule of rolled values
 pub exp_roll-rule : {g : Env} {at : Span} {a : Exp} {b : TyEx} {t u : Ty} {d : Term} {e : CodeRefusal}
     → ExpMeans g a t d
     → TyMeans g b u Kind.Star
@@ -144,11 +161,13 @@ exp_roll-rule {g} {at} {a} {b} {t} {u} {d} p q h = rolled go h
 
 -- an unrolled value
 
+-- an unrolled value is refused where its value is
 pub exp_unroll-value : {g : Env} {at : Span} {a : Exp} {e : CodeRefusal}
     → RefusedAs g (an_exp a) e
     → RefusedAs g (an_exp (ExpAt at (ExpUnroll a))) e
 exp_unroll-value h = within (inl (refl, refl)) h
 
+-- an unrolled value is refused by the rule of unrolled values
 pub exp_unroll-rule : {g : Env} {at : Span} {a : Exp} {t : Ty} {d : Term} {e : CodeRefusal}
     → ExpMeans g a t d
     → ByRule of_data g (exp_span a) (UnrollRefuses t) e
