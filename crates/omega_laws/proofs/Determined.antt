@@ -1,4 +1,5 @@
 -- Steps are deterministic: of value, step and fault a term has at most one, and at most one of each.
+-- Main results: value_step, value_fault, step_step, step_fault, fault_fault.
 use Rattle.std.proofs.Common.{◌≡◌, refl, sym, ap}
 use Rattle.omega_kinds.specs.declared.label.Label.{Label}
 use Rattle.omega_terms.specs.Term.{Term, TermRow}
@@ -40,6 +41,7 @@ mutual
   values_fault (AreValues.more v w) (FieldFaults.here s) = value_fault v s
   values_fault (AreValues.more v w) (FieldFaults.there u s) = values_fault w s
 
+-- a label has at most one field in a row of terms
 pub field_unique : {f : TermRow} {l m : Label} {e d : Term} → l ≡ m → HasField f l e → HasField f m d → e ≡ d
 field_unique p HasField.here HasField.here = refl
 field_unique p HasField.here (HasField.there n x) = absurd (n (sym p))

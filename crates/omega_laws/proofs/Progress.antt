@@ -1,4 +1,5 @@
 -- Canonical forms, and progress: a closed typed term is a value, steps, or faults.
+-- Main results: progress, never_stuck.
 use Rattle.std.proofs.Common.{◌≡◌, ℕ, refl, subst, List, [], ℤ, Bool as Truth, true, false, ◌≢◌}
 use Rattle.omega_kinds.specs.Kind.{Kind}
 use Rattle.omega_kinds.specs.declared.label.Label.{Label}
@@ -306,5 +307,6 @@ not_stuck e (Progress.value v) s = s.no_value v
 not_stuck e (Progress.steps d h) s = s.no_step d h
 not_stuck e (Progress.faults x h) s = s.no_fault x h
 
+-- a closed typed term is not stuck
 pub never_stuck : (e : Term) (t : Ty) → HasType [] [] e t → Stuck e → ⊥
 never_stuck e t h = not_stuck e (progress e t h)

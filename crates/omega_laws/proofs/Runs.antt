@@ -1,4 +1,5 @@
 -- Runs of many steps: the types that they keep, the one end that a term comes to, and what a budget gives.
+-- Main results: end_unique, outcome_unique, outcome, spent_iff.
 use Rattle.std.proofs.Common.{◌≡◌, ℕ, zero, suc, ◌≤◌, refl, sym, ap, ◌∙◌, subst, [], ◌↔◌, zero-le, suc-le-suc, le_of_suc-le-suc, arith}
 use Rattle.omega_types.specs.Ty.{Ty}
 use Rattle.omega_terms.proofs.TypingLaws.{good-none}
@@ -29,6 +30,7 @@ pub later : {e d : Term} {n : ℕ} {r : End} → Step e d → Ends e n r → Lat
 later s (Ends.value q v) = value_later s q v
 later s (Ends.fault q f) = fault_later s q f
 
+-- a term that steps to one with an end has this end, a step later
 pub sooner : {e d : Term} {n : ℕ} {r : End} → Step e d → Ends d n r → Ends e (suc n) r
 sooner s (Ends.value q v) = Ends.value (Reaches.step s q) v
 sooner s (Ends.fault q f) = Ends.fault (Reaches.step s q) f
@@ -61,10 +63,12 @@ fault_unique : {e d : Term} {n m : ℕ} {r : End} {x : Fault} → Reaches e n d 
 fault_unique Reaches.none f h = fault_end f h
 fault_unique (Reaches.step s q) f h = let l = later s h in let p = fault_unique q f l.ends in (ap suc p.0 ∙ sym l.is, p.1)
 
+-- a term comes to at most one end, in one number of steps
 pub end_unique : {e : Term} {n m : ℕ} {r s : End} → Ends e n r → Ends e m s → (n ≡ m) × (r ≡ s)
 end_unique (Ends.value q v) h = value_unique q v h
 end_unique (Ends.fault q f) h = fault_unique q f h
 
+-- a term has at most one outcome within a budget
 pub outcome_unique : {e : Term} {b : ℕ} {r s : Result} → Outcome e b r → Outcome e b s → r ≡ s
 outcome_unique (Outcome.ended h l) (Outcome.ended i k) = let p = end_unique h i in λ j. Result.ended (p.1 j) (p.0 j)
 outcome_unique (Outcome.ended {n = n} {r = r} h l) (Outcome.spent f) = absurd (f n r h l)
@@ -105,6 +109,7 @@ pub reaches_type : {e d : Term} {n : ℕ} (t : Ty) → HasType [] [] e t → Rea
 reaches_type t h Reaches.none = h
 reaches_type t h (Reaches.step s r) = reaches_type t (keeps s [] [] t (good-none []) h) r
 
+-- no term that is reached from a closed typed one is stuck
 pub reached_not_stuck : {e d : Term} {n : ℕ} (t : Ty) → HasType [] [] e t → Reaches e n d → Stuck d → ⊥
 reached_not_stuck {d = d} t h r = never_stuck d t (reaches_type t h r)
 
@@ -126,6 +131,7 @@ run_outcome : {e : Term} {b : ℕ} → Run e b → (r : Result) × Outcome e b r
 run_outcome (Run.ended n r h l) = (Result.ended r n, Outcome.ended h l)
 run_outcome (Run.spent d q f g) = (Result.spent, Outcome.spent g)
 
+-- a closed typed term has an outcome within each budget
 pub outcome : (b : ℕ) (e : Term) (t : Ty) → HasType [] [] e t → (r : Result) × Outcome e b r
 outcome b e t h = run_outcome (run b e t h)
 
@@ -133,5 +139,6 @@ run_spent : {e : Term} {b : ℕ} → Run e b → Outcome e b Result.spent → (d
 run_spent (Run.ended n r h l) (Outcome.spent g) = absurd (g n r h l)
 run_spent (Run.spent d q f g) o = (d, q, f)
 
+-- a budget is spent exactly if a term that is no value is reached after as many steps
 pub spent_iff : (b : ℕ) (e : Term) (t : Ty) → HasType [] [] e t → Outcome e b Result.spent ↔ ((d : Term) × Reaches e b d × (IsValue d → ⊥))
 spent_iff b e t h = (run_spent (run b e t h), λ p. Outcome.spent (λ n r i l. still_going p.1 p.2 i l))

@@ -1,4 +1,5 @@
 -- Synthesis is exact: a term has a type just where its synthesised type is the type's normal form.
+-- Main results: sound, complete, synth_one, exact.
 use Rattle.std.specs.Prelude.{ℕ, zero, suc, List, ◌∷◌, ◌≡◌, ◌↔◌}
 use Rattle.std.proofs.Math.Path.{refl, sym, ◌∙◌, ap, subst}
 use Rattle.omega_kinds.specs.Kind.{Kind}
@@ -64,6 +65,7 @@ nf_ex h = refl
 nf_mu : {ctx : List Kind} {b : Ty} → HasKind (Kind.Star ∷ ctx) b Kind.Star → normal ctx (Ty.Mu b) ≡ Ty.Mu (normal (Kind.Star ∷ ctx) b)
 nf_mu h = refl
 
+-- normalising commutes with weakening
 pub nf_shifted : {ctx : List Kind} {t : Ty} (k : Kind) → HasKind ctx t Kind.Star → normal (k ∷ ctx) (shift t) ≡ shift (normal ctx t)
 nf_shifted {ctx} {t} k h = normal_of_rename ctx (k ∷ ctx) suc t Kind.Star (maps-suc k ctx) h
 
@@ -87,6 +89,7 @@ shift_one s t p = sym (put_shift Ty.Int s) ∙ (ap (put Ty.Int) p ∙ put_shift 
 pub arrow_right : {a b c d : Ty} → Ty.Arrow a b ≡ Ty.Arrow c d → b ≡ d
 arrow_right p = cc
 
+-- equal universally quantified types have equal bodies
 pub all_body : {j k : Kind} {b c : Ty} → Ty.All j b ≡ Ty.All k c → b ≡ c
 all_body p = cc
 
@@ -105,6 +108,7 @@ part_same f p (HasPart.there d h) = part_same f (other_parts p) h
 
 -- ---- what is synthesised is a type
 
+-- a synthesised type may be replaced by one that is equal to it
 pub synth_cast : {ctx : List Kind} {vars : List Ty} {e : Term} {t u : Ty} → t ≡ u → Synth ctx vars e t → Synth ctx vars e u
 synth_cast {ctx} {vars} {e} p h = subst (λ x. Synth ctx vars e x) p h
 
@@ -168,6 +172,7 @@ mutual
 abbrev pub SameVars : List Kind → List Ty → List Ty → Type 0
 SameVars ctx from to = (n : ℕ) (t : Ty) → At from n t → (u : Ty) × At to n u × (normal ctx t ≡ normal ctx u)
 
+-- lists of types with the same normal forms, with one more such type each
 pub same_cons : {ctx : List Kind} {from to : List Ty} {t u : Ty} → normal ctx t ≡ normal ctx u → SameVars ctx from to → SameVars ctx (t ∷ from) (u ∷ to)
 same_cons {u = u} p f zero t At.here = (u, At.here, p)
 same_cons p f (suc n) t (At.there h) = let r = f n t h in (r.0, At.there r.1, r.2)
@@ -216,9 +221,11 @@ mutual
 
 -- ---- each type's normal form is synthesised
 
+-- the normal form of a normal form is itself
 pub nf_nf : {ctx : List Kind} {t : Ty} → HasKind ctx t Kind.Star → normal ctx (normal ctx t) ≡ normal ctx t
 nf_nf h = sym (same-normal (nf_is h))
 
+-- the normal form of a type of kind * has kind *
 pub nf_kind : {ctx : List Kind} {t : Ty} → HasKind ctx t Kind.Star → HasKind ctx (normal ctx t) Kind.Star
 nf_kind h = (conv-kinds (nf_is h)).1
 
@@ -233,6 +240,7 @@ nf_result ctx Op.Less = sym (nf_bool ctx)
 nf_result ctx Op.Equal = sym (nf_bool ctx)
 nf_result ctx _ = sym (nf_int ctx)
 
+-- a list of types has the same normal forms as itself
 pub same_refl : (ctx : List Kind) (vars : List Ty) → SameVars ctx vars vars
 same_refl ctx vars n t h = (t, h, refl)
 

@@ -1,4 +1,5 @@
 -- The values that stand in a redex of a typed term have the form that its step needs.
+-- Main results: no-function, no-record, no-package, no-injection, value-at.
 use Rattle.std.proofs.Common.{◌≡◌, ◌≢◌, ℤ, [], refl, sym, subst, Bool as Truth}
 use Rattle.omega_kinds.specs.declared.label.Label.{Label}
 use Rattle.omega_types.specs.Ty.{Ty}
@@ -105,6 +106,7 @@ unroll-form e h v = let r = invert (good-none []) h.1 in unroll-own e r.ty r.own
 var-own : (n : _) (t : Ty) → Own [] [] (Term.Var n) t → ⊥
 var-own n t (Own.var h) = elim h [ ]
 
+-- a closed typed term is no variable
 pub no-variable : (e : Term) (n : _) → Term.Var n ≡ e → IsTyped e → ⊥
 no-variable e n p h = let r = invert (good-none []) (subst (λ x. HasType [] [] x h.0) (sym p) h.1) in var-own n r.ty r.own
 
@@ -115,6 +117,7 @@ function-node (node.Lam t e) c l f = l t e refl
 function-node (node.Fix t u e) c l f = f t u e refl
 function-node _ c l f = elim c [ ]
 
+-- a value that a typed term calls is a function or a recursive function
 pub no-function : (n : TermNode) (f a : Term) → term_of n ≡ f → IsTyped (Term.Call f a) → IsValue f → ((t : TyHandle) (e : TermHandle) → n ≡ node.Lam t e → ⊥) → ((t u : TyHandle) (e : TermHandle) → n ≡ node.Fix t u e → ⊥) → ⊥
 no-function n f a p h v = function-node n (subst (Canon Form.an_arrow) (sym p) (call-form f a h v))
 
@@ -122,6 +125,7 @@ instance-node : (n : TermNode) → Canon Form.an_all (term_of n) → ((k : KindH
 instance-node (node.TyLam k e) c l = l k e refl
 instance-node _ c l = elim c [ ]
 
+-- a value that a typed term gives a type is a type function
 pub no-instance : (n : TermNode) (f : Term) (a : Ty) → term_of n ≡ f → IsTyped (Term.Inst f a) → IsValue f → ((k : KindHandle) (e : TermHandle) → n ≡ node.TyLam k e → ⊥) → ⊥
 no-instance n f a p h v = instance-node n (subst (Canon Form.an_all) (sym p) (inst-form f a h v))
 
@@ -129,6 +133,7 @@ record-node : (n : TermNode) → Canon Form.a_record (term_of n) → ((f : TermF
 record-node (node.Fields f) c l = l f refl
 record-node _ c l = elim c [ ]
 
+-- a value of which a typed term selects a field is a record
 pub no-record : (n : TermNode) (e : Term) (l : Label) → term_of n ≡ e → IsTyped (Term.Get e l) → IsValue e → ((f : TermFields) → n ≡ node.Fields f → ⊥) → ⊥
 no-record n e l p h v = record-node n (subst (Canon Form.a_record) (sym p) (get-form e l h v))
 
@@ -136,6 +141,7 @@ package-node : (n : TermNode) → Canon Form.an_ex (term_of n) → ((t : TyHandl
 package-node (node.Pack t e u) c l = l t e u refl
 package-node _ c l = elim c [ ]
 
+-- a value that a typed term opens is a package
 pub no-package : (n : TermNode) (d e : Term) → term_of n ≡ d → IsTyped (Term.Unpack d e) → IsValue d → ((t : TyHandle) (e : TermHandle) (u : TyHandle) → n ≡ node.Pack t e u → ⊥) → ⊥
 no-package n d e p h v = package-node n (subst (Canon Form.an_ex) (sym p) (open-form d e h v))
 
@@ -143,6 +149,7 @@ test-node : (n : TermNode) → Canon Form.the_bool (term_of n) → ((b : Truth) 
 test-node (node.Bool b) c l = l b refl
 test-node _ c l = elim c [ ]
 
+-- a value that a typed term tests is a truth value
 pub no-test : (n : TermNode) (a b c : Term) → term_of n ≡ a → IsTyped (Term.If a b c) → IsValue a → ((x : Truth) → n ≡ node.Bool x → ⊥) → ⊥
 no-test n a b c p h v = test-node n (subst (Canon Form.the_bool) (sym p) (if-form a b c h v))
 
@@ -150,9 +157,11 @@ number-node : (n : TermNode) → Canon Form.the_int (term_of n) → ((z : ℤ) �
 number-node (node.Int z) c l = l z refl
 number-node _ c l = elim c [ ]
 
+-- the left operand of a typed operation, if a value, is a number
 pub no-left : (n : TermNode) (o : Op) (a b : Term) → term_of n ≡ a → IsTyped (Term.Arith o a b) → IsValue a → ((z : ℤ) → n ≡ node.Int z → ⊥) → ⊥
 no-left n o a b p h v = number-node n (subst (Canon Form.the_int) (sym p) (left-form o a b h v))
 
+-- so is the right operand
 pub no-right : (n : TermNode) (o : Op) (a b : Term) → term_of n ≡ b → IsTyped (Term.Arith o a b) → IsValue b → ((z : ℤ) → n ≡ node.Int z → ⊥) → ⊥
 no-right n o a b p h v = number-node n (subst (Canon Form.the_int) (sym p) (right-form o a b h v))
 
@@ -160,6 +169,7 @@ injection-node : (n : TermNode) → Canon Form.a_sum (term_of n) → ((l : Label
 injection-node (node.Inj l e t) c h = h l e t refl
 injection-node _ c h = elim c [ ]
 
+-- a value that a typed case takes apart is an injection
 pub no-injection : (n : TermNode) (w e : Term) → term_of n ≡ e → IsTyped (case_of w e) → IsValue e → ((l : Label) (e : TermHandle) (t : TyHandle) → n ≡ node.Inj l e t → ⊥) → ⊥
 no-injection n w e p h v = injection-node n (subst (Canon Form.a_sum) (sym p) (case-form e (result_of w) (branches_of w) h v))
 
@@ -167,23 +177,29 @@ rolled-node : (n : TermNode) → Canon Form.a_mu (term_of n) → ((e : TermHandl
 rolled-node (node.Roll e t) c h = h e t refl
 rolled-node _ c h = elim c [ ]
 
+-- a value that a typed term unrolls is a rolled one
 pub no-rolled : (n : TermNode) (e : Term) → term_of n ≡ e → IsTyped (Term.Unroll e) → IsValue e → ((e : TermHandle) (t : TyHandle) → n ≡ node.Roll e t → ⊥) → ⊥
 no-rolled n e p h v = rolled-node n (subst (Canon Form.a_mu) (sym p) (unroll-form e h v))
 
 -- ---- the fields of a record value
 
+-- the fields of a record that is a value are values
 pub fields-values : {f : TermRow} → IsValue (Term.Fields f) → AreValues f
 fields-values (IsValue.fields v) = v
 
+-- what is inside a package that is a value is a value
 pub body-value : {t u : Ty} {e : Term} → IsValue (Term.Pack t e u) → IsValue e
 body-value (IsValue.pack v) = v
 
+-- what is inside an injection that is a value is a value
 pub injected-value : {l : Label} {e : Term} {t : Ty} → IsValue (Term.Inj l e t) → IsValue e
 injected-value (IsValue.inj v) = v
 
+-- what is inside a rolled value is a value
 pub rolled-value : {e : Term} {t : Ty} → IsValue (Term.Roll e t) → IsValue e
 rolled-value (IsValue.roll v) = v
 
+-- the field of a label among values is a value
 pub value-at : {f : TermRow} {l : Label} {e : Term} → AreValues f → HasField f l e → IsValue e
 value-at AreValues.end h = elim h [ ]
 value-at (AreValues.more v w) HasField.here = v

@@ -1,4 +1,5 @@
 -- Each move keeps the term and leaves less work.
+-- Main results: next-part, no-part, pack-value, inject-value, roll-value.
 use Rattle.std.proofs.Common.{◌≡◌, ℕ, zero, suc, ◌+◌, ◌*◌, ◌<◌, ◌≤◌, List, [], ◌∷◌, ◌++◌, length, map, take, drop, get_or, Option, Some, None, refl, sym, ap, ap₂, ◌∙◌, subst, arith, drop-cons, append_assoc, length-append, ◌⊎◌, inl, inr}
 use Rattle.std.proofs.lemmas.List.{drop_all}
 use Rattle.std.proofs.lemmas.Option.{slice_get_cases}
@@ -58,9 +59,11 @@ pairs-row : (xs : TermPairs) → row_pairs (term_row xs) ≡ xs
 pairs-row [] = refl
 pairs-row (x ∷ xs) = ap (λ ys. x ∷ ys) (pairs-row xs)
 
+-- the fields of a record node are those of its term
 pub fields-are : (n : TermNode) (f : TermPairs) (whole : Term) → n ≡ node.Fields f → term_of n ≡ whole → fields_of whole ≡ f
 fields-are n f whole p q = ap fields_of (is-form n (node.Fields f) whole p q) ∙ pairs-row f
 
+-- at the start none of a record's fields is done
 pub first-begun : (n : TermNode) (f : TermPairs) (whole copy : Term) → n ≡ node.Fields f → term_of n ≡ whole → copy ≡ whole → Begun copy []
 first-begun n f whole copy p q s =
     let is = s ∙ is-form n (node.Fields f) whole p q in
@@ -114,6 +117,7 @@ left-first : (whole : Term) (done : TermPairs) (x : Label × Term) → length do
 left-first whole done x h p =
     drop-cons (fields_of whole) (length done) x h ∙ ap₂ (λ y k. y ∷ drop k (fields_of whole)) (sym p) (next (length done))
 
+-- with one more field come to a value, the record's first fields are done, and one less is left
 pub one-more : (whole : Term) (done d : TermPairs) (x : Label × Term) (l : Label) (v : Term) → Begun whole done → length done < length (fields_of whole) → x ≡ get_or (fields_of whole) (length done) x → l ≡ x.0 → IsValue v → d ≡ done ++ (l, v) ∷ [] → Begun whole d × (with_done whole d ≡ fill_waiting (waiting.Field whole done) v) × (left whole d ≡ rest whole done)
 one-more whole done d x l v b h is j w e =
     let fs = fields_of whole in
@@ -150,19 +154,23 @@ follow-at (x ∷ []) (suc i) d p r = absurd (omega arith)
 follow-at (x ∷ y ∷ xs) (suc zero) d p r = r.0
 follow-at (x ∷ y ∷ xs) (suc (suc i)) d p r = follow-at (y ∷ xs) (suc i) d (omega arith) r.1
 
+-- the label of the next field may follow those of the fields that are done
 pub may-follow : (whole : Term) (done fs : TermPairs) (x : Label × Term) (l : Label) → Begun whole done → fields_of whole ≡ fs → Rises fs → length done < length fs → x ≡ get_or fs (length done) x → l ≡ x.0 → MayFollow done l
 may-follow whole done fs x l b e r h is j =
     follows done (take (length done) fs) l (b.labels ∙ ap (λ ys. map (λ y. y.0) (take (length done) ys)) e) (subst (MayFollow (take (length done) fs)) (sym (j ∙ ap (λ y. y.0) is)) (follow-at fs (length done) x h r))
 
+-- as many fields as a record has, done, leave none
 pub not-more : (whole : Term) (done fs ds : TermPairs) → fields_of whole ≡ fs → ds ≡ done → length done < length (fields_of whole) → length fs ≤ length ds → ⊥
 not-more whole done fs ds e d h g = absurd (omega (arith, ap length e, ap length d))
 
 -- ---- the part at a place
 
+-- the part at an index of a record node is that of its term
 pub part-some : (n : TermNode) (f : TermPairs) (whole : Term) (i : ℕ) (x : Label × Term) (part : Term) → n ≡ node.Fields f → term_of n ≡ whole → Some x ≡ slice_get f i → part ≡ x.1 → Some part ≡ option_map (λ (y : Label × Term). y.1) (slice_get (fields_of whole) i)
 part-some n f whole i x part p q h e =
     ap Some e ∙ (ap (option_map (λ (y : Label × Term). y.1)) h ∙ ap (λ ys. option_map (λ (y : Label × Term). y.1) (slice_get ys i)) (sym (fields-are n f whole p q)))
 
+-- where a record node has no part at an index, its term has none
 pub part-none : (n : TermNode) (f : TermPairs) (whole : Term) (i : ℕ) → n ≡ node.Fields f → term_of n ≡ whole → None ≡ slice_get f i → None ≡ option_map (λ (y : Label × Term). y.1) (slice_get (fields_of whole) i)
 part-none n f whole i p q h =
     ap (option_map (λ (y : Label × Term). y.1)) h ∙ ap (λ ys. option_map (λ (y : Label × Term). y.1) (slice_get ys i)) (sym (fields-are n f whole p q))
@@ -171,6 +179,7 @@ no-fields : (n : TermNode) → ((f : TermFields) → n ≡ node.Fields f → ⊥
 no-fields (node.Fields f) h = absurd (h f refl)
 no-fields _ h = refl
 
+-- a term that is no record has no part at any index
 pub part-of-none : (n : TermNode) (whole : Term) (i : ℕ) → term_of n ≡ whole → ((f : TermFields) → n ≡ node.Fields f → ⊥) → None ≡ option_map (λ (y : Label × Term). y.1) (slice_get (fields_of whole) i)
 part-of-none n whole i q h =
     ap (λ ys. option_map (λ (y : Label × Term). y.1) (slice_get ys i)) (sym (no-fields n h) ∙ ap fields_of q)
@@ -182,6 +191,7 @@ Place xs i = ((x : Label × Term) × (i < length xs) × (slice_get xs i ≡ Some
 mapped-some : (xs : TermPairs) (i : ℕ) (x : Label × Term) (o : Option Term) (part : Term) → o ≡ option_map (λ (y : Label × Term). y.1) (slice_get xs i) → o ≡ Some part → slice_get xs i ≡ Some x → part ≡ x.1
 mapped-some xs i x o part e f g = let h : Some part ≡ Some x.1 = sym f ∙ (e ∙ ap (option_map (λ (y : Label × Term). y.1)) g) in cc
 
+-- where a field is left, the move goes down to it, into a frame that waits for the others
 pub next-part : (whole : Term) (done ds : TermPairs) (o : Option Term) (part : Term) → Begun whole done → ds ≡ done → o ≡ option_map (λ (y : Label × Term). y.1) (slice_get (fields_of whole) (length ds)) → o ≡ Some part → Moves (with_done whole done) (3 * pairs_size (left whole done) + 1) (move.Down (frame.Waiting (waiting.Field whole done)) part)
 next-part whole done ds o part b d e f = by-place (slice_get_cases (fields_of whole) (length done)).1
   where
@@ -192,6 +202,7 @@ next-part whole done ds o part b d e f = by-place (slice_get_cases (fields_of wh
     by-place (inl (x, h, g, k)) = to-field whole done x part b h (left-first whole done x h (sym k)) (mapped-some (fields_of whole) (length done) x o part at-done f g)
     by-place (inr (h, g)) = absurd (let k : Some part ≡ None = sym f ∙ (at-done ∙ ap (option_map (λ (y : Label × Term). y.1)) g) in cc)
 
+-- where no field is left, the move goes up with the record of the values
 pub no-part : (whole : Term) (done ds : TermPairs) (o : Option Term) (e : Term) → Begun whole done → ds ≡ done → o ≡ option_map (λ (y : Label × Term). y.1) (slice_get (fields_of whole) (length ds)) → o ≡ None → e ≡ Term.Fields (term_row done) → Moves (with_done whole done) (3 * pairs_size (left whole done) + 1) (move.Up e)
 no-part whole done ds o e b d p q r = by-place (slice_get_cases (fields_of whole) (length done)).1
   where
@@ -201,14 +212,17 @@ no-part whole done ds o e b d p q r = by-place (slice_get_cases (fields_of whole
 
 -- ---- on from frames
 
+-- a value that comes into a package goes up as the package
 pub pack-value : (t u : Ty) (v e : Term) (f : Waiting) → f ≡ waiting.Packed t u → IsValue v → e ≡ Term.Pack t v u → Moves (fill_waiting f v) (waiting_work f) (move.Up e)
 pack-value t u v e f p h q =
     subst (λ g. Moves (fill_waiting g v) (waiting_work g) (move.Up e)) (sym p) (record { same = q; sound = subst IsValue (sym q) (IsValue.pack h); less = omega arith })
 
+-- a value that comes into an injection goes up as the injection
 pub inject-value : (l : Label) (t : Ty) (v e : Term) (f : Waiting) → f ≡ waiting.Injected l t → IsValue v → e ≡ Term.Inj l v t → Moves (fill_waiting f v) (waiting_work f) (move.Up e)
 inject-value l t v e f p h q =
     subst (λ g. Moves (fill_waiting g v) (waiting_work g) (move.Up e)) (sym p) (record { same = q; sound = subst IsValue (sym q) (IsValue.inj h); less = omega arith })
 
+-- a value that comes into a rolled term goes up as the rolled value
 pub roll-value : (t : Ty) (v e : Term) (f : Waiting) → f ≡ waiting.Rolled t → IsValue v → e ≡ Term.Roll v t → Moves (fill_waiting f v) (waiting_work f) (move.Up e)
 roll-value t v e f p h q =
     subst (λ g. Moves (fill_waiting g v) (waiting_work g) (move.Up e)) (sym p) (record { same = q; sound = subst IsValue (sym q) (IsValue.roll h); less = omega arith })

@@ -1,4 +1,5 @@
 -- The code's arithmetic on 64 bits is that of the definitions.
+-- Main results: added, multiplied, divided, less-is, equal-is.
 use Rattle.std.proofs.Common.{◌≡◌, ℕ, zero, suc, ◌^◌, ◌-◌, ◌<◌, refl, sym, ap, ap₂, ◌∙◌, subst, Bool, true, false, cond, ◌&&◌, Option, Some, None, Result, Ok, Err, MatchOption, MatchResult, ℤ, pos, negsuc, ◌+ℤ◌, ◌-ℤ◌, ◌*ℤ◌, w64, arith, of_z}
 use Rattle.std.specs.Prelude.{FitsSigned, leb, int_div, int_rem, int_lt, int_le, ◌==◌}
 use Rattle.std.specs.Option.{SomeIff}
@@ -60,12 +61,15 @@ ranged w z (Some y) r s m = in-range w z y r s.0 s.1 m
 at-op : (o p : Op) (m n : ℤ) (r : Result TermNode Arith) → p ≡ o → Computed (compute o m n) r → Computed (compute p m n) r
 at-op o p m n r e h = subst (λ x. Computed (compute x m n) r) (sym e) h
 
+-- addition in 64 bits gives the sum, or overflows exactly if the sum does not fit
 pub added : (p : Op) (m n a b : ℤ) (o : Option ℤ) (r : Result TermNode Arith) → p ≡ Op.Add → a ≡ m → b ≡ n → SomeIff o (FitsSigned w64 (a +ℤ b)) (a +ℤ b) → InRange o r → Computed (compute p m n) r
 added p m n a b o r e f g s k = at-op Op.Add p m n r e (ranged (m +ℤ n) (m +ℤ n) o r (subst (λ x. SomeIff o (FitsSigned w64 x) x) (ap₂ (λ x y. x +ℤ y) f g) s) k)
 
+-- subtraction in 64 bits gives the difference, or overflows exactly if this does not fit
 pub subtracted : (p : Op) (m n a b : ℤ) (o : Option ℤ) (r : Result TermNode Arith) → p ≡ Op.Sub → a ≡ m → b ≡ n → SomeIff o (FitsSigned w64 (a -ℤ b)) (a -ℤ b) → InRange o r → Computed (compute p m n) r
 subtracted p m n a b o r e f g s k = at-op Op.Sub p m n r e (ranged (m -ℤ n) (m -ℤ n) o r (subst (λ x. SomeIff o (FitsSigned w64 x) x) (ap₂ (λ x y. x -ℤ y) f g) s) k)
 
+-- multiplication in 64 bits gives the product, or overflows exactly if this does not fit
 pub multiplied : (p : Op) (m n a b : ℤ) (o : Option ℤ) (r : Result TermNode Arith) → p ≡ Op.Mul → a ≡ m → b ≡ n → SomeIff o (FitsSigned w64 (a *ℤ b)) (a *ℤ b) → InRange o r → Computed (compute p m n) r
 multiplied p m n a b o r e f g s k = at-op Op.Mul p m n r e (ranged (m *ℤ n) (m *ℤ n) o r (subst (λ x. SomeIff o (FitsSigned w64 x) x) (ap₂ (λ x y. x *ℤ y) f g) s) k)
 
@@ -80,11 +84,13 @@ divisible : (z n w : ℤ) (o : Option ℤ) → IsNonZero w64 n → SomeIff o (Is
 divisible z n w None h s = λ f. s (h, f)
 divisible z n w (Some y) h s = (s.0.1, s.1)
 
+-- division in 64 bits by a number other than 0 gives the quotient, or overflows
 pub divided : (p : Op) (m n a b : ℤ) (o : Option ℤ) (r : Result TermNode Arith) → p ≡ Op.Div → a ≡ m → b ≡ n → 0 < of_z w64 n → SomeIff o (CanDivide w64 a b) (int_div a b) → InRange o r → Computed (compute p m n) r
 divided p m n a b o r e f g h s k =
     let s' = subst (λ x. SomeIff o (CanDivide w64 x n) (int_div x n)) f (subst (λ x. SomeIff o (CanDivide w64 a x) (int_div a x)) g s) in
     at-op Op.Div p m n r e (subst (λ t. Computed (cond t (Answer.fails Fault.DivideByZero) (if_fits (int_div m n) (int_div m n))) r) (sym (no-zero n h)) (ranged (int_div m n) (int_div m n) o r (divisible (int_div m n) n (int_div m n) o h s') k))
 
+-- the remainder in 64 bits by a number other than 0 is that of the definitions, or overflows
 pub remaindered : (p : Op) (m n a b : ℤ) (o : Option ℤ) (r : Result TermNode Arith) → p ≡ Op.Rem → a ≡ m → b ≡ n → 0 < of_z w64 n → SomeIff o (CanDivide w64 a b) (int_rem a b) → InRange o r → Computed (compute p m n) r
 remaindered p m n a b o r e f g h s k =
     let s' = subst (λ x. SomeIff o (CanDivide w64 x n) (int_rem x n)) f (subst (λ x. SomeIff o (CanDivide w64 a x) (int_rem a x)) g s) in
@@ -92,6 +98,7 @@ remaindered p m n a b o r e f g h s k =
 
 -- ---- tests
 
+-- the comparison of two numbers is that of the definitions
 pub less-is : (p : Op) (m n a b : ℤ) → p ≡ Op.Less → a ≡ m → b ≡ n → compute p m n ≡ Answer.gives (Term.Bool (int_lt a b))
 less-is p m n a b e f g = ap (λ x. compute x m n) e ∙ ap₂ (λ x y. Answer.gives (Term.Bool (int_lt x y))) (sym f) (sym g)
 
@@ -101,5 +108,6 @@ same-bits (pos a) (negsuc b) f g = let h = f.sfits in let k = g.sfits in grind (
 same-bits (negsuc a) (pos b) f g = let h = f.sfits in let k = g.sfits in grind (arith, nat_tests)
 same-bits (negsuc a) (negsuc b) f g = let h = f.sfits in let k = g.sfits in grind (arith, nat_tests)
 
+-- the equality of two numbers that fit 64 bits is that of the definitions
 pub equal-is : (p : Op) (m n : ℤ) → p ≡ Op.Equal → FitsSigned w64 m → FitsSigned w64 n → compute p m n ≡ Answer.gives (Term.Bool (of_z w64 m == of_z w64 n))
 equal-is p m n e f g = ap (λ x. compute x m n) e ∙ ap (λ b. Answer.gives (Term.Bool b)) (same-bits m n f g)

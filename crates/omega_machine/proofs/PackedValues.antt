@@ -1,4 +1,5 @@
 -- A value of a record type with any number of `some` round it is a record of values in packages.
+-- Main results: packed-value.
 use Rattle.std.proofs.Common.{◌≡◌, ◌≢◌, ℕ, [], refl, subst, ◌⊎◌, inl, inr, ℤ, List, Bool as Truth}
 use Rattle.omega_kinds.specs.Kind.{Kind}
 use Rattle.omega_kinds.specs.declared.label.Label.{Label}
@@ -86,6 +87,7 @@ pack-form a w u (Ty.Ex k b) p c = refl
 pack-form a w u (Ty.Fields r) p c = elim c [ ]
 pack-form a w u _ p c = absurd p
 
+-- a value of a record type inside packages is a record of values inside packages
 pub packed-value : {v : Term} → IsValue v → (t : Ty) → HasType [] [] v t → IsPackedRecord t → PacksFields v
 packed-value IsValue.int t h p = absurd (not-int (either _ t h p IsValue.int))
 packed-value IsValue.bool t h p = absurd (not-bool (either _ t h p IsValue.bool))

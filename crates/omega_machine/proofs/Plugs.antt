@@ -1,4 +1,5 @@
 -- Frames: what is plugged in steps, faults and is typed with the whole.
+-- Main results: plug-typed, plug-step, plug-fault, plug-more.
 use Rattle.std.proofs.Common.{◌≡◌, ◌+◌, ◌<◌, List, [], ◌∷◌, ◌++◌, length, refl, ap, arith, length-drop}
 use Rattle.omega_kinds.specs.declared.label.Label.{Label}
 use Rattle.omega_types.specs.Ty.{Ty, Row}
@@ -20,18 +21,22 @@ use Rattle.omega_machine.specs.Inner.Moves.{IsTyped, IsSoundWaiting, IsSoundRead
 
 -- ---- one more frame inside
 
+-- a term plugged into frames with one more, the innermost, is plugged in after that one is filled
 pub plug-more : (fs : List Frame) (f : Frame) (e : Term) → plug (fs ++ f ∷ []) e ≡ plug fs (fill f e)
 plug-more [] f e = refl
 plug-more (g ∷ fs) f e = ap (fill g) (plug-more fs f e)
 
+-- sound frames with one more sound frame are sound
 pub sound-more : (fs : List Frame) (f : Frame) → AreSound fs → IsSound f → AreSound (fs ++ f ∷ [])
 sound-more [] f s h = (h, tt)
 sound-more (g ∷ fs) f s h = (s.0, sound-more fs f s.1 h)
 
+-- of sound frames, those without the innermost are sound, and it is
 pub sound-less : (fs : List Frame) (f : Frame) → AreSound (fs ++ f ∷ []) → AreSound fs × IsSound f
 sound-less [] f s = (tt, s.0)
 sound-less (g ∷ fs) f s = let r = sound-less fs f s.1 in ((s.0, r.0), r.1)
 
+-- the work in frames with one more is the sum
 pub work-more : (fs : List Frame) (f : Frame) → work (fs ++ f ∷ []) ≡ work fs + frame_work f
 work-more [] f = omega arith
 work-more (g ∷ fs) f = omega (arith, work-more fs f)

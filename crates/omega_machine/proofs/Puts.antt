@@ -1,4 +1,5 @@
 -- The substitutions of a step, as the operations on one index.
+-- Main results: put-arg, put-ty.
 use Rattle.std.proofs.Common.{◌≡◌, ℕ, zero, suc, refl, ap, ◌∙◌}
 use Rattle.std.proofs.Math.Path.{fun_ext}
 use Rattle.omega_types.specs.Ty.{Ty}
@@ -19,9 +20,11 @@ put-first : (t : Ty) (n : ℕ) → put 0 t n ≡ single t n
 put-first t zero = refl
 put-first t (suc n) = refl
 
+-- putting an argument into a function's body is the substitution for index 0
 pub put-arg : (a e : Term) → put_term e 0 a ≡ put_arg a e
 put-arg a e = ap (λ w. sub_term Ty.Var w e) (fun_ext (at-first a))
 
+-- so is putting a type into a type function's body
 pub put-ty : (t : Ty) (e : Term) → put_type e 0 t ≡ put_ty t e
 put-ty t e = ap (λ s. sub_term s Term.Var e) (fun_ext (put-first t))
 

@@ -1,4 +1,5 @@
 -- The examples.
+-- Main results: int_is_found, nothing_is_found.
 use Rattle.std.specs.Prelude.{ℕ, zero, List, [], ◌∷◌, ◌≡◌, IsTrue}
 use Rattle.std.proofs.Common.{arith}
 use Rattle.std.proofs.Math.Path.{refl, sym, subst}
@@ -42,6 +43,7 @@ root_t number e = subst (λ n. RootPath [] (Kind.Star ∷ []) body_t n path_t) (
     no_param (ParamOn.field HasField.here on) = no_inner on
     no_param (ParamOn.field (HasField.there n h) on) = elim h [ ]
 
+-- the hidden type of the example has a root path
 pub roots_t : EachRooted [] (Kind.Star ∷ []) body_t
 roots_t number lt = (path_t, root_t number (omega (arith, lt)))
 
@@ -54,6 +56,7 @@ good_int = (WellFormed.str (tt, tt) (WellFormedRow.more (WellFormed.typ k_int) W
 good_nothing : OkSig [] with_nothing
 good_nothing = (WellFormed.str tt WellFormedRow.end, tt)
 
+-- the structure with t as Int matches, and Int is found for the hidden type
 pub int_is_found : IntIsFound
 int_is_found = (
   _,
@@ -78,6 +81,7 @@ least_t = least (root_t zero refl) earlier
     earlier : (q : SigPath) → RootPath [] (Kind.Star ∷ []) body_t 0 q → PathBefore q path_t → ⊥
     earlier q (root_path lt (root_of r h)) b = no_earlier r b
 
+-- the empty structure is refused: the hidden type has no root in it
 pub nothing_is_found : NothingIsFound
 nothing_is_found = ((match_sig_gives [] with_nothing hides_t good_nothing good_t).1 _).1 (RefusesMatch.no_root FoundAfter.none (omega arith) least_t (λ t f. none f))
   where

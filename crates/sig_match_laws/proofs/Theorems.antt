@@ -1,4 +1,5 @@
 -- The theorems.
+-- Main results: one_match, match_is_looked_up, match_or_refusal, not_both, one_refusal, match_sig_gives.
 use Rattle.std.specs.Prelude.{ℕ, ◌+◌, List, ◌≡◌, ◌⊎◌}
 use Rattle.std.proofs.Math.Logic.{inl, inr}
 use Rattle.std.proofs.Common.{arith}
@@ -22,21 +23,27 @@ use Rattle.sig_match_laws.proofs.Function.FunctionSound.{SubOk, sub_ok, sub_no, 
 use Rattle.sig_laws.specs.Good.{OkSig, OkAbs, OkRight}
 use Rattle.sig_definitions.specs.Verdict.{Verdict, holds, refuses}
 
+-- a match has at most one list of types and one coercion
 pub one_match : OneMatch
 one_match ctx s x ts us f g w v m n = match-unique m w v us g n
 
+-- subtyping has at most one coercion
 pub one_sub : OneSub
 one_sub ctx s r f g w v q d c = sub-unique d w (v, q) g c
 
+-- so has subtyping between signatures that hide types
 pub one_sub_abs : OneSubAbs
 one_sub_abs ctx x y f g w v d c = abs-unique d w v g c
 
+-- the search finds a path exactly if it is the least root path
 pub search_gives : SearchGives
 search_gives ctx ks s number p w n lt = least_root-gives w n lt p
 
+-- the types of a match are those that are looked up along root paths
 pub match_is_looked_up : MatchIsLookedUp
 match_is_looked_up ctx ks s r ts f v m = match-looked v m
 
+-- at most one type is found for a hidden type
 pub one_found : OneFound
 one_found ctx ks s r before t u w v lt f g = found_at-unique before w v lt f g
 
@@ -54,30 +61,39 @@ abs-or : {ctx : List Kind} {x y : Abs} {o : Outcome} → AbsOk ctx x y o → ((f
 abs-or (abs_ok {f = f} d) = inl (f, d)
 abs-or (abs_no {q = q} d) = inr (q, d)
 
+-- there is a match or a refusal of it
 pub match_or_refusal : MatchOrRefusal
 match_or_refusal ctx s x w v = match-or (match_sig-ok ctx s x w v)
 
+-- there is a coercion of subtyping or a refusal of it
 pub sub_or_refusal : SubOrRefusal
 sub_or_refusal ctx s r w v = sub-or (sub_sig-ok ctx s r w v)
 
+-- so there is for signatures that hide types
 pub sub_abs_or_refusal : SubAbsOrRefusal
 sub_abs_or_refusal ctx x y w v = abs-or (sub_abs-ok ctx x y w v)
 
+-- a match and a refusal of it exclude each other
 pub not_both : NotBoth
 not_both ctx s x ts f q w v m r = match-excluded r w v ts f m
 
+-- a match has at most one refusal
 pub one_refusal : OneRefusal
 one_refusal ctx s x p q w v a b = match-one a w v q b
 
+-- a coercion of subtyping and a refusal of it exclude each other
 pub sub_not_both : SubNotBoth
 sub_not_both ctx s r f q w v d a = sub-excluded a w v f d
 
+-- so they do for signatures that hide types
 pub sub_abs_not_both : SubAbsNotBoth
 sub_abs_not_both ctx x y f q w v d a = abs-excluded a w v f d
 
+-- subtyping has at most one refusal
 pub one_sub_refusal : OneSubRefusal
 one_sub_refusal ctx s r p q w v a b = sub-refusal a w v q b
 
+-- so has subtyping between signatures that hide types
 pub one_sub_abs_refusal : OneSubAbsRefusal
 one_sub_abs_refusal ctx x y p q w v a b = abs-one a w v q b
 
@@ -97,6 +113,7 @@ match-back w v (match_ok {ts = ts} {f = f} m) (refusal_ok r) = absurd (match-exc
 match-back w v (refusal_ok r) (match_ok {ts = ts} {f = f} m) = absurd (match-excluded r w v ts f m)
 match-back w v (refusal_ok r) (refusal_ok {q = q} z) = ap MatchOutcome.refused (match-one r w v q z)
 
+-- the function of matching gives exactly what is derived
 pub match_sig_gives : MatchSigGives
 match_sig_gives ctx s x w v = (
   (λ ts f. (λ e. subst (MatchMeans ctx s x) e (match-means (match_sig-ok ctx s x w v)), λ m. match-back w v (match_sig-ok ctx s x w v) (match_ok m))),
@@ -117,6 +134,7 @@ sub-back w v (sub_ok {f = f} d) (sub_no r) = absurd (sub-excluded r w v f d)
 sub-back w v (sub_no r) (sub_ok {f = f} d) = absurd (sub-excluded r w v f d)
 sub-back w v (sub_no r) (sub_no {q = q} z) = ap Outcome.refused (sub-refusal r w v q z)
 
+-- the function of subtyping gives exactly what is derived
 pub sub_sig_gives : SubSigGives
 sub_sig_gives ctx s r w v = (
   (λ f. (λ e. subst (SubMeans ctx s r) e (sub-means (sub_sig-ok ctx s r w v)), λ m. sub-back w v (sub_sig-ok ctx s r w v) (sub_ok m))),
@@ -137,6 +155,7 @@ abs-back w v (abs_ok {f = f} d) (abs_no r) = absurd (abs-excluded r w v f d)
 abs-back w v (abs_no r) (abs_ok {f = f} d) = absurd (abs-excluded r w v f d)
 abs-back w v (abs_no r) (abs_no {q = q} z) = ap Outcome.refused (abs-one r w v q z)
 
+-- so does that for signatures that hide types
 pub sub_abs_gives : SubAbsGives
 sub_abs_gives ctx x y w v = (
   (λ f. (λ e. subst (AbsMeans ctx x y) e (abs-means (sub_abs-ok ctx x y w v)), λ m. abs-back w v (sub_abs-ok ctx x y w v) (abs_ok m))),
@@ -148,12 +167,15 @@ sub_abs_gives ctx x y w v = (
 whole : (n : ℕ) → FnsSound (sub_sig, sub_abs, match_sig) n
 whole n = (λ ctx s r lt w v. sub_sig-ok ctx s r w v, λ ctx x y lt w v. sub_abs-ok ctx x y w v, λ ctx s x lt w v. match_sig-ok ctx s x w v)
 
+-- the function of matching is one step of itself and of the functions of subtyping
 pub match_sig_step : MatchSigStep
 match_sig_step ctx s x w v = let n = size s + size_abs x in match-back w v (match_sig-ok ctx s x w v) (match_step-ok (sub_sig, sub_abs, match_sig) n (whole n) ctx s x (omega arith) w v)
 
+-- so is the function of subtyping
 pub sub_sig_step : SubSigStep
 sub_sig_step ctx s r w v = let n = size s + size r in sub-back w v (sub_sig-ok ctx s r w v) (sub_step-ok (sub_sig, sub_abs, match_sig) n (whole n) ctx s r (omega arith) w v)
 
+-- so is that for signatures that hide types
 pub sub_abs_step : SubAbsStep
 sub_abs_step ctx x y w v = let n = size_abs x + size_abs y in abs-back w v (sub_abs-ok ctx x y w v) (abs_step-ok (sub_sig, sub_abs, match_sig) n (whole n) ctx x y (omega arith) w v)
 

@@ -1,4 +1,5 @@
 -- Matching on any types gives matching on their normal forms.
+-- Main results: matches_exactly, match_sig_finds, match_sig_matches.
 use Rattle.std.specs.Prelude.{List, ◌∷◌, ◌≡◌}
 use Rattle.std.proofs.Math.Path.{sym, subst}
 use Rattle.omega_kinds.specs.Kind.{Kind}
@@ -38,6 +39,7 @@ raise-normal {x} ctx js c =
     let f = conv_abs-gives c in
     sym (form_abs-same (conv-form_abs (conv_abs-raise ctx js (form-conv_abs f)) (normal_abs-form (extend ctx js) (raise_abs js (normal_abs ctx x)) (normal_abs-rename (past js) (past-maps js ctx) (normal_abs ctx x) (form_abs-normal f)))))
 
+-- the normal form of an ordered explicit signature may stand on the right
 pub good-normal_abs : {ctx : List Kind} {x : Abs} → Explicit ctx x → OkRight ctx (normal_abs ctx x)
 good-normal_abs v = let f = conv_abs-gives (explicit-kinds v) in (explicit-conv v (form-conv_abs f), form_abs-normal f)
 
@@ -124,17 +126,21 @@ of-forms : {ctx ks : List Kind} {s t : Sig} {ts ns : List Ty} → ConvSig ctx s 
 of-forms {ctx} {ts = ts} {ns = ns} c e fs (Matches.at h d) = Matches.at (forms-given fs)
     (sub-conv d c (conv_sig-sym (conv_sig-substitute (puts ts Ty.Var) (puts ns Ty.Var) (puts-convertible fs (vars-convertible ctx)) e)))
 
+-- signatures match at some types exactly where their normal forms match at the normal forms of these
 pub matches_exactly : MatchesExactly
 matches_exactly ctx ks s t ts ns w v fs = (λ m. to-match m fs w v, λ q. of-forms (well_formed-kinds w) (explicit-body v) fs (from-normal w v q.1))
 
+-- the normal form of a well formed signature is good
 pub good-normal_sig : {ctx : List Kind} {s : Sig} → WellFormed ctx s → OkSig ctx (normal_sig ctx s)
 good-normal_sig w = let f = conv_sig-gives (well_formed-kinds w) in (well_formed-conv w (form-conv_sig f), form_sig-normal f)
 
+-- the function answers with types where some types match, and these are their normal forms
 pub match_sig_finds : MatchSigFinds
 match_sig_finds ctx ks s t ts w v m =
     let fs = normals_of (matches-kinds m) in
     let p = to-match m fs.1 w v in
     (fs.0, p.0, ((match_sig_gives ctx (normal_sig ctx s) (Abs.Ex ks (normal_sig (extend ctx ks) t)) (good-normal_sig w) (good-normal_abs v)).0 fs.0 p.0).1 p.1, fs.1)
 
+-- the types with which the function answers match
 pub match_sig_matches : MatchSigMatches
 match_sig_matches ctx ks s t ns f w v e = from-normal w v (((match_sig_gives ctx (normal_sig ctx s) (Abs.Ex ks (normal_sig (extend ctx ks) t)) (good-normal_sig w) (good-normal_abs v)).0 ns f).0 e)

@@ -1,4 +1,5 @@
 -- Matching on any types is closed under conversion, and follows from matching on normal types.
+-- Main results: sub-conv, match-conv, any-match.
 use Rattle.std.specs.Prelude.{List, ◌∷◌}
 use Rattle.omega_kinds.specs.Kind.{Kind}
 use Rattle.omega_kinds.specs.declared.effect.Effect.{Effect}
@@ -25,6 +26,7 @@ use Rattle.sig_match_laws.specs.MatchClaims.{IsRightSig}
 
 -- conversion under renaming
 
+-- conversion of signatures that hide types is kept by raising them past binders
 pub conv_abs-raise : {x y : Abs} (ctx js : List Kind) → ConvAbs ctx x y → ConvAbs (extend ctx js) (raise_abs js x) (raise_abs js y)
 conv_abs-raise ctx js c = conv_abs-rename (past js) (past-maps js ctx) c
 
@@ -34,6 +36,7 @@ conv-at {ts = ts} h c = conv_sig-substitute (puts ts Ty.Var) (puts ts Ty.Var) (s
 pub conv-at_under : {ks : List Kind} {x y : Abs} {ts : List Ty} (ctx js : List Kind) → OfKinds (extend ctx js) ts ks → ConvAbs (extend ctx ks) x y → ConvAbs (extend ctx js) (abs_at_under js ts x) (abs_at_under js ts y)
 conv-at_under {ts = ts} ctx js h c = conv_abs-substitute (puts ts (λ i. Ty.Var (past js i))) (puts ts (λ i. Ty.Var (past js i))) (substitutes-convertible (under-at-substitutes ctx js h)) c
 
+-- the types at which signatures match have the kinds of the hidden ones
 pub matches-kinds : {ctx ks : List Kind} {s t : Sig} {ts : List Ty} → Matches ctx s (Abs.Ex ks t) ts → OfKinds ctx ts ks
 matches-kinds (Matches.at h d) = h
 

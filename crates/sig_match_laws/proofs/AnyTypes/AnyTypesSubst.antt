@@ -1,4 +1,5 @@
 -- Matching on any types is closed under substitution.
+-- Main results: matches_substitute.
 use Rattle.std.specs.Prelude.{ℕ, zero, ◌<◌, List, [], ◌∷◌, ◌≡◌, ◌⊎◌, length}
 use Rattle.std.proofs.Math.Logic.{inl, inr}
 use Rattle.std.proofs.Common.{arith}
@@ -68,6 +69,7 @@ substitute-sig_at ks ts f s e =
     (ap (λ g. substitute_sig g s) (puts-substituted ks [] ts f e) ∙
     sym (substitute-substitute_sig (puts (all_substituted f ts) Ty.Var) (unders ks f) s))
 
+-- a substitution of types of the right kinds keeps the kinds of a list of types
 pub kinds-substituted : {ctx other : List Kind} {ts : List Ty} {ks : List Kind} (f : ℕ → Ty) → Substitutes ctx other f → OfKinds ctx ts ks → OfKinds other (all_substituted f ts) ks
 kinds-substituted f h OfKinds.none = OfKinds.none
 kinds-substituted f h (OfKinds.next k ks) = OfKinds.next (kind-substitute f h k) (kinds-substituted f h ks)
@@ -101,5 +103,6 @@ mutual
   match-substitute {other = other} f h (Matches.at {ks = ks} {s = s} {t = t} {ts = ts} o d) =
       Matches.at (kinds-substituted f h o) (subst (IsSub other (substitute_sig f s)) (substitute-sig_at ks ts f t (kinds-length o)) (sub-substitute f h d))
 
+-- signatures that match do so after a substitution
 pub matches_substitute : MatchesSubstitute
 matches_substitute ctx other s x ts f h m = match-substitute f h m

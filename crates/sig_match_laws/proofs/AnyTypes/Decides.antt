@@ -1,4 +1,5 @@
 -- The functions decide matching and subtyping on any types.
+-- Main results: match_sig_refuses, sub_abs_finds.
 use Rattle.std.specs.Prelude.{ℕ, List, ◌≡◌, ◌⊎◌}
 use Rattle.std.proofs.Math.Logic.{inl, inr}
 use Rattle.std.proofs.Common.{arith}
@@ -25,6 +26,7 @@ abbrev number_of : MatchOutcome → ℕ
 number_of (MatchOutcome.matched ts f) = 0
 number_of (MatchOutcome.refused q) = 1
 
+-- the function refuses a match exactly where no types match
 pub match_sig_refuses : MatchSigRefuses
 match_sig_refuses ctx ks s t w v = (never, give)
   where
@@ -41,5 +43,6 @@ match_sig_refuses ctx ks s t w v = (never, give)
 good-left_abs : {ctx : List Kind} {x : Abs} → WellFormedAbs ctx x → OkAbs ctx (normal_abs ctx x)
 good-left_abs w = let f = conv_abs-gives (well_formed_abs-kinds w) in (well_formed_abs-conv w (form-conv_abs f), form_abs-normal f)
 
+-- the function finds a coercion exactly where one signature that hides types is a subtype of the other
 pub sub_abs_finds : SubAbsFinds
 sub_abs_finds ctx x y w v = (λ a. let z = to-abs a w v in (z.0, ((sub_abs_gives ctx (normal_abs ctx x) (normal_abs ctx y) (good-left_abs w) (good-normal_abs v)).0 z.0).1 z.1), λ r. abs-conv (any-abs (((sub_abs_gives ctx (normal_abs ctx x) (normal_abs ctx y) (good-left_abs w) (good-normal_abs v)).0 r.0).0 r.1) (good-left_abs w) (good-normal_abs v)) (conv_abs-sym (form-conv_abs (conv_abs-gives (well_formed_abs-kinds w)))) (conv_abs-sym (form-conv_abs (conv_abs-gives (explicit-kinds v)))))

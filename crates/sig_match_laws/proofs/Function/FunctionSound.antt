@@ -1,4 +1,5 @@
 -- The functions give derivations and refusals, so one of the two exists.
+-- Main results: sub_sig-ok, sub_abs-ok, match_sig-ok.
 use Rattle.std.specs.Prelude.{ℕ, zero, suc, ◌+◌, ◌<◌, List, [], ◌∷◌, ◌≡◌, Option, length}
 use Rattle.std.proofs.Common.{arith}
 use Rattle.std.proofs.Math.Path.{refl, sym, ◌∙◌, ap, subst}
@@ -79,6 +80,7 @@ compare_all-ok {ctx} {ks} {s} {r} f n h lt w v (found_ok {ts = ts} {rest = rest}
 compare_all-ok {ctx} {ks} {s} {r} f n h lt w v (stop_ok {ts = ts} {p = p} e l g small root stop) =
     refusal_ok (subst (λ z. RefusesMatch ctx s (Abs.Ex ks r) (NoRoot z p)) (sym g) (RefusesMatch.no_root (subst (Looked ctx s ks r) (sym e) l) small root stop))
 
+-- the step of matching is sound if the functions on smaller signatures are
 pub match_step-ok : (F : Fns) (n : ℕ) → FnsSound F n → MatchSound (match_step F) (suc n)
 match_step-ok F n h ctx s (Abs.Ex ks r) lt w v = compare_all-ok F.0 n h.0 (omega arith) w v (look_all-ok F.2 n h.2 ctx s ks r [] [] ks (omega arith) w v refl NormalTypes.none)
 
@@ -87,6 +89,7 @@ match_step-ok F n h ctx s (Abs.Ex ks r) lt w v = compare_all-ok F.0 n h.0 (omega
 encoded-normal : {ctx ks : List Kind} {r : Sig} → OkRight ctx (Abs.Ex ks r) → Normal ctx (ex_over ks (enc r)) Kind.Star
 encoded-normal v = enc_abs-normal v.0 v.1
 
+-- a sound match gives a sound answer of subtyping for a left side that hides nothing
 pub plain-ok : {ctx : List Kind} {s : Sig} (y : Abs) {o : MatchOutcome} → OkRight ctx y → MatchOk ctx s y o → AbsOk ctx (Abs.Ex [] s) y (plain_up (enc s) (enc_abs y) o)
 plain-ok (Abs.Ex ks r) v (match_ok {ts = ts} {f = f} m) = abs_ok (SubAbs.plain m (MatchPart.made (pack_up-packs (Term.Call f (Term.Var zero)) (enc r) (types-of v m) (encoded-normal v))))
   where
@@ -94,12 +97,14 @@ plain-ok (Abs.Ex ks r) v (match_ok {ts = ts} {f = f} m) = abs_ok (SubAbs.plain m
     types-of v m = (match-view (explicit-body v.0) m).1
 plain-ok (Abs.Ex ks r) v (refusal_ok q) = abs_no (RefusesSubAbs.plain q)
 
+-- a sound match under the left types gives a sound answer of subtyping for a left side that hides types
 pub hidden-ok : {ctx : List Kind} {s : Sig} (k : Kind) (ks : List Kind) (y : Abs) {o : MatchOutcome} → OkRight (extend ctx (k ∷ ks)) (raise_abs (k ∷ ks) y) → MatchOk (extend ctx (k ∷ ks)) s (raise_abs (k ∷ ks) y) o → AbsOk ctx (Abs.Ex (k ∷ ks) s) y (hidden_up (enc_abs (Abs.Ex (k ∷ ks) s)) (k ∷ ks) (raise (k ∷ ks) (enc_abs y)) o)
 hidden-ok {ctx} {s} k ks (Abs.Ex js r) v (match_ok {ts = ts} {f = f} m) =
     let p = pack_up-packs (Term.Call f (Term.Var zero)) _ (match-view (explicit-body v.0) m).1 (encoded-normal v) in
     abs_ok (SubAbs.hidden m (AbsPart.made (subst (λ u. Packs (extend ctx (k ∷ ks)) ts (Term.Call f (Term.Var zero)) u (pack_up ts (Term.Call f (Term.Var zero)) u)) (enc_abs-rename (past (k ∷ ks)) (Abs.Ex js r)) p)))
 hidden-ok k ks (Abs.Ex js r) v (refusal_ok q) = abs_no (RefusesSubAbs.hidden q)
 
+-- the step of subtyping between signatures that hide types is sound if the functions on smaller signatures are
 pub abs_step-ok : (F : Fns) (n : ℕ) → FnsSound F n → AbsSound (abs_step F) (suc n)
 abs_step-ok F n h ctx (Abs.Ex [] s) y lt w v = plain-ok y v (h.2 ctx s y (omega arith) (good-body w) v)
 abs_step-ok F n h ctx (Abs.Ex (k ∷ ks) s) y lt w v =
@@ -199,6 +204,7 @@ form_number SigForm.functor = 4
 pure-hides : {ctx ks more : List Kind} {k : Kind} {s r : Sig} → WellFormed ctx (Sig.Fun Pure ks s (Abs.Ex (k ∷ more) r)) → ⊥
 pure-hides h = elim h [ ]
 
+-- the step of subtyping is sound if the functions on smaller signatures are
 pub sub_step-ok : (F : Fns) (n : ℕ) → FnsSound F n → SubSound (sub_step F) (suc n)
 sub_step-ok F n h ctx (Sig.Val t) (Sig.Val u) lt w v = value-ok (dec_ty t u)
 sub_step-ok F n h ctx (Sig.Typ t k) (Sig.Typ u j) lt w v = type-ok (dec_ty t u) (Kind-discrete k j)
@@ -224,11 +230,14 @@ pub fns-ok : (n : ℕ) → FnsSound (fns n) n
 fns-ok zero = (λ ctx s r lt w v. absurd (omega (arith, lt)), λ ctx x y lt w v. absurd (omega (arith, lt)), λ ctx s x lt w v. absurd (omega (arith, lt)))
 fns-ok (suc n) = let h = fns-ok n in (sub_step-ok (fns n) n h, abs_step-ok (fns n) n h, match_step-ok (fns n) n h)
 
+-- the function of subtyping gives a coercion that is derived, or a refusal that is
 pub sub_sig-ok : (ctx : List Kind) (s r : Sig) → OkSig ctx s → IsRightSig ctx r → SubOk ctx s r (sub_sig ctx s r)
 sub_sig-ok ctx s r w v = (fns-ok (suc (size s + size r))).0 ctx s r (omega arith) w v
 
+-- so does the function of subtyping between signatures that hide types
 pub sub_abs-ok : (ctx : List Kind) (x y : Abs) → OkAbs ctx x → OkRight ctx y → AbsOk ctx x y (sub_abs ctx x y)
 sub_abs-ok ctx x y w v = (fns-ok (suc (size_abs x + size_abs y))).1 ctx x y (omega arith) w v
 
+-- the function of matching gives types and a coercion that are derived, or a refusal that is
 pub match_sig-ok : (ctx : List Kind) (s : Sig) (x : Abs) → OkSig ctx s → OkRight ctx x → MatchOk ctx s x (match_sig ctx s x)
 match_sig-ok ctx s x w v = (fns-ok (suc (size s + size_abs x))).2 ctx s x (omega arith) w v

@@ -1,4 +1,5 @@
 -- The functions that look up find what there is to find.
+-- Main results: look-ok, look_all-ok.
 use Rattle.std.specs.Prelude.{ℕ, ◌+◌, ◌<◌, List, [], ◌∷◌, ◌++◌, ◌≡◌, Option, Some, None, length}
 use Rattle.std.proofs.Common.{arith}
 use Rattle.std.proofs.Math.Path.{refl, sym, ◌∙◌, ap, subst, subst₂}
@@ -48,6 +49,7 @@ pub data FieldOk (fs : SigRow) (l : Name) : Option Sig → Type 0 where
   has : {s : Sig} → HasField fs l s → FieldOk fs l (Some s)
   lacks : NoField l fs → FieldOk fs l None
 
+-- the search for a field finds the field of the name, or that there is none
 pub find_field-ok : (l : Name) (fs : SigRow) → FieldOk fs l (find_field l fs)
 find_field-ok l SigRow.End = lacks tt
 find_field-ok l (SigRow.More m s rest) = go (dec_name l m) (find_field-ok l rest)
@@ -118,6 +120,7 @@ look_result-ok {ctx} {ks} {js} {a} {s} {b} {r} {p} f w v (match_ok {ts = ts} {f 
             let e = form_sig-same (subst (λ us. NormalSigForm (extend ctx js) (sig_at_under js us s) z.2) (sym u.0) z.5) in
             n z.3 (subst (λ y. Found (extend ctx js) y p r z.3) e z.6)
 
+-- looking up along a path finds what the left side has there, or that it has nothing
 pub look-ok : (m : MatchFn) (n : ℕ) → MatchSound m n → (ctx : List Kind) (s : Sig) (p : SigPath) (r : Sig) → size s + size r < n → OkSig ctx s → IsRightSig ctx r → LookOk ctx s p r (look m ctx s p r)
 look-ok m n h ctx (Sig.Typ t k) [] (Sig.Typ u j) lt w v = look_end-ok (Kind-discrete k j)
 look-ok m n h ctx (Sig.Str fs) (Item.Part l ∷ p) (Sig.Str gs) lt w v =
@@ -142,6 +145,7 @@ any_types-normal : (ctx ks : List Kind) → NormalTypes ctx (any_types ks) ks
 any_types-normal ctx [] = none
 any_types-normal ctx (k ∷ ks) = next (any_type-normal ctx k) (any_types-normal ctx ks)
 
+-- the normal form of a right side at types of its kinds is the one that the function gives
 pub at-form : {ctx ks : List Kind} {r : Sig} {ts : List Ty} → OkRight ctx (Abs.Ex ks r) → OfKinds ctx ts ks → NormalSigForm ctx (sig_at ts r) (normal_sig ctx (sig_at ts r))
 at-form {ctx} {ks} {r} {ts} v h = let f = puts ts Ty.Var in conv_sig-gives (conv_sig-substitute f f (substitutes-convertible (at-substitutes h)) (explicit-body v.0))
 
@@ -168,6 +172,7 @@ go_on-ok {ctx} {s} {ks} {r} {before} {p} {n} rest f w v lt root h nf (look_none 
         let z = root-agreed before others rest refl refl g h lt (root-of root) nq nf in
         never t (found-agree z.5.2 (subst (λ x. Found ctx s x m t) (one_least k2 root) d))
 
+-- looking up the hidden types in order finds all of them, or the first one that has no root on the left
 pub look_all-ok : (m : MatchFn) (n : ℕ) → MatchSound m n → (ctx : List Kind) (s : Sig) (ks : List Kind) (r : Sig) (before : List Ty) (first left : List Kind)
     → size s + size r < n → OkSig ctx s → OkRight ctx (Abs.Ex ks r) → ks ≡ first ++ left → NormalTypes ctx before first
     → LookingsOk ctx s ks r before (look_all m ctx s ks r before left)

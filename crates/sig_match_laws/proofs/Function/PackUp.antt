@@ -1,4 +1,5 @@
 -- Packing as a function gives the packed term.
+-- Main results: pack_up-packs.
 use Rattle.std.specs.Prelude.{zero, List, ◌∷◌}
 use Rattle.std.proofs.Math.Path.{sym, subst}
 use Rattle.omega_kinds.specs.Kind.{Kind}
@@ -17,6 +18,7 @@ use Rattle.omega_types.proofs.BinderPuts.NormalTypes.{none, next}
 use Rattle.sig_match_laws.specs.MatchFunction.{pack_up}
 use Rattle.omega_terms.proofs.NormalTyping.{normal-ex}
 
+-- the function that packs normal types of the right kinds gives the packed term
 pub pack_up-packs : {ctx : List Kind} {ts : List Ty} {ks : List Kind} (e : Term) (b : Ty) → NormalTypes ctx ts ks → Normal ctx (ex_over ks b) Kind.Star → Packs ctx ts e (ex_over ks b) (pack_up ts e (ex_over ks b))
 pack_up-packs e b none n = Packs.none
 pack_up-packs {ctx} e b (next {t = t} {ts = ts} {k = k} {ks = ks} m ms) n =

@@ -1,4 +1,5 @@
 -- The tests of the functions by the facts that a program finds out, and what looking up depends on.
+-- Main results: later_types, look_gives.
 use Rattle.std.specs.Prelude.{suc, ◌+◌, List, [], ◌≡◌, Option, Some, None}
 use Rattle.std.proofs.Common.{arith}
 use Rattle.std.proofs.Math.Path.{refl, sym, ◌∙◌, ap, subst, fun_ext}
@@ -50,6 +51,7 @@ look-agree (Agree.result {ks = js} {s = b} a) m ctx (Sig.Fun Pure ks c (Abs.Ex [
     ap (look_result js (m (extend ctx js) b (raise_abs js (Abs.Ex ks c)))) (fun_ext (λ ts. look-agree a m (extend ctx js) (normal_sig (extend ctx js) (sig_at_under js ts s))))
 look-agree (Agree.result a) m ctx s = refl
 
+-- what is put in for a hidden type and for those after it makes no difference along its root path
 pub later_types : LaterTypesDoNotMatter
 later_types m ctx ks s r p before rest others v lt l h g =
     let z = root-agreed before rest others refl refl h g lt (root-of l) (at-form v h) (at-form v g) in
@@ -73,6 +75,7 @@ look-means : (ctx : List Kind) (s : Sig) (p : SigPath) (r : Sig) {o : Option Ty}
 look-means ctx s p r (look_found f) = f
 look-means ctx s p r (look_none n) = n
 
+-- the function that looks up gives exactly what is found along a path
 pub look_gives : LookGives
 look_gives ctx s p r w v =
     let ok = look-ok match_sig (suc (size s + size r)) (λ ctx s x lt w v. match_sig-ok ctx s x w v) ctx s p r (omega arith) w v in (

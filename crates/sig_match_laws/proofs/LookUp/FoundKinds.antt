@@ -1,4 +1,5 @@
 -- What is looked up is normal, at the kind of its variable.
+-- Main results: found_at-normal, looked-normal.
 use Rattle.std.specs.Prelude.{◌<◌, List, [], ◌∷◌, ◌++◌, ◌≡◌, length}
 use Rattle.std.proofs.Common.{arith}
 use Rattle.std.proofs.Math.Path.{refl, sym, ◌∙◌, ap, subst}
@@ -57,6 +58,7 @@ kinds-split [] rest (j ∷ first) k more h e = absurd (omega (arith, e))
 kinds-split (b ∷ before) rest [] k more h e = absurd (omega (arith, e))
 kinds-split (b ∷ before) rest (j ∷ first) k more (OfKinds.next h hs) e = kinds-split before rest first k more hs (omega (arith, e))
 
+-- a type that is found is normal and has the kind of its hidden type
 pub found_at-normal : {ctx ks : List Kind} {s r : Sig} {t : Ty} (before : List Ty) (first : List Kind) (k : Kind) (more : List Kind) → OkSig ctx s → OkRight ctx (Abs.Ex ks r) → ks ≡ first ++ (k ∷ more) → length before ≡ length first → FoundAt ctx s ks r before t → Normal ctx t k
 found_at-normal {ctx} {ks} {s} {r} {t} before first k more w v e l (found_at {p = p} {n = n} root (PutFirst.put rest h nr) f) =
     let q = kinds-split before rest first k more (subst (OfKinds ctx (before ++ rest)) e h) l in
@@ -75,5 +77,6 @@ after-normal {ctx} {ks} before (t ∷ rest) first (k ∷ more) w v e n l (FoundA
     subst (λ x. NormalTypes ctx x ks) (sym (append-one before rest t))
     (after-normal (before ++ (t ∷ [])) rest (first ++ (k ∷ [])) more w v (e ∙ append-one first more k) (types-append n (next (found_at-normal before first k more w v e (fits-length (types-fit n)) f) none)) (omega (arith, l)) fs)
 
+-- types that are found for all hidden types are normal and have their kinds
 pub looked-normal : {ctx ks : List Kind} {s r : Sig} {ts : List Ty} → OkSig ctx s → OkRight ctx (Abs.Ex ks r) → Looked ctx s ks r ts → length ts ≡ length ks → NormalTypes ctx ts ks
 looked-normal {ctx} {ks} {s} {r} {ts} w v l e = after-normal [] ts [] ks w v refl none e l

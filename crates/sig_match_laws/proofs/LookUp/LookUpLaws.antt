@@ -1,4 +1,5 @@
 -- Looking up finds what a match has, at most one type, and the same on right sides that agree.
+-- Main results: found-unique, found_at-unique, match-looked.
 use Rattle.std.specs.Prelude.{◌+◌, ◌≤◌, ◌<◌, List, [], ◌∷◌, ◌++◌, ◌≡◌, Some, length}
 use Rattle.std.proofs.Common.{arith}
 use Rattle.std.proofs.Math.Path.{refl, sym, ◌∙◌, ap, ap₂, subst, subst₂}
@@ -47,6 +48,7 @@ sub-found (PartAt.result {bs = bs} {q = Sig.Typ u k} a) (Sub.fun m n (SubResult.
 
 -- it is the same where the right side agrees along the path
 
+-- what is found along a path of one right side is found along that of another with the same parameters on it
 pub found-agree : {ctx : List Kind} {s r q : Sig} {p : SigPath} {t : Ty} {bs : List Kind} {a b : Ty} {k : Kind} → Agree r q p bs a b k → Found ctx s p r t → Found ctx s p q t
 found-agree Agree.end Found.end = Found.end
 found-agree {ctx} {t = t} (Agree.field {p = p} h1 h2 ag) (Found.field {s = s} hs hr f) = Found.field hs h2 (found-agree ag (subst (λ z. Found ctx s p z t) (one-field hr h1 refl) f))
@@ -60,11 +62,13 @@ FoundView ctx (Sig.Str fs) (Item.Part l ∷ p) (Sig.Str gs) w = (s r : Sig) × H
 FoundView ctx (Sig.Fun Pure ks a (Abs.Ex [] s)) (Item.Res ∷ p) (Sig.Fun Pure js b (Abs.Ex [] r)) w = (ts : List Ty) × (f : Term) × (y : Sig) × (t : Ty) × Match (extend ctx js) b (raise_abs js (Abs.Ex ks a)) ts f × NormalSigForm (extend ctx js) (sig_at_under js ts s) y × Found (extend ctx js) y p r t × (lam_over js t ≡ w)
 FoundView ctx _ _ _ w = ⊥
 
+-- what is found, taken apart by the first item of the path
 pub found-view : {ctx : List Kind} {s r : Sig} {p : SigPath} {t : Ty} → Found ctx s p r t → FoundView ctx s p r t
 found-view Found.end = (refl, refl)
 found-view (Found.field {s = s} {r = r} hs hr f) = (s, r, hs, hr, f)
 found-view (Found.result {y = y} {ts = ts} {f = f} {t = t} m n g) = (ts, f, y, t, m, n, g, refl)
 
+-- at most one type is found along a path
 pub found-unique : {ctx : List Kind} {s r : Sig} {p : SigPath} {t : Ty} → Found ctx s p r t → OkSig ctx s → IsRightSig ctx r → (u : Ty) → Found ctx s p r u → t ≡ u
 found-unique Found.end w v u g = (found-view g).1
 found-unique {ctx} {p = Item.Part l ∷ p} (Found.field hs hr f) w v u g =
@@ -76,11 +80,13 @@ found-unique {ctx} (Found.result {js = js} {s = s} {r = r} {y = y} {p = p} m n f
     let d = form_sig-unique n (subst (λ us. NormalSigForm (extend ctx js) (sig_at_under js us s) q.2) (sym e.0) q.5) in
     ap (lam_over js) (found-unique f (good-body (good-left_result ctx js w (match-kinds m) (ex n))) (good-pure (good-right_result v)) q.3 (subst (λ z. Found (extend ctx js) z p r q.3) (sym d) q.6)) ∙ q.7
 
+-- where two right sides agree along a path, the first has there its type
 pub agree-part : {r q : Sig} {p : SigPath} {bs : List Kind} {t u : Ty} {k : Kind} → Agree r q p bs t u k → PartAt r p bs (Sig.Typ t k)
 agree-part Agree.end = PartAt.end
 agree-part (Agree.field h g a) = PartAt.field h (agree-part a)
 agree-part (Agree.result a) = PartAt.result (agree-part a)
 
+-- at most one type is found for a hidden type
 pub found_at-unique : {ctx ks : List Kind} {s r : Sig} {t u : Ty} (before : List Ty) → OkSig ctx s → OkRight ctx (Abs.Ex ks r) → length before < length ks → FoundAt ctx s ks r before t → FoundAt ctx s ks r before u → t ≡ u
 found_at-unique {ctx} {ks} {s} {r} {t} {u} before w v lt (found_at {p = p} {n = n} l (PutFirst.put rest h nr) f) (found_at {p = q} {n = m} k (PutFirst.put others g nq) d) =
     let z = root-agreed before rest others refl refl h g lt (root-of l) nr nq in
@@ -106,6 +112,7 @@ looked-after {ctx} {ks} {s} {t} {r} {ts} before (a ∷ more) v e n nr d =
     go : (p : SigPath) × (least_root ctx ks t (length before) ≡ Some p) × LeastRoot ctx ks t (length before) p → FoundAt ctx s ks t before a
     go q = at_path q.2
 
+-- the types of a match are those that are looked up
 pub match-looked : {ctx ks : List Kind} {s t : Sig} {ts : List Ty} {f : Term} → OkRight ctx (Abs.Ex ks t) → Match ctx s (Abs.Ex ks t) ts f → Looked ctx s ks t ts
 match-looked {ts = ts} v m = let q = match-view (explicit-body v.0) m in looked-after [] ts v refl q.1 q.2 q.3
 
@@ -116,6 +123,7 @@ pub data Compared (ctx : List Kind) (s : Sig) (ks : List Kind) (r : Sig) (before
   shorter : {ts us : List Ty} (t : Ty) → length ts < length us → FoundAt ctx s ks r (before ++ ts) t → Compared ctx s ks r before ts us
   longer : {ts us : List Ty} (t : Ty) → length us < length ts → FoundAt ctx s ks r (before ++ us) t → Compared ctx s ks r before ts us
 
+-- of two lists of types that are looked up, one goes on where the other ends, or they are the same
 pub compared : {ctx ks : List Kind} {s r : Sig} (before : List Ty) {ts us : List Ty} → OkSig ctx s → OkRight ctx (Abs.Ex ks r) → length before + length ts ≤ length ks → length before + length us ≤ length ks → FoundAfter ctx s ks r before ts → FoundAfter ctx s ks r before us → Compared ctx s ks r before ts us
 compared before w v b c FoundAfter.none FoundAfter.none = same refl
 compared {ctx} {ks} {s} {r} before w v b c FoundAfter.none (FoundAfter.next {t = t} f fs) = shorter t (omega arith) (subst (λ x. FoundAt ctx s ks r x t) (sym (append-nil before)) f)

@@ -1,4 +1,5 @@
 -- A refusal excludes a derivation, and there is at most one.
+-- Main results: looked-same, looked-stops, sub-excluded, match-excluded.
 use Rattle.std.specs.Prelude.{◌<◌, List, [], ◌∷◌, ◌≡◌, length}
 use Rattle.std.proofs.Common.{arith}
 use Rattle.std.proofs.Math.Path.{refl, sym, ap, subst}
@@ -41,6 +42,7 @@ looked-full {ctx} {ks} {s} {r} {ts} {us} w v a e b lt stop = go (compared [] w v
     go (shorter t l f) = omega (arith, e, lt, l)
     go (longer t l f) = stop t f
 
+-- types that are looked up for all hidden types are the only ones
 pub looked-same : {ctx ks : List Kind} {s r : Sig} {ts us : List Ty} → OkSig ctx s → OkRight ctx (Abs.Ex ks r) → Looked ctx s ks r ts → length ts ≡ length ks → Looked ctx s ks r us → length us ≡ length ks → ts ≡ us
 looked-same {ctx} {ks} {s} {r} {ts} {us} w v a e b g = go (compared [] w v (omega (arith, e)) (omega (arith, g)) a b)
   where
@@ -49,6 +51,7 @@ looked-same {ctx} {ks} {s} {r} {ts} {us} w v a e b g = go (compared [] w v (omeg
     go (shorter t l f) = absurd (omega (arith, e, g, l))
     go (longer t l f) = absurd (omega (arith, e, g, l))
 
+-- looking up stops at one hidden type only
 pub looked-stops : {ctx ks : List Kind} {s r : Sig} {ts us : List Ty} → OkSig ctx s → OkRight ctx (Abs.Ex ks r) → Looked ctx s ks r ts → length ts < length ks → ((t : Ty) → FoundAt ctx s ks r ts t → ⊥) → Looked ctx s ks r us → length us < length ks → ((t : Ty) → FoundAt ctx s ks r us t → ⊥) → ts ≡ us
 looked-stops {ctx} {ks} {s} {r} {ts} {us} w v a e p b g q = go (compared [] w v (omega (arith, e)) (omega (arith, g)) a b)
   where

@@ -1,4 +1,5 @@
 -- The search finds the least root path.
+-- Main results: least_root-exists, least_root-gives.
 use Rattle.std.specs.Prelude.{ℕ, ◌≤◌, ◌<◌, List, [], ◌∷◌, ◌++◌, ◌≡◌, ◌⊎◌, Option, Some, None, length}
 use Rattle.std.proofs.Math.Logic.{inl, inr}
 use Rattle.std.proofs.Math.Path.{refl, sym, ◌∙◌, ap, subst, subst₂}
@@ -122,6 +123,7 @@ searched-end {c} {o} {v} {w} {t} {k} {j} h n (no e) b = absent never
     never : (q : SigPath) → RootIn c o v w (Sig.Typ t k) q → ⊥
     never _ (RootIn.end m) = e (one_kind c o k j (conv-kinds m).1 h)
 
+-- after an argument for each binder, the kind of an operator over them is the kind of its body
 pub kind_left-over : (ks : List Kind) (k : Kind) → kind_left ks (arrow_over ks k) ≡ k
 kind_left-over [] k = refl
 kind_left-over (j ∷ ks) k = kind_left-over ks k
@@ -207,11 +209,13 @@ mutual
 
 -- a hidden variable has its kind
 
+-- the variable of a hidden type has the kind that the context gives it
 pub own-kind : (ks ctx : List Kind) (number : ℕ) → number < length ks → HasKind (extend ctx ks) (Ty.Var (own ks number)) (kind_at (extend ctx ks) (own ks number))
 own-kind ks ctx number lt = let x = own-lookup ctx ks number lt in k_var (subst (Lookup (extend ctx ks) (own ks number)) (lookup-kind_at x) x)
 
 -- the least root path is the one that the search gives
 
+-- where a hidden type has a root path, the search finds one, and it is the least
 pub least_root-exists : {ctx ks : List Kind} {s : Sig} {number : ℕ} → WellFormed (extend ctx ks) s → NormalSig (extend ctx ks) s → number < length ks → (p : SigPath) × RootPath ctx ks s number p → (p : SigPath) × (least_root ctx ks s number ≡ Some p) × LeastRoot ctx ks s number p
 least_root-exists {ctx} {ks} {s} {number} h n lt root = go (searched (extend ctx ks) (Ty.Var (own ks number)) (kind_at (extend ctx ks) (own ks number)) (own ks number) (λ x. x) s h n (own-kind ks ctx number lt))
   where
@@ -227,6 +231,7 @@ least-in : (ctx ks : List Kind) (s : Sig) {number : ℕ} {o : Option SigPath} (l
 least-in ctx ks s lt (found r f) = least (root-out lt r) (λ q z b. f q (root-in lt z) b)
 least-in ctx ks s lt (absent f) = tt
 
+-- the search finds a path exactly if it is the least root path
 pub least_root-gives : {ctx ks : List Kind} {s : Sig} {number : ℕ} → WellFormed (extend ctx ks) s → NormalSig (extend ctx ks) s → number < length ks → (p : SigPath) → (least_root ctx ks s number ≡ Some p → LeastRoot ctx ks s number p) × (LeastRoot ctx ks s number p → least_root ctx ks s number ≡ Some p)
 least_root-gives {ctx} {ks} {s} {number} h n lt p = (λ e. to (searched (extend ctx ks) (Ty.Var (own ks number)) (kind_at (extend ctx ks) (own ks number)) (own ks number) (λ x. x) s h n (own-kind ks ctx number lt)) e, from)
   where

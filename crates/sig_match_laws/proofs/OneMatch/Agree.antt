@@ -1,4 +1,5 @@
 -- Two right sides that agree along a path, and what a root path fixes.
+-- Main results: root-agreed.
 use Rattle.std.specs.Prelude.{ℕ, suc, ◌+◌, ◌-◌, ◌≤◌, ◌<◌, List, [], ◌∷◌, ◌++◌, ◌≡◌, length}
 use Rattle.std.proofs.Common.{arith}
 use Rattle.std.proofs.Math.Decide.{dec_lt}
@@ -160,6 +161,7 @@ type_shown {ctx} {ks} {tys} {t} {a} {u} {k} bs before rest e n c f =
 
 -- right sides with the same types before a variable agree along its root path
 
+-- a right side at types that are the same up to a hidden type has the same parameters on the root path of that type
 pub root-agreed : {ctx ks : List Kind} {s r q : Sig} {p : SigPath} {ts us : List Ty} (before rest others : List Ty)
     → ts ≡ before ++ rest → us ≡ before ++ others
     → OfKinds ctx ts ks → OfKinds ctx us ks

@@ -1,4 +1,5 @@
 -- At most one list of types and one coercion for a left and a right side.
+-- Main results: match-unique, sub-unique.
 use Rattle.sig_laws.proofs.Formed.Conditions.{match-kinds, IsRight, RightResult, right-functor, left-functor, explicit-right, explicit-roots, abs-body, str-fields, str-results, row-first, results-first, row-field, param-raised, abs-raised, right-at, left-at}
 use Rattle.std.specs.Prelude.{◌<◌, List, [], ◌∷◌, ◌++◌, ◌≡◌, length}
 use Rattle.std.proofs.Common.{arith}
@@ -31,6 +32,7 @@ use Rattle.sig_laws.proofs.Algebra.PathLaws.{one-field}
 
 -- the types are found at the root paths, one after the other
 
+-- a list with one more item in front of the rest, regrouped
 pub append-one : {A : Type 0} (before rest : List A) (t : A) → before ++ (t ∷ rest) ≡ (before ++ (t ∷ [])) ++ rest
 append-one before rest t = sym (append_assoc before (t ∷ []) rest)
 
@@ -47,6 +49,7 @@ first_same {p = p} before rest others t u e g n m lt root nr nq h =
     let z = w.5 in
     sym (type_shown w.0 before rest e n w.3 z.3) ∙ (ap (lam_over w.0) (h p w.0 z.0 z.1 w.2 z.2) ∙ type_shown w.0 before others g m w.3 z.4)
 
+-- types before another one are fewer than the hidden types
 pub length-below : {ctx ks : List Kind} {ts : List Ty} (before rest : List Ty) (t : Ty) → ts ≡ before ++ (t ∷ rest) → NormalTypes ctx ts ks → length before < length ks
 length-below before rest t e n =
     let a = sym (kinds-length (types-kinds n)) ∙ (ap length e ∙ length-append before (t ∷ rest)) in
