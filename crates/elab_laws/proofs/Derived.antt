@@ -1,4 +1,5 @@
 -- Each derived type has its kind, each written signature is ordered explicit, and each module's signature is well formed.
+-- Main results: good-body.
 use Rattle.std.specs.Prelude.{List, [], ◌∷◌, ◌++◌, ◌≡◌}
 use Rattle.std.proofs.Math.Path.{sym, ◌∙◌, subst}
 use Rattle.omega_kinds.specs.Kind.{Kind}
@@ -135,6 +136,7 @@ good-lifted {ks = ks} h (pure w k) (lift (ex n)) = go (lift_well_formed h (abs w
     go : {ctx is : List Kind} {t : Sig} {us : List Ty} {e : Term} → WellFormedAbs ctx (Abs.Ex is t) → OfKinds ctx us is → GoodModule ctx (made Pure (Abs.Ex is t) us e)
     go (abs w) k = pure w k
 
+-- the signature of a good module is well formed
 pub good-body : {ctx : List Kind} {f : Effect} {y : Abs} {ts : List Ty} {e : Term} → GoodModule ctx (made f y ts e) → WellFormedAbs ctx y
 good-body (pure w k) = abs w
 good-body (impure w) = abs w

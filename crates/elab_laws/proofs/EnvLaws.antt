@@ -1,4 +1,5 @@
 -- Environments whose entries are well formed.
+-- Main results: good-type_vars, good-module, good-named_fields.
 use Rattle.std.specs.Prelude.{zero, suc, List, [], ◌∷◌}
 use Rattle.std.proofs.Math.Path.{sym, subst}
 use Rattle.omega_kinds.specs.Kind.{Kind}
@@ -16,13 +17,16 @@ use Rattle.sig_laws.proofs.Formed.WellFormedLaws.{well_formed-rename}
 use Rattle.sig_laws.proofs.Algebra.FormLaws.{kinds-type_vars}
 use Rattle.sig_premise_laws.proofs.Environments.{Gives, gives-past_type, gives-past_term, gives-either}
 
+-- further type variables keep an environment well formed
 pub good-type_vars : (g : Env) (ks : List Kind) → IsGoodEnv g → IsGoodEnv (type_vars g ks)
 good-type_vars g [] h = h
 good-type_vars g (k ∷ ks) h = good-type_vars (Entry.TypeVar k ∷ g) ks (tt, h)
 
+-- a well formed environment with a module of a well formed signature is well formed
 pub good-module : (g : Env) (ks : List Kind) (x : Name) (s : Sig) → IsGoodEnv g → WellFormed (extend (kinds g) ks) s → IsGoodEnv (with_module g ks x s)
 good-module g ks x s h w = (subst (λ c. WellFormed c s) (sym (kinds-type_vars g ks)) w, good-type_vars g ks h)
 
+-- a well formed environment with the fields of a well formed structure is well formed
 pub good-named_fields : (g : Env) (fs : SigRow) → IsGoodEnv g → WellFormedRow (kinds g) fs → IsGoodEnv (named_fields g fs)
 good-named_fields g SigRow.End h w = h
 good-named_fields g (SigRow.More l s rest) h (WellFormedRow.more w ws) = good-named_fields (Entry.Named l s ∷ g) rest (w, h) ws

@@ -1,4 +1,5 @@
 -- Fields put in their order keep distinct names, good types and good terms.
+-- Main results: typed-insert, shape-merge, rise-with_names, collected-typed.
 use Rattle.std.specs.Prelude.{ℕ, List, [], ◌∷◌, ◌≡◌, ◌≢◌, ◌⊎◌, Bool, true, false, cond, IsTrue}
 use Rattle.std.proofs.Math.Path.{refl, sym, ◌∙◌, ap, subst}
 use Rattle.std.proofs.Math.Logic.{inl, inr}
@@ -27,23 +28,28 @@ use Rattle.sig_definitions.specs.Signatures.RecordOrder.{insert_part, insert_ter
 use Rattle.module_judgments.specs.Sequence.{Collected}
 use Rattle.sig_explicit_laws.proofs.Fields.{insert-none, merge-none}
 
+-- what holds of either branch of a condition, given its outcome, holds of the choice
 pub pick : {A : Type 0} {x y : A} (P : A → Type 0) (b : Bool) → (b ≡ true → P x) → (b ≡ false → P y) → P (cond b x y)
 pick P true f g = f refl
 pick P false f g = g refl
 
+-- things that differ do so the other way round
 pub not-sym : {A : Type 0} {x y : A} → x ≢ y → y ≢ x
 not-sym d e = d (sym e)
 
 -- record types and record terms
 
+-- a label that is fresh stays so when a field of another label is inserted
 pub fresh-insert : (m l : Label) (t : Ty) (row : Row) → m ≢ l → Fresh m row → Fresh m (insert_part l t row)
 fresh-insert m l t Row.End d f = (d, tt)
 fresh-insert m l t (Row.More n u rest) d f = pick (Fresh m) (label_before l n) (λ e. (d, f)) (λ e. (f.0, fresh-insert m l t rest d f.1))
 
+-- a normal row with a normal field of a fresh label inserted is normal
 pub normals-insert : {ctx : List Kind} {t : Ty} {row : Row} (l : Label) → Fresh l row → Normal ctx t Kind.Star → Normals ctx row → Normals ctx (insert_part l t row)
 normals-insert l f n n_end = n_more tt n n_end
 normals-insert {ctx} {t} l f n (n_more {l = m} {rest = rest} g a more) = pick (Normals ctx) (label_before l m) (λ e. n_more f n (n_more g a more)) (λ e. n_more (fresh-insert m l t rest (not-sym f.0) g) a (normals-insert l f.1 n more))
 
+-- typed fields with a typed field of a fresh label inserted are typed
 pub typed-insert : {ctx : List Kind} {vars : List Ty} {t : Ty} {e : Term} {row : Row} {es : TermRow} (l : Label) → Fresh l row → Typed ctx vars e t → TypedFields ctx vars es row → TypedFields ctx vars (insert_term l e es) (insert_part l t row)
 typed-insert l f h TypedFields.end = TypedFields.more h tt TypedFields.end
 typed-insert {ctx} {vars} {t} {e} l f h (TypedFields.more {l = m} {e = d} {t = u} {f = ds} {r = rest} a g others) = go (label_before l m) (typed-insert l f.1 h others)
@@ -57,10 +63,12 @@ abbrev pub FreshAll : List Name → Row → Type 0
 FreshAll [] row = Unit {0}
 FreshAll (l ∷ ls) row = Fresh (Label.Name l) row × FreshAll ls row
 
+-- names are fresh for the empty row
 pub fresh_all-end : (names : List Name) → FreshAll names Row.End
 fresh_all-end [] = tt
 fresh_all-end (l ∷ ls) = (tt, fresh_all-end ls)
 
+-- names stay fresh when a field of a new name is inserted
 pub fresh_all-insert : (names : List Name) (x : Name) (t : Ty) (row : Row) → IsNew x names → FreshAll names row → FreshAll names (insert_part (Label.Name x) t row)
 fresh_all-insert [] x t row n f = tt
 fresh_all-insert (l ∷ ls) x t row n f = (fresh-insert (Label.Name l) (Label.Name x) t row (name-differs (not-sym n.0)) f.0, fresh_all-insert ls x t row n.1 f.1)
@@ -75,6 +83,7 @@ normal-insert : (ctx : List Kind) (l : Name) (s : Sig) (fs : SigRow) → NormalS
 normal-insert ctx l s SigRow.End n ns = (n, tt)
 normal-insert ctx l s (SigRow.More m t rest) n ns = pick (NormalSigRow ctx) (name_before l m) (λ e. (n, ns)) (λ e. (ns.0, normal-insert ctx l s rest n ns.1))
 
+-- the fields of two normal structures are normal together
 pub normal-merge : (ctx : List Kind) (fs gs : SigRow) → NormalSigRow ctx fs → NormalSigRow ctx gs → NormalSigRow ctx (merge fs gs)
 normal-merge ctx SigRow.End gs n m = m
 normal-merge ctx (SigRow.More l s fs) gs n m = normal-insert ctx l s (merge fs gs) n.0 (normal-merge ctx fs gs n.1 m)
@@ -84,10 +93,12 @@ abbrev pub Apart : SigRow → SigRow → Type 0
 Apart SigRow.End gs = Unit {0}
 Apart (SigRow.More l s fs) gs = NoField l gs × Apart fs gs
 
+-- fields that are apart stay so when types are renamed
 pub apart-rename : (r : ℕ → ℕ) (fs gs : SigRow) → Apart fs gs → Apart (rename_sig_row r fs) gs
 apart-rename r SigRow.End gs h = tt
 apart-rename r (SigRow.More l s fs) gs h = (h.0, apart-rename r fs gs h.1)
 
+-- the fields of two structures that are apart have, together, the shape that each has
 pub shape-merge : (fs gs : SigRow) → ShapeRow fs → ShapeRow gs → Apart fs gs → ShapeRow (merge fs gs)
 shape-merge SigRow.End gs h i a = i
 shape-merge (SigRow.More l s fs) gs h i a = shape-insert l s (merge fs gs) (merge-none l fs gs h.0 a.0) h.1 (shape-merge fs gs h.2 i a.1)
@@ -97,6 +108,7 @@ abbrev pub NoFields : List Name → SigRow → Type 0
 NoFields [] fs = Unit {0}
 NoFields (l ∷ ls) fs = NoField l fs × NoFields ls fs
 
+-- names have no field among none
 pub no_fields-end : (names : List Name) → NoFields names SigRow.End
 no_fields-end [] = tt
 no_fields-end (l ∷ ls) = (tt, no_fields-end ls)
@@ -105,14 +117,17 @@ no_fields-more : (names : List Name) (l : Name) (s : Sig) (fs : SigRow) → IsNe
 no_fields-more [] l s fs n h = tt
 no_fields-more (m ∷ ms) l s fs n h = ((not-sym n.0, h.0), no_fields-more ms l s fs n.1 h.1)
 
+-- names among which the fields are new have no field
 pub new-no_fields : (names : List Name) (fs : SigRow) → AreNew fs names → NoFields names fs
 new-no_fields names SigRow.End h = no_fields-end names
 new-no_fields names (SigRow.More l s fs) h = no_fields-more names l s fs h.0 (new-no_fields names fs h.1)
 
+-- names that have no field in either of two structures have none in both together
 pub no_fields-merge : (names : List Name) (fs gs : SigRow) → NoFields names fs → NoFields names gs → NoFields names (merge fs gs)
 no_fields-merge [] fs gs h i = tt
 no_fields-merge (l ∷ ls) fs gs h i = (merge-none l fs gs h.0 i.0, no_fields-merge ls fs gs h.1 i.1)
 
+-- names that have no field have none after a renaming of types
 pub no_fields-rename : (r : ℕ → ℕ) (names : List Name) (fs : SigRow) → NoFields names fs → NoFields names (rename_sig_row r fs)
 no_fields-rename r [] fs h = tt
 no_fields-rename r (l ∷ ls) fs h = (one fs h.0, no_fields-rename r ls fs h.1)
@@ -130,6 +145,7 @@ with_name-no_fields l (m ∷ ms) fs h = go (same_name l m) (name_before l m) (sa
     go false true e f i = i
     go false false e f i = let r = f i.1 in (r.0, (i.0, r.1))
 
+-- names together with those of fields have no field in others: these are apart from the fields, and lack the names
 pub with_names-no_fields : (fs : SigRow) (names : List Name) (gs : SigRow) → NoFields (with_names fs names) gs → Apart fs gs × NoFields names gs
 with_names-no_fields SigRow.End names gs h = (tt, h)
 with_names-no_fields (SigRow.More l s fs) names gs h =
@@ -151,6 +167,7 @@ before-with : (m l : Name) (names : List Name) → IsTrue (name_before m l) → 
 before-with m l [] h i = (h, tt)
 before-with m l (n ∷ ns) h i = pick (BeforeNames m) (same_name l n) (λ e. i) (λ e. pick (BeforeNames m) (name_before l n) (λ d. (h, i)) (λ d. (i.0, before-with m l ns h i.1)))
 
+-- names that rise do so with one more name put in its place
 pub rise-with_name : (l : Name) (names : List Name) → NamesRise names → NamesRise (with_name l names)
 rise-with_name l [] h = (tt, tt)
 rise-with_name l (m ∷ ms) h = pick NamesRise (same_name l m) (λ e. h) (λ e. pick NamesRise (name_before l m) (λ d. ((d, before-more l m ms d h.0), h)) (λ d. (before-with m l ms (later e d (total_order (Label.Name l) (Label.Name m))) h.0, rise-with_name l ms h.1)))
@@ -160,6 +177,7 @@ rise-with_name l (m ∷ ms) h = pick NamesRise (same_name l m) (λ e. h) (λ e. 
     later e d (inr (inl q)) = absurd (false≢true (sym d ∙ q))
     later e d (inr (inr q)) = q
 
+-- names that rise do so with the names of fields put in their places
 pub rise-with_names : (fs : SigRow) (names : List Name) → NamesRise names → NamesRise (with_names fs names)
 rise-with_names SigRow.End names h = h
 rise-with_names (SigRow.More l s fs) names h = rise-with_names fs (with_name l names) (rise-with_name l names h)
@@ -175,6 +193,7 @@ pub record Structure (g : Env) (fs : SigRow) (es : TermRow) : Type 0 where
   pub shape : ShapeRow fs
   pub typed : TypedFields (kinds g) (types g) es (enc_row fs)
 
+-- what is collected for rising names in a good environment is a typed structure
 pub collected-typed : {g : Env} {names : List Name} {fs : SigRow} {es : TermRow} → GoodEnv g → NamesRise names → Collected g names fs es → Structure g fs es
 collected-typed h r Collected.none = record { normal = tt; shape = tt; typed = TypedFields.end }
 collected-typed {g} h r (Collected.next {l = l} {fs = fs} f c) =

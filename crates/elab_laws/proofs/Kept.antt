@@ -1,4 +1,5 @@
 -- What each judgment and the order of quantifiers keep in good environments, in the form that the proof of exactness uses.
+-- Main results: type_ok, exp_ok, sig_ok, mod_ok, norm_ok.
 use Rattle.std.specs.Prelude.{List, [], ◌∷◌}
 use Rattle.std.proofs.Math.Path.{refl}
 use Rattle.omega_kinds.specs.Kind.{Kind}
@@ -30,6 +31,7 @@ use Rattle.elab_laws.specs.Typed.{IsNormalEnv}
 
 -- environments
 
+-- a well formed environment of normal types is good
 pub good_env : (g : Env) → IsGoodEnv g → IsNormalEnv g → GoodEnv g
 good_env [] w n = tt
 good_env (Entry.TypeVar k ∷ g) w n = (tt, good_env g w.1 n.1)
@@ -58,33 +60,42 @@ typed-env g h = good_env g (formed-env g h) (normal-env g h)
 
 -- phrases
 
+-- in a good environment a type phrase means a normal type of its kind
 pub type_ok : (g : Env) (a : TyEx) (t : Ty) (k : Kind) → OkEnv g → TyMeans g a t k → Normal (kinds g) t k
 type_ok g a t k h m = ty-good (typed-env g h) m
 
+-- in a good environment an expression has a normal type
 pub exp_ok : (g : Env) (a : Exp) (t : Ty) (e : Term) → OkEnv g → ExpMeans g a t e → Normal (kinds g) t Kind.Star
 exp_ok g a t e h m = let v = typed-env g h in typed-normal (env-normal g v) (exp-good v m)
 
+-- in a good environment a signature phrase means a signature that may stand on the right
 pub sig_ok : (g : Env) (a : SigEx) (x : Abs) → OkEnv g → SigMeans g a x → OkRight (kinds g) x
 sig_ok g a x h m = (sig_explicit g (formed-env g h) m, (sig-good (typed-env g h) m).normal)
 
+-- so does a declaration
 pub decl_ok : (g : Env) (d : Decl) (x : Abs) → OkEnv g → DeclMeans g d x → OkRight (kinds g) x
 decl_ok g d x h m = (decl_explicit g (formed-env g h) m, (decl-good (typed-env g h) m).normal)
 
+-- a typed module of a well formed signature is good
 pub module-ok : {ctx : List Kind} {vs : List Ty} {M : Module} → TypedModule ctx vs M → FormedModule ctx M → OkModule ctx M
 module-ok (TypedModule.pure g n h) (FormedModule.pure w k) = ((abs w, g.normal), types-forms n, instance-self h)
 module-ok (TypedModule.impure g h) (FormedModule.impure w) = ((abs w, g.normal), refl, instance-self h)
 
+-- in a good environment a module phrase means a good module
 pub mod_ok : (g : Env) (m : Mod) (M : Module) → OkEnv g → ModMeans g m M → OkModule (kinds g) M
 mod_ok g m M h p = module-ok (mod-good (typed-env g h) p) (module_good g (formed-env g h) p)
 
+-- so does a binding
 pub bind_ok : (g : Env) (b : Bind) (x : Name) (M : Module) → OkEnv g → BindMeans g b x M → OkModule (kinds g) M
 bind_ok g b x M h p = module-ok (bind-good (typed-env g h) p) (bind_good g (formed-env g h) p)
 
+-- so do bindings after names that rise
 pub binds_ok : (g : Env) (before : List Name) (bs : Binds) (M : Module) → OkEnv g → NamesRise before → BindsMean g before bs M → OkModule (kinds g) M
 binds_ok g before bs M h r p = module-ok (binds-good (typed-env g h) r p) (binds_good g (formed-env g h) r p)
 
 -- the order of quantifiers
 
+-- the norm of a signature that may stand on the right may stand there too
 pub norm_ok : (ctx : List Kind) (x y : Abs) → OkRight ctx x → Norm ctx x y → OkRight ctx y
 norm_ok ctx x y h n =
     let g : GoodAbs ctx x = record { normal = h.1; shape = explicit-shape h.0 } in

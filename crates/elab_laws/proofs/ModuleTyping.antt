@@ -1,4 +1,5 @@
 -- Modules whose terms have the types that their signatures say, and what keeps this.
+-- Main results: packed-typed, seq-typed, path-value.
 use Rattle.std.specs.Prelude.{ℕ, List, [], ◌∷◌, ◌++◌, map, ◌≡◌}
 use Rattle.std.proofs.Math.Path.{refl, sym, ◌∙◌, ap, ap₂, subst}
 use Rattle.omega_kinds.specs.Kind.{Kind}
@@ -44,6 +45,7 @@ pub data GoodModule (ctx : List Kind) (vs : List Ty) : Module → Type 0 where
 pub plain-module : {ctx : List Kind} {vs : List Ty} {s : Sig} {e : Term} → Good ctx s → Typed ctx vs e (enc s) → GoodModule ctx vs (made Pure (Abs.Ex [] s) [] e)
 plain-module g h = GoodModule.pure g NormalTypes.none (cast (form-none (good-normal g)) h)
 
+-- the body of the signature of a good module is good
 pub module-good : {ctx : List Kind} {vs : List Ty} {f : Effect} {ks : List Kind} {s : Sig} {ts : List Ty} {e : Term} → GoodModule ctx vs (made f (Abs.Ex ks s) ts e) → Good (extend ctx ks) s
 module-good (GoodModule.pure g n h) = g
 module-good (GoodModule.impure g h) = g
@@ -80,6 +82,7 @@ seq-type {ctx} {ks} {js} {ts} {us} {ns} {t} n m g f =
     (same-normal (substitute-convertible (puts (map (substitute S) us) S) (puts ns S) (puts-convertible f c) k) ∙
     ap (λ s. form_at ctx s (enc t)) (sym (puts-append ts ns Ty.Var))))
 
+-- a good binding before a good rest makes a good module
 pub seq-typed : {ctx ks : List Kind} {vs : List Ty} {f : Effect} {s : Sig} {ts : List Ty} {e : Term} {rest whole : Module} → AllNormal ctx vs → GoodModule ctx vs (made f (Abs.Ex ks s) ts e) → GoodModule (extend ctx ks) (enc s ∷ shifts ks vs) rest → Seq ctx (made f (Abs.Ex ks s) ts e) rest whole → GoodModule ctx vs whole
 seq-typed {ctx} {ks} {vs} v (GoodModule.pure g n h) (GoodModule.pure i m k) (Seq.both_pure {js = js} {s = s} {t = t} {n = r} {ts = ts} a b c) =
     let S : ℕ → Ty = puts ts Ty.Var in
@@ -111,9 +114,11 @@ outside-raised {ctx} {ks} {t} {n} {k} m (Outside.outside u c f) =
 outside-normal : {ctx ks : List Kind} {t n : Ty} {k : Kind} → Outside ctx ks t k n → Normal ctx n k
 outside-normal (Outside.outside u c f) = f.0
 
+-- the type of a path is normal
 pub path-type : {ctx : List Kind} {M : Module} {t : Ty} {k : Kind} → TypeOfPath ctx M t k → Normal ctx t k
 path-type (TypeOfPath.type_of o) = outside-normal o
 
+-- the value of a path has its type
 pub path-value : {ctx : List Kind} {vs : List Ty} {M : Module} {t : Ty} {e : Term} → GoodModule ctx vs M → ValueOfPath ctx M t e → Typed ctx vs e t
 path-value (GoodModule.pure g n h) (ValueOfPath.value_at o) = cast (sym (outside-given n o)) (Typed.get h HasPart.here)
 path-value {vs = vs} (GoodModule.impure g h) (ValueOfPath.value_at {ks = ks} {t = t} o) =

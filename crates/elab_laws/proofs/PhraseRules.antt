@@ -1,4 +1,5 @@
 -- The rules of phrases with content, each as a step from good parts to a good whole.
+-- Main results: refined-good, join-decls, generative-good.
 use Rattle.std.specs.Prelude.{ℕ, suc, List, [], ◌∷◌, ◌++◌, ◌≡◌}
 use Rattle.std.proofs.Math.Path.{sym, ◌∙◌, ap, subst}
 use Rattle.omega_kinds.specs.Kind.{Kind}
@@ -44,6 +45,7 @@ use Rattle.sig_laws.proofs.Algebra.AlikeLaws.{form_sig-normal, form_abs-normal, 
 use Rattle.sig_laws.proofs.Algebra.FormLaws.{kinds-type_vars}
 use Rattle.sig_laws.proofs.Algebra.PathLaws.{field-not}
 
+-- the body of a good signature that hides types is good
 pub good-body : {ctx ks : List Kind} {s : Sig} → GoodAbs ctx (Abs.Ex ks s) → Good (extend ctx ks) s
 good-body g = record { normal = g.normal; shape = g.shape }
 
@@ -58,6 +60,7 @@ pub path-sig : {ctx : List Kind} {vs : List Ty} {M : Module} {x : Abs} → GoodM
 path-sig m (SigOfPath.sig_of {ks = ks} (SigOutside.outside y c f)) =
     record { normal = form_abs-normal f; shape = shape_abs-alike f (shape_abs-unrename (past ks) y (shape_abs-unalike c (module-good m).shape)) }
 
+-- a good signature with a type fixed is good
 pub refined-good : {ctx : List Kind} {x y : Abs} {names : List Name} {u : Ty} {k : Kind} → GoodAbs ctx x → Refined ctx x names u k y → GoodAbs ctx y
 refined-good g (Refined.refined before after {s = s} {u = u} e p f) =
     record { normal = form_sig-normal f; shape = shape-alike f (shape-substitute (unders after (front (raise before u) Ty.Var)) s g.shape) }
@@ -66,9 +69,11 @@ refined-good g (Refined.refined before after {s = s} {u = u} e p f) =
 pub data GoodDecls (ctx : List Kind) (before : List Name) : Abs → Type 0 where
   decls : {ks : List Kind} {fs : SigRow} → Good (extend ctx ks) (Sig.Str fs) → NoFields before fs → GoodDecls ctx before (Abs.Ex ks (Sig.Str fs))
 
+-- the signature of good declarations is good
 pub decls-sig : {ctx : List Kind} {before : List Name} {x : Abs} → GoodDecls ctx before x → GoodAbs ctx x
 decls-sig (GoodDecls.decls g n) = record { normal = g.normal; shape = g.shape }
 
+-- a good declaration before good ones, of names that are new, makes good declarations
 pub join-decls : {ctx ks js : List Kind} {before : List Name} {fs gs : SigRow} → GoodAbs ctx (Abs.Ex ks (Sig.Str fs)) → AreNew fs before → GoodDecls (extend ctx ks) (with_names fs before) (Abs.Ex js (Sig.Str gs)) → GoodDecls ctx before (Abs.Ex (ks ++ js) (Sig.Str (merge (raise_sig_row js fs) gs)))
 join-decls {ctx} {ks} {js} {before} {fs} {gs} g new (GoodDecls.decls h none) =
     let r : ℕ → ℕ = past js in
@@ -84,6 +89,7 @@ applicative-good {ctx} {ks} {vs = vs} {ts = ts} {s = s} {e = e} g (GoodModule.pu
     subst (λ z. GoodModule ctx vs (made Pure z (lifted_types ks ts) (ty_lam_over ks (Term.Lam (enc s) (one_field Label.App e))))) (sym L.is)
     (GoodModule.pure L.good (lifted-normal ks n) (cast (sym L.given) (typed-ty_lam_over ks (Typed.lam (good-normal g) (Typed.fields (TypedFields.more d tt TypedFields.end))))))
 
+-- a generative functor with a good parameter and a good body is a good module
 pub generative-good : {ctx ks bs : List Kind} {vs ts : List Ty} {s r : Sig} {f : Effect} {d e : Term} → Good (extend ctx ks) s → GoodModule (extend ctx ks) (enc s ∷ shifts ks vs) (made f (Abs.Ex bs r) ts e) → Packed (extend ctx ks) (made f (Abs.Ex bs r) ts e) d → GoodModule ctx vs (made Pure (Abs.Ex [] (Sig.Fun Impure ks s (Abs.Ex bs r))) [] (ty_lam_over ks (Term.Lam (enc s) (one_field Label.Gen d))))
 generative-good {ks = ks} g m p =
     plain-module (record { normal = (g.normal, (module-good m).normal); shape = (g.shape, (module-good m).shape, tt) })
@@ -119,10 +125,12 @@ lets-typed (SigRow.More l s rest) i n h a p t =
     typed-let (enc-normal s n.0 h.1) (Typed.get (Typed.var a) (p l s HasField.here))
     (lets-typed rest (suc i) n.1 h.2 (At.there a) (λ m u f. p m u (HasField.there (field-not f h.0) f)) t)
 
+-- a module under the fields of a structure, bound one by one, is good under the structure
 pub lets-good : {ctx : List Kind} {vs us : List Ty} {f : Effect} {y : Abs} {d : Term} (fs : SigRow) → Good ctx (Sig.Str fs) → GoodModule ctx (field_vars fs (enc (Sig.Str fs) ∷ vs)) (made f y us d) → GoodModule ctx (enc (Sig.Str fs) ∷ vs) (made f y us (field_lets 0 fs d))
 lets-good fs g (GoodModule.pure h n t) = GoodModule.pure h n (lets-typed fs 0 g.normal g.shape At.here (λ l s f. enc-field f) t)
 lets-good fs g (GoodModule.impure h t) = GoodModule.impure h (lets-typed fs 0 g.normal g.shape At.here (λ l s f. enc-field f) t)
 
+-- the module after an include is good in the context of the included structure and its fields
 pub in-include : {M : Module} (g : Env) (ks : List Kind) (x : Name) (fs : SigRow) → GoodModule (kinds (named_fields (with_module g ks x (Sig.Str fs)) fs)) (types (named_fields (with_module g ks x (Sig.Str fs)) fs)) M → GoodModule (extend (kinds g) ks) (field_vars fs (enc (Sig.Str fs) ∷ shifts ks (types g))) M
 in-include {M} g ks x fs m =
     let h = with_module g ks x (Sig.Str fs) in

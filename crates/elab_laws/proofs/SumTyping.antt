@@ -1,5 +1,6 @@
 -- What cases on sums give is typed: the branches, in the order of the sum's labels, have the type of the case, each under a
 -- value of the type of its label.
+-- Main results: case-typed.
 use Rattle.std.specs.Prelude.{List, [], ◌∷◌, ◌≡◌, ◌≢◌}
 use Rattle.std.proofs.Math.Path.{sym, ◌∙◌, ap}
 use Rattle.omega_kinds.specs.Kind.{Kind}
@@ -29,6 +30,7 @@ fresh-part : {l m : Label} {u : Ty} {row : Row} → Fresh l row → HasPart row 
 fresh-part f HasPart.here e = f.0 (sym e)
 fresh-part f (HasPart.there d p) e = fresh-part f.1 p e
 
+-- the part of a label in a normal row is normal
 pub part-normal : {ctx : List Kind} {row : Row} {l : Label} {t : Ty} → Normals ctx row → HasPart row l t → Normal ctx t Kind.Star
 part-normal n_end p = elim p [ ]
 part-normal (n_more f n more) HasPart.here = n
@@ -67,6 +69,7 @@ in-order n f InOrder.no_labels = TypedBranches.none
 in-order (n_more d n more) f (InOrder.next_label {l = l} {t = u} {e = e} b o) =
     TypedBranches.branch (f l u e HasPart.here b) (in-order more (λ m x c p g. f m x c (HasPart.there (fresh-part d p) p) g) o)
 
+-- a case on a sum is typed if its branches are, in the order of the sum's labels
 pub case-typed : {ctx : List Kind} {vars : List Ty} {row : Row} {t : Ty} {e : Term} {branches : List FieldExp} {es : TermRow}
     → Typed ctx vars e (Ty.Sum row)
     → Normals ctx row

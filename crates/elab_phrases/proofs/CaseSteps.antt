@@ -1,4 +1,5 @@
 -- Branches of a case one after the other: those that are done, and those that are left.
+-- Main results: case-means, case-parts, case-rule.
 use Rattle.std.proofs.Common.{◌≡◌, List, [], ◌∷◌, ◌++◌, sym, ap, ◌∙◌, subst}
 use Rattle.std.proofs.lemmas.List.{append-nil}
 use Rattle.omega_kinds.specs.Kind.{Kind}
@@ -32,9 +33,11 @@ branch-env g y o n l = (label-normal l n, o)
 abbrev pub BranchesLeft : Env → (w t : Ty) → List (Name × Typed) → Branches → List (Name × Typed) → Type 0
 BranchesLeft g w t done rest all = (parts : List FieldExp) × BranchesMean g w t (names_before done) rest parts × (exp_fields all ≡ exp_fields done ++ parts)
 
+-- where no branches are left, those that are done are all
 pub branches-none : (g : Env) (w t : Ty) (done : List (Name × Typed)) → BranchesLeft g w t done NoBranches done
 branches-none g w t done = ([], BranchesMean.no_branches, sym (append-nil (exp_fields done)))
 
+-- one more branch is done, and those that are left grow to the same branches
 pub branches-next : {g : Env} {w t u : Ty} {x y : SpanName} {a : Exp} {rest : Branches} (done more all : List (Name × Typed)) (part : Typed)
     → IsNew (name_of x) (names_before done)
     → LabelGives w (name_of x) u
@@ -50,6 +53,7 @@ branches-next {g} {w} {t} {u} {x} {y} {a} {rest} done more all part n l m s e le
     rw e (exps-more done (name_of x, part) left.0 ∙ ap (λ v. exp_fields done ++ (FieldExp.field (name_of x) v part.term ∷ left.0)) s) in
     (FieldExp.field (name_of x) t part.term ∷ left.0, BranchesMean.next_branch n l b f, left.2 ∙ q)
 
+-- where the branches after the next one are refused, those that are left are
 pub branches-later : {g : Env} {w t u : Ty} {x y : SpanName} {a : Exp} {rest : Branches} {e : CodeRefusal} (done more : List (Name × Typed)) (part : Typed)
     → IsNew (name_of x) (names_before done)
     → LabelGives w (name_of x) u
@@ -61,6 +65,7 @@ pub branches-later : {g : Env} {w t u : Ty} {x y : SpanName} {a : Exp} {rest : B
 branches-later {g} {w} {t} {x = x} {rest = rest} {e = e} done more part n l m s q r =
     branch-later n l m s (subst (λ ls. RefusedAs g (task w t ls rest) e) (ap names_before q ∙ names-more done (name_of x, part)) r)
 
+-- a case whose branches are all done means what its rule gives
 pub case-means : {g : Env} {at : Span} {a : Exp} {b : TyEx} {rest : Branches} {w t v : Ty} {d c : Term} (start all : List (Name × Typed))
     → ExpMeans g a w d
     → TyMeans g b t Kind.Star
@@ -73,6 +78,7 @@ case-means {g} {rest = rest} {w = w} {t = t} {v = v} {d = d} {c = c} start all p
     let i : exp_fields all ≡ left.0 = left.2 ∙ ap (λ x. exp_fields x ++ left.0) s in
     ExpMeans.exp_case p q m (subst (λ fs. CaseGives w d t Kind.Star fs v c) i r)
 
+-- a case is refused as its branches, from the first one on
 pub case-parts : {g : Env} {at : Span} {a : Exp} {b : TyEx} {rest : Branches} {w t : Ty} {row : Row} {d : Term} {e : CodeRefusal} (start : List (Name × Typed))
     → ExpMeans g a w d
     → SumGives w row
@@ -82,6 +88,7 @@ pub case-parts : {g : Env} {at : Span} {a : Exp} {b : TyEx} {rest : Branches} {w
     → RefusedAs g (an_exp (ExpAt at (ExpCase a b rest))) e
 case-parts {g} {rest = rest} {w = w} {t = t} {e = e} start p o q s r = exp_case-branches p o q (subst (λ x. RefusedAs g (task w t (names_before x) rest) e) s r)
 
+-- a case whose branches are all done is refused by its rule
 pub case-rule : {g : Env} {at : Span} {a : Exp} {b : TyEx} {rest : Branches} {w t : Ty} {row : Row} {d : Term} {e : CodeRefusal} (start all : List (Name × Typed))
     → ExpMeans g a w d
     → SumGives w row

@@ -1,4 +1,5 @@
 -- Functors, structures and included modules: environments, conclusions and refusals, as the code has them.
+-- Main results: included-env, include-means, left-included.
 use Rattle.std.proofs.Common.{◌≡◌, ◌+◌, ◌<◌, inl, List, [], Option, Some, IfSome, drop, length, map, sym, subst, ap, ◌∙◌}
 use Rattle.std.proofs.lemmas.List.{length-map}
 use Rattle.omega_kinds.specs.Kind.{Kind}
@@ -56,12 +57,15 @@ body-module g a b x (Abs.Ex ks s) M h p q =
 
 -- what a binding is
 
+-- an include as a binding is larger by one than its module
 pub include-size : (b : Bind) (m : Mod) → (p : Span) × (b ≡ BindAt p (BindInclude m)) → mod_size m + 1 ≡ bind_size b
 include-size b m q = sym (ap bind_size q.1)
 
+-- a binding is refused as the one that its node is seen as
 pub refused-bind : {g : Env} {s : SpanAt} {w v : BindNode} {b : Bind} {e : CodeRefusal} → bind_of s w ≡ b → w ≡ v → RefusedAs g (a_bind (bind_of s v)) e → RefusedAs g (a_bind b) e
 refused-bind {g} {s} {e = e} p i h = subst (λ b. RefusedAs g (a_bind b) e) (sym (ap (bind_of s) i) ∙ p) h
 
+-- a binding means what the one does that its node is seen as
 pub means-bind : {g : Env} {s : SpanAt} {w v : BindNode} {b : Bind} {own l : Name} {M : Module} → bind_of s w ≡ b → w ≡ v → own ≡ l → BindMeans g (bind_of s v) l M → BindMeans g b own M
 means-bind {g} {s} {v = v} {own = own} {M = M} p i n h = subst (λ b. BindMeans g b own M) (sym (ap (bind_of s) i) ∙ p) (subst (λ l. BindMeans g (bind_of s v) l M) (sym n) h)
 
@@ -69,6 +73,7 @@ means-bind {g} {s} {v = v} {own = own} {M = M} p i n h = subst (λ b. BindMeans 
 some-is : {v w : ElabWhy} → Some v ≡ Some w → w ≡ v
 some-is e = cc
 
+-- an include that stands where a single binding does is refused as no structure
 pub bind-include : {g : Env} {at : Span} {m : Mod} {e : CodeRefusal} → Placed g at (Some NotStructure) e → RefusedAs g (a_bind (BindAt at (BindInclude m))) e
 bind-include {g} {at} {e = e} p = record { stands = says-map e (λ r q. here (inl (q.2 ∙ ap (refuse g at) (some-is q.1)))) p.stands }
 
@@ -86,6 +91,7 @@ ended {g} {before} list M h n q =
 no-str : {s : Sig} → ((fs : SigRow) → s ≡ Sig.Str fs → ⊥) → (ks : List Kind) (f : Effect) (ts : List Ty) (d : Term) → IfSome (Some ModWhy.NotStructure) (IncludeRefuses (made f (Abs.Ex ks s) ts d))
 no-str n ks f ts d = IncludeRefuses.no_structure n
 
+-- bindings that begin with an include of what is no structure are refused, at the module
 pub include-none : {g : Env} {at : Span} {m : Mod} {bs : Binds} {before : List Name} {f : Effect} {ts : List Ty} {d : Term} {e : CodeRefusal} (y : Abs)
     → ModMeans g m (made f y ts d)
     → ((fs : SigRow) → body_of y ≡ Sig.Str fs → ⊥)
@@ -94,6 +100,7 @@ pub include-none : {g : Env} {at : Span} {m : Mod} {bs : Binds} {before : List N
 include-none {g} {m = m} {f = f} {ts = ts} {d = d} {e = e} (Abs.Ex ks s) p n h =
     include-no_structure p (by-rule of_mod (Some ModWhy.NotStructure) (IncludeRefuses (made f (Abs.Ex ks s) ts d)) g (mod_span m) e (no-str n ks f ts d) h)
 
+-- what is placed is placed so where the environment and the place are as before
 pub placed-at : {g h : Env} {at p : Span} {o : Option ElabWhy} {e : CodeRefusal} → h ≡ g → at ≡ p → Placed h at o e → Placed g p o e
 placed-at {g} {at = at} {o = o} {e = e} s q r = subst (λ p. Placed g p o e) q (subst (λ x. Placed x at o e) s r)
 
@@ -108,15 +115,18 @@ env-of g ks fs h sig =
     let row : OkRow (kinds inner) fs = subst (λ ctx. OkRow ctx fs) (sym (kinds-type_vars g ks)) (structure-row sig) in
     good-fields inner fs (good-module g ks include_name (Sig.Str fs) h sig) row
 
+-- the environment with an included structure and its fields is good
 pub included-env : (g : Env) (m : Mod) (f : Effect) (y : Abs) (ts : List Ty) (d : Term) (fs : SigRow) → OkEnv g → ModMeans g m (made f y ts d) → body_of y ≡ Sig.Str fs → OkEnv (included g y fs)
 included-env g m f (Abs.Ex ks s) ts d fs h p e =
     let w = mod_ok g m (made f (Abs.Ex ks s) ts d) h p in
     let sig : OkSig (extend (kinds g) ks) (Sig.Str fs) = subst (OkSig (extend (kinds g) ks)) e (abs-body w.0.0, w.0.1) in
     subst (λ s. OkEnv (included g (Abs.Ex ks s) fs)) (sym e) (env-of g ks fs h sig)
 
+-- the names of a structure, with those of an included one, are found and rise
 pub included-names : (g : Env) (y : Abs) (fs : SigRow) (before : List Name) → Names g before → Names (included g y fs) (with_names fs before)
 included-names g (Abs.Ex ks s) fs before n = (bound-fields (with_module g ks include_name s) fs before (bound-module g ks include_name s before n.0), rise-with_names fs before n.1)
 
+-- bindings that begin with an include are refused where those after it are
 pub include-in : {g : Env} {at : Span} {m : Mod} {bs : Binds} {before : List Name} {f : Effect} {ts : List Ty} {d : Term} {fs : SigRow} {e : CodeRefusal} (y : Abs)
     → ModMeans g m (made f y ts d)
     → body_of y ≡ Sig.Str fs
@@ -125,6 +135,7 @@ pub include-in : {g : Env} {at : Span} {m : Mod} {bs : Binds} {before : List Nam
 include-in {g} {m = m} {bs = bs} {before = before} {f = f} {ts = ts} {d = d} {fs = fs} {e = e} (Abs.Ex ks s) p i h =
     include-later (subst (λ s. ModMeans g m (made f (Abs.Ex ks s) ts d)) i p) (subst (λ s. RefusedAs (included g (Abs.Ex ks s) fs) (binds (with_names fs before) bs) e) i h)
 
+-- bindings that begin with an include mean what those after it do, with the structure's term bound
 pub include-means : {g : Env} {at : Span} {m : Mod} {bs : Binds} {before : List Name} {f : Effect} {ts : List Ty} {d : Term} {fs : SigRow} {M N : Module} (y : Abs)
     → ModMeans g m (made f y ts d)
     → body_of y ≡ Sig.Str fs
@@ -153,10 +164,12 @@ include-rest g m bs f (Abs.Ex ks s) ts d fs before M h n p e q =
 counted : (items : List KindHandle) (ks : List Kind) → map kind_tree items ≡ ks → length ks ≡ length items
 counted items ks e = ap length (sym e) ∙ length-map items kind_tree
 
+-- the environment is as before when a module and the types that it hides are left
 pub left-under : (g : Env) (items : List KindHandle) (ks : List Kind) (x : Name) (s : Sig) (before after : Env)
     → map kind_tree items ≡ ks → before ≡ with_module g ks x s → after ≡ drop (length items + 1) before → after ≡ g
 left-under g items ks x s before after i e f = f ∙ (ap (drop (length items + 1)) e ∙ (ap (λ n. drop (n + 1) (with_module g ks x s)) (sym (counted items ks i)) ∙ left-module g ks x s))
 
+-- the environment is as before when an included structure, its fields and the types that it hides are left
 pub left-included : (g : Env) (items : List KindHandle) (y : Abs) (fs own : List (Name × Sig)) (before between after : Env)
     → own ≡ fs → map kind_tree items ≡ kinds_of y → before ≡ included g y (sig_row fs) → between ≡ drop (length own) before → after ≡ drop (length items + 1) between → after ≡ g
 left-included g items y fs own before between after o i e f h =

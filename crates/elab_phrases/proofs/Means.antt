@@ -1,4 +1,5 @@
 -- Conclusions and refusals over whole signatures and modules, as the code has them.
+-- Main results: functor-means, applicative-means, binds-mean, mod-kinded.
 use Rattle.std.proofs.Common.{◌≡◌, Bool, true, false, List, refl, subst}
 use Rattle.omega_kinds.specs.Kind.{Kind}
 use Rattle.omega_kinds.specs.Name.{Name}
@@ -36,12 +37,14 @@ use Rattle.elab_rules.proofs.Refuse.Modules.{mod_functor-body, binds-later}
 
 -- signatures of functors
 
+-- a functor signature is refused where its result is
 pub sig_fun-in : {g : Env} {at : Span} {x : SpanName} {a b : SigEx} {e : CodeRefusal} (pure : Bool) (y : Abs)
     → SigMeans g a y
     → RefusedAs (with_module g (kinds_of y) (name_of x) (body_of y)) (a_sig b) e
     → RefusedAs g (a_sig (SigAt at (SigFun pure x a b))) e
 sig_fun-in pure (Abs.Ex ks s) p h = sig_fun-result pure p h
 
+-- a functor signature that is not pure is generative: its result keeps what it hides
 pub generative-means : {g : Env} {at : Span} {x : SpanName} {a b : SigEx} (y : Abs) {z w : Abs}
     → SigMeans g a y
     → SigMeans (with_module g (kinds_of y) (name_of x) (body_of y)) b z
@@ -49,6 +52,7 @@ pub generative-means : {g : Env} {at : Span} {x : SpanName} {a b : SigEx} (y : A
     → SigMeans g (SigAt at (SigFun false x a b)) w
 generative-means (Abs.Ex ks s) p q r = SigMeans.sig_generative p q r
 
+-- a pure functor signature is its result, lifted over its parameter
 pub applicative-means : {g : Env} {at : Span} {x : SpanName} {a b : SigEx} (y : Abs) {z w : Abs}
     → SigMeans g a y
     → SigMeans (with_module g (kinds_of y) (name_of x) (body_of y)) b z
@@ -56,6 +60,7 @@ pub applicative-means : {g : Env} {at : Span} {x : SpanName} {a b : SigEx} (y : 
     → SigMeans g (SigAt at (SigFun true x a b)) w
 applicative-means (Abs.Ex ks s) p q r = SigMeans.sig_applicative p q r
 
+-- a signature with a fixed type is refused by the rule of fixed types
 pub refine-in : {g : Env} {at : Span} {a : SigEx} {z : SpanName} {path : List SpanName} {b : TyEx} {t : Ty} {k : Kind} {e : CodeRefusal} (y : Abs)
     → SigMeans g a y
     → TyMeans g b t k
@@ -69,6 +74,7 @@ param-env g a (Abs.Ex ks s) x h m = let w = sig_ok g a (Abs.Ex ks s) h m in good
 
 -- declarations are structures
 
+-- what a declaration means is a structure
 pub decl-structure : {g : Env} {d : Decl} {x : Abs} → DeclMeans g d x → (fs : SigRow) × (body_of x ≡ Sig.Str fs)
 decl-structure (DeclMeans.decl_val p ValueGives.value) = (_, refl)
 decl-structure (DeclMeans.decl_is p TypeGives.type) = (_, refl)
@@ -80,15 +86,18 @@ decl-structure (DeclMeans.decl_include p IncludeGives.include) = (_, refl)
 whole : (ks : List Kind) (s : Sig) (fs : SigRow) → s ≡ Sig.Str fs → Abs.Ex ks s ≡ Abs.Ex ks (Sig.Str (fields_in (Abs.Ex ks s)))
 whole ks s fs e = rw e refl
 
+-- what a declaration means is the structure of its fields
 pub decl-whole : {g : Env} {d : Decl} (x : Abs) → DeclMeans g d x → x ≡ Abs.Ex (kinds_of x) (Sig.Str (fields_in x))
 decl-whole (Abs.Ex ks s) p = let w = decl-structure p in whole ks s w.0 w.1
 
+-- declarations are refused where the first one declares a name again
 pub decls-again-in : {g : Env} {before : List Name} {d : Decl} {ds : Decls} {e : CodeRefusal} (y : Abs)
     → DeclMeans g d y
     → ByRule of_sig g (decl_span d) (DistinctRefuses before (fields_in y)) e
     → RefusedAs g (decls before (MoreDecls d ds)) e
 decls-again-in {g} {d = d} y p h = decls-again (subst (DeclMeans g d) (decl-whole y p) p) h
 
+-- declarations are refused where those after the first are
 pub decls-in : {g : Env} {before : List Name} {d : Decl} {ds : Decls} {e : CodeRefusal} (y : Abs)
     → DeclMeans g d y
     → AreNew (fields_in y) before
@@ -98,12 +107,14 @@ decls-in {g} {d = d} y p n h = decls-later (subst (DeclMeans g d) (decl-whole y 
 
 -- functors
 
+-- a functor is refused where its body is
 pub mod_functor-in : {g : Env} {at : Span} {gen : Bool} {x : SpanName} {a : SigEx} {b : Mod} {e : CodeRefusal} (y : Abs)
     → SigMeans g a y
     → RefusedAs (with_module g (kinds_of y) (name_of x) (body_of y)) (a_mod b) e
     → RefusedAs g (a_mod (ModAt at (ModFunctor gen x a b))) e
 mod_functor-in (Abs.Ex ks s) p h = mod_functor-body p h
 
+-- a functor means what its rule gives, of its parameter and its body
 pub functor-means : {g : Env} {at : Span} {x : SpanName} {a : SigEx} {b : Mod} {N : Module} (gen : Bool) (y : Abs) (M : Module)
     → SigMeans g a y
     → ModMeans (with_module g (kinds_of y) (name_of x) (body_of y)) b M
@@ -115,12 +126,15 @@ functor-means true (Abs.Ex ks s) (made f y ts e) p q r = ModMeans.mod_generative
 
 -- bindings in a row
 
+-- the environment with a bound module, and the types that it hides, is good
 pub bind-env : (g : Env) (b : Bind) (x : Name) (f : Effect) (y : Abs) (ts : List Ty) (d : Term) → OkEnv g → BindMeans g b x (made f y ts d) → OkEnv (with_module g (kinds_of y) x (body_of y))
 bind-env g b x f (Abs.Ex ks s) ts d h m = let w = bind_ok g b x (made f (Abs.Ex ks s) ts d) h m in good-module g ks x s h (abs-body w.0.0, w.0.1)
 
+-- the names of a structure, with one that is bound, are found and rise
 pub bind-names : (g : Env) (x : Name) (y : Abs) (before : List Name) → Names g before → Names (with_module g (kinds_of y) x (body_of y)) (with_name x before)
 bind-names g x (Abs.Ex ks s) before n = (bound-bind g ks x s before n.0, rise-with_name x before n.1)
 
+-- bindings are refused where those after the first are
 pub binds-in : {g : Env} {before : List Name} {bs : Binds} {x : Name} {f : Effect} {ts : List Ty} {d : Term} {e : CodeRefusal} (b : Bind) (y : Abs)
     → IsSingle b
     → BindMeans g b x (made f y ts d)
@@ -128,6 +142,7 @@ pub binds-in : {g : Env} {before : List Name} {bs : Binds} {x : Name} {f : Effec
     → RefusedAs g (binds before (MoreBinds b bs)) e
 binds-in b (Abs.Ex ks s) i p h = binds-later b i p h
 
+-- bindings mean the first one in a row with those after it
 pub binds-mean : {g : Env} {before : List Name} {b : Bind} {bs : Binds} {x : Name} {f : Effect} {ts : List Ty} {d : Term} {M N : Module} (y : Abs)
     → BindMeans g b x (made f y ts d)
     → BindsMean (with_module g (kinds_of y) x (body_of y)) (with_name x before) bs M
@@ -145,8 +160,10 @@ rest-module g b bs x f (Abs.Ex ks s) ts d before M h n p q =
 
 -- what is derived in a good environment has types of their kinds
 
+-- what a module phrase means has distinct names and normal types of the right kinds
 pub mod-kinded : (g : Env) (m : Mod) (M : Module) → OkEnv g → ModMeans g m M → KindedModule (kinds g) M
 mod-kinded g m M h p = kinded (kinds g) M (mod_ok g m M h p)
 
+-- so has what a binding means
 pub bind-kinded : (g : Env) (b : Bind) (x : Name) (M : Module) → OkEnv g → BindMeans g b x M → KindedModule (kinds g) M
 bind-kinded g b x M h p = kinded (kinds g) M (bind_ok g b x M h p)

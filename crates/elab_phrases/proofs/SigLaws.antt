@@ -1,4 +1,5 @@
 -- Declarations in a row, and what the rules over signatures give in an environment.
+-- Main results: decls-mean, row-means, left-decl.
 use Rattle.std.proofs.Common.{◌≡◌, ℕ, ◌+◌, ◌<◌, ◌≤◌, get_or, true, Result, IfOk, List, [], length, drop, map, refl, sym, ap, ◌∙◌, subst, subst₂}
 use Rattle.omega_kinds.specs.Kind.{Kind}
 use Rattle.omega_kinds.specs.Name.{Name}
@@ -43,6 +44,7 @@ use Rattle.elab_rules.proofs.Slices.{empty, first-rest, rest-of}
 
 -- a declaration and those after it
 
+-- the body of what a declaration means is the structure of its fields
 pub decl-body : {g : Env} {d : Decl} (x : Abs) → DeclMeans g d x → body_of x ≡ Sig.Str (fields_in x)
 decl-body x p = ap body_of (decl-whole x p)
 
@@ -68,6 +70,7 @@ are-apart : (fs gs : SigRow) → Apart fs gs → AreApart fs gs
 are-apart SigRow.End gs h = tt
 are-apart (SigRow.More l s fs) gs h = (h.0, are-apart fs gs h.1)
 
+-- declarations mean the first one in a row with those after it
 pub decls-mean : {g : Env} {before : List Name} {d : Decl} {ds : Decls} (x y z : Abs)
     → DeclMeans g d x
     → AreNew (fields_in x) before
@@ -82,6 +85,7 @@ decls-mean {g} {before} {d} x y z p n q f =
 
 -- what was entered is left again
 
+-- the environment is as before when a parameter and the types that it hides are left
 pub left-under : (g : Env) (x : Abs) (l : Name) (items : List SharedKind) (ks : List Kind) (n : ℕ) (before after : Env)
     → map kind_tree items ≡ ks → ks ≡ kinds_of x → n ≡ length items + 1
     → before ≡ with_module g (kinds_of x) l (body_of x) → after ≡ drop n before → after ≡ g
@@ -89,6 +93,7 @@ left-under g x l items ks n before after ei ek en eb e =
     let c : n ≡ length (kinds_of x) + 1 = en ∙ ap (λ m. m + 1) (sym (length-trees items) ∙ ap length (ei ∙ ek)) in
     e ∙ (ap (λ m. drop m before) c ∙ (ap (drop (length (kinds_of x) + 1)) eb ∙ left-module g (kinds_of x) l (body_of x)))
 
+-- the environment is as before when the fields of a declaration and the types that it hides are left
 pub left-decl : (g : Env) (ks : List Kind) (js : List Kind) (items : List SharedKind) (fields pairs : SigPairs) (before between after : Env)
     → pairs ≡ fields → map kind_tree items ≡ js → js ≡ ks
     → before ≡ named_fields (type_vars g ks) (sig_row fields)
@@ -104,9 +109,11 @@ right-under g b x y l h m = subst (λ ctx. OkRight ctx y) (kinds-type_vars g (ki
 
 -- an environment that is as before
 
+-- a signature phrase means a signature that may stand on the right
 pub sig-in : {g h : Env} {a : SigEx} {x : Abs} → h ≡ g → OkEnv g → SigMeans g a x → OkRight (kinds h) x
 sig-in {g} {h} {a} {x} s o p = subst (λ e. OkRight (kinds e) x) (sym s) (sig_ok g a x o p)
 
+-- a module phrase means a module of distinct names and normal types of the right kinds
 pub module-in : {g h : Env} {m : Mod} {M : Module} → h ≡ g → OkEnv g → ModMeans g m M → KindedModule (kinds h) M
 module-in {g} {h} {m} {M} s o p = subst (λ e. KindedModule (kinds e) M) (sym s) (kinded (kinds g) M (mod_ok g m M o p))
 
@@ -126,27 +133,34 @@ lifted-means {g} {z = z} {a = a} {b = b} x y w o p q f =
 
 -- a declaration that hides a type
 
+-- the declaration of a type of a kind means the signature that hides it
 pub abstract-means : {E : Type 0} (g : Env) (d : Decl) (w : DeclNode) (at : SpanAt) (x : NameAt) (k : SharedKind) (r : Result Abs E) → decl_of at w ≡ d → w ≡ decl_what_in.TyOf x k → IfOk r (λ y. AbstractGives x.name (kind_tree k) y) → IfOk r (λ y. DeclMeans g d y)
 abstract-means g d w at x k r ed ew h = ok-map r h (λ y p. subst (λ e. DeclMeans g e y) (ap (decl_of at) (sym ew) ∙ ed) (DeclMeans.decl_of p))
 
 -- declarations in a list
 
+-- a list of declarations is refused as its first one with the rest
 pub refused-row : {g : Env} {before : List Name} {e : CodeRefusal} (list : List Decl) (d : Decl) → 1 ≤ length list → d ≡ get_or list 0 d → RefusedAs g (decls_task before (MoreDecls d (decls (rest-of list)))) e → RefusedAs g (decls_task before (decls list)) e
 refused-row {g} {before} {e} list d h f r = subst (λ ds. RefusedAs g (decls_task before (decls ds)) e) (sym (first-rest list d h f)) r
 
+-- a list of declarations means what its first one with the rest does
 pub row-means : {g : Env} {before : List Name} {y : Abs} (list : List Decl) (d : Decl) → 1 ≤ length list → d ≡ get_or list 0 d → DeclsMean g before (MoreDecls d (decls (rest-of list))) y → DeclsMean g before (decls list) y
 row-means {g} {before} {y} list d h f r = subst (λ ds. DeclsMean g before (decls ds) y) (sym (first-rest list d h f)) r
 
+-- an empty list of declarations means the empty structure
 pub no-row : {g : Env} {before : List Name} {y : Abs} (list : List Decl) → length list < 1 → y ≡ Abs.Ex [] (Sig.Str SigRow.End) → DeclsMean g before (decls list) y
 no-row {g} {before} list h e = subst₂ (λ ds z. DeclsMean g before (decls ds) z) (sym (empty list h)) (sym e) DeclsMean.no_decls
 
+-- the size of a list of declarations is that of its first one and the rest
 pub row-size : (list : List Decl) (d : Decl) → 1 ≤ length list → d ≡ get_or list 0 d → decls_size (decls list) ≡ decl_size d + decls_size (decls (rest-of list)) + 1
 row-size list d h f = ap (λ ds. decls_size (decls ds)) (first-rest list d h f)
 
 -- a declaration before a row, in an environment that is as before
 
+-- the environment with the fields of a declaration, and the types that it hides, is good
 pub decl-in : {g h : Env} {d : Decl} (x : Abs) → h ≡ g → OkEnv g → DeclMeans g d x → OkEnv (named_fields (type_vars h (kinds_of x)) (fields_in x))
 decl-in {g} {h} {d} x s o p = subst (λ e. OkEnv (named_fields (type_vars e (kinds_of x)) (fields_in x))) (sym s) (decl-env g d x o p)
 
+-- type variables and then fields, pushed in the code, give the environment of a declaration
 pub fields-env : (g before after : Env) (x : Abs) (fields : SigPairs) (ks : List Kind) → ks ≡ kinds_of x → sig_row fields ≡ fields_in x → before ≡ type_vars g ks → after ≡ named_fields before (sig_row fields) → after ≡ named_fields (type_vars g (kinds_of x)) (fields_in x)
 fields-env g before after x fields ks ek ef eb ea = ea ∙ (λ i. named_fields ((eb ∙ ap (type_vars g) ek) i) (ef i))

@@ -1,4 +1,5 @@
 -- Modules and signatures that are used as types and values: good where they are used, packed.
+-- Main results: found-in, pack-means, pack-unmatched.
 use Rattle.std.proofs.Common.{◌≡◌, List, Some, sym, subst}
 use Rattle.omega_kinds.specs.Kind.{Kind}
 use Rattle.omega_kinds.specs.Name.{Name}
@@ -24,12 +25,14 @@ use Rattle.elab_rules.specs.Inner.Answered.{RefusedAs, ByMatch}
 use Rattle.elab_rules.proofs.Refuse.Expressions.{exp_pack-match}
 use Rattle.elab_rules.proofs.Ruled.{match-forms}
 
+-- the signature that is found for a name is good
 pub found-in : {g h : Env} {left s : Sig} {d : Term} (x : Name) → h ≡ g → OkEnv g → find g x ≡ Some (s, d) → left ≡ s → OkSig (kinds h) left
 found-in {g} {left = left} {s = s} {d = d} x q o f e = subst (λ y. OkSig (kinds y) left) (sym q) (subst (OkSig (kinds g)) (sym e) (find-good g x o (s, d) f))
 
 right-abs : {ctx : List Kind} {z : Abs} → OkRight ctx z → OkAbs ctx z
 right-abs h = (explicit-abs h.0, h.1)
 
+-- a package means what its rule gives, of the match of its module with the norm of its signature
 pub pack-means : {g h : Env} {at : Span} {x : SpanName} {a : SigEx} {left s : Sig} {y z : Abs} {d c e : Term} {ts us : List Ty} {t : Ty}
     → OkEnv g → h ≡ g
     → find g (name_of x) ≡ Some (s, d)
@@ -48,6 +51,7 @@ pack-means {g} {a = a} {left = left} {y = y} {z = z} {d = d} {c = c} {e = e} {ts
     let v : PackGives (kinds g) d z ts c t e = subst (λ us. PackGives (kinds g) d z us c t e) r (gives (kinds g) (right-abs (good (kinds g) w)) n) in
     ExpMeans.exp_pack f m (norm (kinds g) w) p v
 
+-- a package is refused where its module does not match the norm of its signature
 pub pack-unmatched : {g h : Env} {at p : Span} {x : SpanName} {a : SigEx} {left s : Sig} {y z : Abs} {d : Term} {e : CodeRefusal}
     → OkEnv g → h ≡ g
     → find g (name_of x) ≡ Some (s, d)

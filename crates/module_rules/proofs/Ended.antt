@@ -1,4 +1,5 @@
 -- The fields of a finished structure, one after the other.
+-- Main results: found-next, found-all.
 use Rattle.std.specs.Prelude.{ℕ, zero, suc, ◌+◌, ◌<◌, ◌≤◌, List, [], ◌∷◌, ◌++◌, ◌≡◌, length, map, take, Some, None, IsTrue}
 use Rattle.std.proofs.Common.{get_or, arith, take-suc, take_all}
 use Rattle.std.proofs.Math.Path.{refl, sym, ap, ap₂, ◌∙◌, subst}
@@ -28,11 +29,13 @@ firsts-push : {A T : Type 0} (xs : List (A × T)) (x : A × T) → firsts (xs ++
 firsts-push [] x = refl
 firsts-push (y ∷ xs) x = ap (λ zs. y.0 ∷ zs) (firsts-push xs x)
 
+-- each name of those bound is found in the environment
 pub bound-at : (g : Env) (names : List Name) (n : ℕ) (l d : Name) → Bound g names → n < length names → l ≡ get_or names n d → Found g l
 bound-at g [] n l d b lt e = absurd (omega (arith, lt))
 bound-at g (m ∷ names) zero l d b lt e = subst (Found g) (sym e) b.0
 bound-at g (m ∷ names) (suc n) l d b lt e = bound-at g names n l d b.1 (omega (arith, lt)) e
 
+-- a name that is found is not missing
 pub never-none : (g : Env) (l : Name) → Found g l → None ≡ find g l → ⊥
 never-none g l f e = none-some f.0 (e ∙ f.1)
   where
@@ -61,6 +64,7 @@ follows (x ∷ xs) (l ∷ names) zero d e lt rise = absurd (cons-nil x.0 (firsts
 follows (x ∷ []) (l ∷ names) (suc n) d e lt rise = subst (λ m. IsTrue (name_before m (get_or names n d))) (sym (first-same x.0 l [] (take n names) e)) (before-at l names n d rise.0 (omega (arith, lt)))
 follows (x ∷ y ∷ xs) (l ∷ names) (suc n) d e lt rise = follows (y ∷ xs) names n d (rest-same x.0 l (firsts (y ∷ xs)) (take n names) e) (omega (arith, lt)) rise.1
 
+-- the next of rising names may follow the fields so far
 pub name-follows : {T : Type 0} (xs : List (Name × T)) (names : List Name) (n : ℕ) (l m : Name) → firsts xs ≡ take n names → n < length names → l ≡ get_or names n l → m ≡ l → NamesRise names → MayFollow xs m
 name-follows xs names n l m e lt el em rise = subst (MayFollow xs) (sym (em ∙ el)) (follows xs names n l e lt rise)
 
@@ -71,6 +75,7 @@ label_follows (x ∷ xs) (l ∷ names) zero d e lt rise = absurd (cons-nil x.0 (
 label_follows (x ∷ []) (l ∷ names) (suc n) d e lt rise = subst (λ m. LabelMayFollow ((m, x.1) ∷ []) (Label.Name (get_or names n d))) (sym (first-same x.0 (Label.Name l) [] (map Label.Name (take n names)) e)) (before-at l names n d rise.0 (omega (arith, lt)))
 label_follows (x ∷ y ∷ xs) (l ∷ names) (suc n) d e lt rise = label_follows (y ∷ xs) names n d (rest-same x.0 (Label.Name l) (firsts (y ∷ xs)) (map Label.Name (take n names)) e) (omega (arith, lt)) rise.1
 
+-- the label of the next of rising names may follow the labels so far
 pub label-follows : {T : Type 0} (xs : List (Label × T)) (names : List Name) (n : ℕ) (l m : Name) → firsts xs ≡ map Label.Name (take n names) → n < length names → l ≡ get_or names n l → m ≡ l → NamesRise names → LabelMayFollow xs (Label.Name m)
 label-follows xs names n l m e lt el em rise = subst (λ k. LabelMayFollow xs (Label.Name k)) (sym (em ∙ el)) (label_follows xs names n l e lt rise)
 
@@ -79,10 +84,12 @@ label-follows xs names n l m e lt el em rise = subst (λ k. LabelMayFollow xs (L
 take-next : {A : Type 0} (xs : List A) (n : ℕ) (d : A) → n < length xs → take (n + 1) xs ≡ take n xs ++ get_or xs n d ∷ []
 take-next xs n d lt = let one : n + 1 ≡ suc n = omega arith in ap (λ m. take m xs) one ∙ take-suc xs n d lt
 
+-- with one more field, the names of the fields are one more of the names
 pub names-next : {T : Type 0} (xs more : List (Name × T)) (names : List Name) (n : ℕ) (l m : Name) (s : T) → firsts xs ≡ take n names → n < length names → l ≡ get_or names n l → m ≡ l → more ≡ xs ++ (m, s) ∷ [] → firsts more ≡ take (n + 1) names
 names-next xs more names n l m s e lt el em ew =
     ap firsts ew ∙ (firsts-push xs (m, s) ∙ (ap₂ (λ us u. us ++ u ∷ []) e (em ∙ el) ∙ sym (take-next names n l lt)))
 
+-- with one more field, the labels of the fields are those of one more of the names
 pub labels-next : {T : Type 0} (xs more : List (Label × T)) (names : List Name) (n : ℕ) (l m : Name) (s : T) → firsts xs ≡ map Label.Name (take n names) → n < length names → l ≡ get_or names n l → m ≡ l → more ≡ xs ++ (Label.Name m, s) ∷ [] → firsts more ≡ map Label.Name (take (n + 1) names)
 labels-next xs more names n l m s e lt el em ew =
     ap firsts ew ∙ (firsts-push xs (Label.Name m, s) ∙ (ap₂ (λ us u. us ++ Label.Name u ∷ []) e (em ∙ el) ∙ (sym (map-append Label.Name (take n names) (get_or names n l ∷ [])) ∙ ap (map Label.Name) (sym (take-next names n l lt)))))
@@ -101,6 +108,7 @@ more-found g (m ∷ names) (x ∷ fs) (t ∷ es) l s e c f =
     subst (λ k. Collected g (m ∷ names ++ l ∷ []) (SigRow.More k x.1 (sig_row (fs ++ (l, s) ∷ []))) (TermRow.More t.0 t.1 (term_row (es ++ (Label.Name l, e) ∷ [])))) q.0
     (subst (λ b. Collected g (m ∷ names ++ l ∷ []) (SigRow.More m x.1 (sig_row (fs ++ (l, s) ∷ []))) (TermRow.More b t.1 (term_row (es ++ (Label.Name l, e) ∷ [])))) (sym q.1) (Collected.next q.2 (more-found g names fs es l s e q.3 f)))
 
+-- with what is found for the next name, one more name is collected
 pub found-next : (g : Env) (names : List Name) (n : ℕ) (fs more : SigPairs) (es terms : TermPairs) (l m k : Name) (s : Sig) (e : Term) → Collected g (take n names) (sig_row fs) (term_row es) → n < length names → l ≡ get_or names n l → Some (s, e) ≡ find g l → m ≡ l → k ≡ l → more ≡ fs ++ (m, s) ∷ [] → terms ≡ es ++ (Label.Name k, e) ∷ [] → Collected g (take (n + 1) names) (sig_row more) (term_row terms)
 found-next g names n fs more es terms l m k s e c lt el f em ek ef ee =
     subst (λ ns. Collected g ns (sig_row more) (term_row terms)) (ap (λ u. take n names ++ u ∷ []) el ∙ sym (take-next names n l lt))
@@ -108,6 +116,7 @@ found-next g names n fs more es terms l m k s e c lt el f em ek ef ee =
     (subst (λ ps. Collected g (take n names ++ l ∷ []) (sig_row (fs ++ (l, s) ∷ [])) (term_row ps)) (ap (λ u. es ++ (Label.Name u, e) ∷ []) (sym ek) ∙ sym ee)
     (more-found g (take n names) fs es l s e c (sym f))))
 
+-- when all names are done, what is collected is the whole structure
 pub found-all : (g : Env) (names all : List Name) (n : ℕ) (fs : SigRow) (es : TermRow) → Collected g (take n names) fs es → length names ≤ n → names ≡ all → Collected g all fs es
 found-all g names all n fs es c le e = subst (λ ns. Collected g ns fs es) (take_all n names le ∙ e) c
 

@@ -1,4 +1,5 @@
 -- What stands outside of hidden types, and what does not.
+-- Main results: type-outside, sig-outside.
 use Rattle.std.specs.Prelude.{ℕ, ◌+◌, ◌<◌, ◌≤◌, ◌++◌, List, [], ◌∷◌, ◌≡◌, length}
 use Rattle.std.proofs.Common.{arith, append_assoc, length-append}
 use Rattle.std.proofs.Math.Path.{refl, sym, subst, ap, ◌∙◌}
@@ -33,12 +34,14 @@ under-binders (k ∷ ks) ctx =
     let a : length (r.0 ++ k ∷ []) ≡ length r.0 + 1 = length-append r.0 (k ∷ []) in
     (r.0 ++ (k ∷ []), omega (arith, a, e), r.2 ∙ sym (append_assoc r.0 (k ∷ []) ctx))
 
+-- a type that is the shift of another is outside of the hidden types as that one
 pub type-outside : (ctx ks : List Kind) (count : ℕ) (t n : Ty) (k : Kind) → length ks ≡ count → Normal (extend ctx ks) t k → shift count 0 n ≡ t → ((inner ctx : List Kind) (k : Kind) → length inner ≡ count → Normal (inner ++ ctx) t k → Normal ctx n k) → Outside ctx ks t k n
 type-outside ctx ks count t n k len normal e lower =
     let u : (inner : List Kind) × (length inner ≡ length ks) × (extend ctx ks ≡ inner ++ ctx) = under-binders ks ctx in
     let m : Normal ctx n k = lower u.0 ctx k (u.1 ∙ len) (subst (λ c. Normal c t k) u.2 normal) in
     Outside.outside n (subst (λ x. Conv (extend ctx ks) x t k) (sym (sym (shift-raise ks count n len) ∙ e)) (c_refl (normal-kind normal))) (its-form m)
 
+-- a type that mentions a hidden type is not outside of them
 pub type-inside : (ctx ks : List Kind) (count : ℕ) (t : Ty) (k : Kind) → length ks ≡ count → Normal (extend ctx ks) t k → (i : ℕ) → i < count → Mentions i t → (n : Ty) → Outside ctx ks t k n → ⊥
 type-inside ctx ks count t k len normal i lt m n (Outside.outside u c f) =
     let raised : Normal (extend ctx ks) (raise ks n) k = normal-rename (past ks) (past-maps ks ctx) f.0 in
@@ -50,6 +53,7 @@ type-inside ctx ks count t k len normal i lt m n (Outside.outside u c f) =
 
 -- the same for signatures
 
+-- a signature that is the shift of another is outside of the hidden types as that one
 pub sig-outside : (ctx ks : List Kind) (count : ℕ) (x n : Abs) → length ks ≡ count → NormalAbs (extend ctx ks) x → rename_abs (bump count 0) n ≡ x → ((inner ctx : List Kind) → length inner ≡ count → NormalAbs (inner ++ ctx) x → NormalAbs ctx n) → SigOutside ctx ks x n
 sig-outside ctx ks count x n len normal e lower =
     let u : (inner : List Kind) × (length inner ≡ length ks) × (extend ctx ks ≡ inner ++ ctx) = under-binders ks ctx in
@@ -68,6 +72,7 @@ raised-past ks y i m =
     let p : past ks q.0 ≡ q.0 + length ks = past-plus ks q.0 in
     omega (arith, e, p)
 
+-- a signature that mentions a hidden type is not outside of them
 pub sig-inside : (ctx ks : List Kind) (count : ℕ) (x : Abs) → length ks ≡ count → NormalAbs (extend ctx ks) x → (i : ℕ) → i < count → MentionsAbs i x → (n : Abs) → SigOutside ctx ks x n → ⊥
 sig-inside ctx ks count x len normal i lt m n (SigOutside.outside y c f) =
     unmentioned_abs i c normal (λ q. let le : length ks ≤ i = raised-past ks y i q in absurd (omega (arith, le, lt, len))) m

@@ -1,4 +1,5 @@
 -- The variables of binders, as they are built one after the other, and binders in a row.
+-- Main results: own-done, types-put.
 use Rattle.std.specs.Prelude.{ℕ, zero, suc, ◌+◌, ◌-◌, ◌<◌, ◌≤◌, List, [], ◌∷◌, ◌++◌, ◌≡◌, length, map, drop, take}
 use Rattle.std.proofs.Common.{get_or, arith, append_assoc, append-nil, take_all, take-suc}
 use Rattle.std.proofs.Math.Path.{refl, sym, ap, ap₂, ◌∙◌}
@@ -54,6 +55,7 @@ past-all zero (k ∷ items) le = absurd (omega (arith, le))
 past-all (suc n) [] le = refl
 past-all (suc n) (k ∷ items) le = past-all n items (omega (arith, le))
 
+-- when the variables of all binders are built, they are the binders' variables
 pub own-done : (items : List SharedKind) (ks : List Kind) (n : ℕ) (ts : List Ty) → map kind_tree items ≡ ks → length items ≤ n → ts ++ vars (map kind_tree (drop n items)) ≡ vars (map kind_tree items) → ts ≡ vars ks
 own-done items ks n ts e le ew =
     sym (append-nil ts) ∙ (ap (λ xs. ts ++ vars (map kind_tree xs)) (sym (past-all n items le)) ∙ (ew ∙ ap vars e))
@@ -66,6 +68,7 @@ pushed-next f first ys more xs n x y lt ex ey eys em =
     let one : suc n ≡ n + 1 = omega arith in
     em ∙ (ap₂ (λ us u. us ++ u ∷ []) eys (ey ∙ ap f ex) ∙ (append_assoc first (map f (take n xs)) (f (get_or xs n x) ∷ []) ∙ ap (λ us. first ++ us) (sym (map-append f (take n xs) (get_or xs n x ∷ [])) ∙ (ap (map f) (sym (take-suc xs n x lt)) ∙ ap (λ m. map f (take m xs)) one))))
 
+-- when all items of a list are pushed, the list is longer by what they become
 pub pushed-done : {A B : Type 0} (f : A → B) (first ys whole : List B) (xs : List A) (n : ℕ) → length xs ≤ n → ys ≡ first ++ map f (take n xs) → map f xs ≡ whole → ys ≡ first ++ whole
 pushed-done f first ys whole xs n le e w = e ∙ (ap (λ zs. first ++ map f zs) (take_all n xs le) ∙ ap (λ us. first ++ us) w)
 
@@ -75,5 +78,6 @@ put-forms : (ts : List Ty) (ks : List Kind) {ctx js : List Kind} {us : List Ty} 
 put-forms ts ks g NormalTypes.none = NormalForms.none
 put-forms ts ks g (NormalTypes.next m ms) = NormalForms.next (in-normal g m) (put-forms ts ks g ms)
 
+-- the normal forms of types with other types put in have the same kinds
 pub types-put : (ts us : List Ty) (ctx ks js : List Kind) → NormalForms ctx ts ks ts → NormalForms (extend ctx ks) us js us → NormalForms ctx (map (substitute (puts ts Ty.Var)) us) js (map (ty_in (putting ts)) us)
 types-put ts us ctx ks js a b = put-forms ts ks (good-puts a (good-vars ctx)) (forms-types b)

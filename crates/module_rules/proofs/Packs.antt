@@ -1,4 +1,5 @@
 -- The types that a module keeps fill the quantifiers of its encoding, and so do the variables of binders below these.
+-- Main results: fills_own, fills_raised.
 use Rattle.std.specs.Prelude.{ℕ, ◌+◌, List, [], ◌++◌, ◌≡◌, length}
 use Rattle.std.proofs.Common.{arith}
 use Rattle.std.proofs.Math.Path.{refl, sym, subst, ap, fun_ext}
@@ -21,9 +22,11 @@ use Rattle.omega_terms.specs.Shorthands.{Packs}
 use Rattle.omega_shorthands.specs.Inner.Packed.{Fills}
 use Rattle.module_rules.specs.Inner.Shown.{PackedAgain}
 
+-- the types that a module keeps fill the quantifiers of its encoding
 pub fills_own : (ctx ks : List Kind) (s : Sig) (ts : List Ty) → DistinctAbs (Abs.Ex ks s) → NormalAbs ctx (Abs.Ex ks s) → NormalForms ctx ts ks ts → Fills ctx ts (enc_abs (Abs.Ex ks s))
 fills_own ctx ks s ts d n ns = (ks, enc s, refl, distinct_abs-normal (Abs.Ex ks s) d n, ns)
 
+-- the binders' own variables fill the quantifiers of a type over them, seen below the binders
 pub fills_raised : (ctx ks : List Kind) (v : Ty) → Normal ctx (ex_over ks v) Kind.Star → Fills (extend ctx ks) (vars ks) (raise ks (ex_over ks v))
 fills_raised ctx ks v n = (ks, rename (lifts ks (past ks)) v, rename-ex_over (past ks) ks v, normal-rename (past ks) (past-maps ks ctx) n, vars-kinds ctx ks)
 
@@ -40,10 +43,12 @@ bump-past ks count e = fun_ext at
     at : (i : ℕ) → count + i ≡ past ks i
     at i = let p : past ks i ≡ i + length ks = past-plus ks i in omega (arith, p, e)
 
+-- a shift by the number of binders raises a type past them
 pub shift-raise : (ks : List Kind) (count : ℕ) (t : Ty) → length ks ≡ count → shift count 0 t ≡ raise ks t
 shift-raise ks count t e = ap (λ r. rename r t) (bump-past ks count e)
 
 -- no binders
 
+-- where no types are hidden, none are packed again
 pub packs-nothing : (ks : List Kind) (x : Abs) (e d : Term) → ks ≡ [] → d ≡ e → PackedAgain ks x e d
 packs-nothing ks x e d ek ed = subst (λ js. PackedAgain js x e d) (sym ek) (subst (PackedAgain [] x e) (sym ed) (λ ctx f. Packs.none))

@@ -1,4 +1,5 @@
 -- Names each of which is before the next one, and names put in order, the last one first.
+-- Main results: rise-next, rise-not, rise-done.
 use Rattle.std.proofs.Common.{◌≡◌, ◌↔◌, ℕ, ◌+◌, ◌<◌, ◌≤◌, List, [], ◌∷◌, ◌++◌, Bool, true, false, IsTrue, length, get_or, drop, refl, sym, subst, ap, ◌∙◌, drop_of_length-le}
 use Rattle.std.proofs.lemmas.Bool.{false≢true}
 use Rattle.omega_kinds.specs.LabelOrder.{name_before}
@@ -12,6 +13,7 @@ use Rattle.semantic_sigs.proofs.PartSteps.{left-more}
 abbrev pub RiseLeft : (all : List Name) (last : Name) (left : List Name) → Type 0
 RiseLeft all last left = NamesRise all ↔ NamesRise (last ∷ left)
 
+-- names rise if they do from the next one on, which comes after the last one
 pub rise-next : (all : List Name) (last name : Name) (rest : List Name) (i : ℕ) → i < length rest → name ≡ get_or rest i name → name_before last name ≡ true
     → RiseLeft all last (drop i rest) → RiseLeft all name (drop (i + 1) rest)
 rise-next all last name rest i lt e h r =
@@ -20,12 +22,14 @@ rise-next all last name rest i lt e h r =
       λ b. r.1 (subst (λ ns. NamesRise (last ∷ ns)) (sym left) ((h, before-more last name (drop (i + 1) rest) h b.0), b)),
     )
 
+-- names do not rise where the next one does not come after the last one
 pub rise-not : (all : List Name) (last name : Name) (rest : List Name) (i : ℕ) → i < length rest → name ≡ get_or rest i name → name_before last name ≡ false
     → RiseLeft all last (drop i rest) → IsTrue false ↔ NamesRise all
 rise-not all last name rest i lt e h r =
     let left = left-more rest i name lt e in
     (λ q. absurd (false≢true q), λ a. absurd (false≢true (sym h ∙ (subst (λ ns. NamesRise (last ∷ ns)) left (r.0 a)).0.0)))
 
+-- names rise when all are seen and each came after the one before
 pub rise-done : (all : List Name) (last : Name) (rest : List Name) (i : ℕ) → length rest ≤ i → RiseLeft all last (drop i rest) → IsTrue true ↔ NamesRise all
 rise-done all last rest i le r = (λ q. r.1 (subst (λ ns. NamesRise (last ∷ ns)) (sym (drop_of_length-le rest le)) (tt, tt)), λ a. refl)
 

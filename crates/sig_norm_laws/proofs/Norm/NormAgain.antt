@@ -1,4 +1,5 @@
 -- What norm gives is its own norm.
+-- Main results: norm-again, undone-renumber.
 use Rattle.std.specs.Prelude.{ℕ, suc, ◌-◌, ◌<◌, List, ◌≡◌, length, map, cond, nat_lt}
 use Rattle.std.proofs.Common.{arith}
 use Rattle.std.proofs.Math.Path.{sym, ◌∙◌, ap, ap₂, subst, fun_ext}
@@ -36,6 +37,7 @@ paired-order {ks = ks} {order = order} o = record {
 renumber-shuffle : {ctx ks : List Kind} {s : Sig} {order : List ℕ} → NewOrder ctx ks s order → shuffle (reordered ks order) ks (place order) ≡ renumber ks order
 renumber-shuffle {ks = ks} {order = order} o = fun_ext (λ i. ap (λ n. cond (nat_lt i (length ks)) (n - suc (place order (own ks i))) i) (reordered-length o))
 
+-- renumbering by a new order is undone by a renaming back
 pub undone-renumber : {ctx ks : List Kind} {s : Sig} {order : List ℕ} → NewOrder ctx ks s order → (other : List Kind) → Undone (extend other ks) (extend other (reordered ks order)) (renumber ks order) (unnumber ks order)
 undone-renumber {ks = ks} {order = order} o other = subst (λ r. Undone (extend other ks) (extend other (reordered ks order)) r (unnumber ks order)) (renumber-shuffle o) (undone-shuffle (paired-order o) other)
 

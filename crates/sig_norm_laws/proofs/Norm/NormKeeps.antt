@@ -1,4 +1,5 @@
 -- Norm keeps signatures well formed and ordered explicit.
+-- Main results: root-norm.
 use Rattle.std.specs.Prelude.{ℕ, suc, ◌-◌, ◌<◌, ◌≤◌, List, [], ◌≡◌, ◌⊎◌, length}
 use mathlib.Core.Logic.{inl, inr}
 use Rattle.std.proofs.Common.{arith}
@@ -171,6 +172,7 @@ param-norm-back ctx (NormSig.str fs) (ParamOn.field h on) = let g = field-norm-b
 param-norm-back ctx (NormSig.pure {s = s} a b) ParamOn.here = (s, ParamOn.here, a)
 param-norm-back ctx {q = q} (NormSig.pure {ks = ks} a b) (ParamOn.result {ds = ds} {js = js} on) = let w = param-norm-back (extend ctx ks) b on in (w.0, ParamOn.result w.1, subst (λ c. NormSig (extend c js) w.0 q) (sym (extend-append ks ds ctx)) w.2)
 
+-- norm keeps the root paths of hidden types
 pub root-norm : {ctx ks : List Kind} {s t : Sig} {i : ℕ} {p : SigPath} → NormSig (extend ctx ks) s t → RootPath ctx ks s i p → RootPath ctx ks t i p
 root-norm {ctx} {ks} {s} {t} {i} {p} n (root_path b (root_of (at x c) a)) = root_path b (root_of (at (part-norm (extend ctx ks) x n) c)
     (λ j le ds js q on. let w = param-norm-back (extend ctx ks) n on in avoids-norm (past js (past ds j)) w.2 (a j le ds js w.0 w.1)))

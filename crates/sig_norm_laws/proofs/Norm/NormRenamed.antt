@@ -1,4 +1,5 @@
 -- Norm goes with renamings that can be undone.
+-- Main results: norm-renamed, undone-sig, renumbered-sig.
 use Rattle.std.specs.Prelude.{ℕ, ◌<◌, List, ◌≡◌, ◌⊎◌, length}
 use mathlib.Core.Logic.{inl, inr}
 use Rattle.std.proofs.Common.{arith}
@@ -35,9 +36,11 @@ pub record Undone (ctx other : List Kind) (r q : ℕ → ℕ) : Type 0 where
   pub back_there : (i : ℕ) → q (r i) ≡ i
   pub there_back : (i : ℕ) → r (q i) ≡ i
 
+-- a renaming that undoes another one is undone by it
 pub turned : {ctx other : List Kind} {r q : ℕ → ℕ} → Undone ctx other r q → Undone other ctx q r
 turned u = record { there = u.back; back = u.there; back_there = u.there_back; there_back = u.back_there }
 
+-- a renaming that can be undone can be undone under binders
 pub undone-lifts : (ks : List Kind) {ctx other : List Kind} {r q : ℕ → ℕ} → Undone ctx other r q → Undone (extend ctx ks) (extend other ks) (lifts ks r) (lifts ks q)
 undone-lifts ks {r = r} {q = q} u = record {
   there = lifts-maps ks u.there;
@@ -46,9 +49,11 @@ undone-lifts ks {r = r} {q = q} u = record {
   there_back = λ i. ap (λ f. f i) (lifts-lifts ks r q ∙ (ap (lifts ks) (fun_ext u.there_back) ∙ lifts-id ks));
 }
 
+-- undoing a renaming of a signature gives the signature
 pub undone-sig : {ctx other : List Kind} {r q : ℕ → ℕ} → Undone ctx other r q → (s : Sig) → rename_sig q (rename_sig r s) ≡ s
 undone-sig {r = r} {q = q} u s = rename-rename_sig q r s ∙ (ap (λ f. rename_sig f s) (fun_ext u.back_there) ∙ rename_sig-id s)
 
+-- the parameters on a path that avoid a variable avoid the renamed one after a renaming that can be undone
 pub params-renamed : {ctx other : List Kind} {s : Sig} {p : SigPath} (i : ℕ) (r q : ℕ → ℕ) → Undone ctx other r q → ParamsAvoid ctx s p i → ParamsAvoid other (rename_sig r s) p (r i)
 params-renamed {ctx} {other} {s} {p} i r q u a = subst (λ z. ParamsAvoid other z p (r i)) (substitute-vars_sig r s) moved
   where
@@ -95,9 +100,11 @@ renumber-lifts {ks = ks} {order = order} t r i = go (split_index ks i)
         (ap (lifts (reordered ks order) r) (renumber-past ks order j ∙ sym (same j)) ∙
         (lifts-past (reordered ks order) r j ∙ (same (r j) ∙ (sym (renumber-past ks order (r j)) ∙ ap (renumber ks order) (sym (ap (lifts ks r) e ∙ lifts-past ks r j))))))
 
+-- renumbering commutes with a renaming from outside
 pub renumbered-sig : {ctx ks : List Kind} {s : Sig} {order : List ℕ} → NewOrder ctx ks s order → (r : ℕ → ℕ) (t : Sig) → rename_sig (renumber ks order) (rename_sig (lifts ks r) t) ≡ rename_sig (lifts (reordered ks order) r) (rename_sig (renumber ks order) t)
 renumbered-sig {ks = ks} {order = order} o r t = rename-rename_sig (renumber ks order) (lifts ks r) t ∙ (ap (λ f. rename_sig f t) (sym (fun_ext (renumber-lifts o r))) ∙ sym (rename-rename_sig (lifts (reordered ks order) r) (renumber ks order) t))
 
+-- so it does for signatures that hide types
 pub renumbered-abs : {ctx ks : List Kind} {s : Sig} {order : List ℕ} → NewOrder ctx ks s order → (r : ℕ → ℕ) (t : Abs) → rename_abs (renumber ks order) (rename_abs (lifts ks r) t) ≡ rename_abs (lifts (reordered ks order) r) (rename_abs (renumber ks order) t)
 renumbered-abs {ks = ks} {order = order} o r t = rename-rename_abs (renumber ks order) (lifts ks r) t ∙ (ap (λ f. rename_abs f t) (sym (fun_ext (renumber-lifts o r))) ∙ sym (rename-rename_abs (lifts (reordered ks order) r) (renumber ks order) t))
 

@@ -1,4 +1,5 @@
 -- Two lists of binders whose variables correspond one to one, and norm of a signature under either.
+-- Main results: shuffle-maps, undone-shuffle.
 use Rattle.std.specs.Prelude.{ℕ, zero, suc, ◌-◌, ◌<◌, List, [], ◌∷◌, ◌≡◌, ◌⊎◌, length, map, cond, nat_lt, Bool, true, false}
 use mathlib.Core.Logic.{inl, inr}
 use Rattle.std.proofs.Common.{arith}
@@ -35,6 +36,7 @@ pub record Paired (ks js : List Kind) (to from : ℕ → ℕ) : Type 0 where
   pub to_from : (i : ℕ) → i < length ks → to (from i) ≡ i
   pub same_kinds : (j : ℕ) → j < length js → kind_at ks (to j) ≡ kind_at js j
 
+-- a one-to-one correspondence of binders may be turned round
 pub paired-turned : {ks js : List Kind} {to from : ℕ → ℕ} → Paired ks js to from → Paired js ks from to
 paired-turned {ks} {js} {to} {from} p = record {
   same_length = sym p.same_length;
@@ -49,12 +51,15 @@ paired-turned {ks} {js} {to} {from} p = record {
 abbrev pub shuffle : List Kind → List Kind → (ℕ → ℕ) → ℕ → ℕ
 shuffle ks js to i = cond (nat_lt i (length js)) (own ks (to (own js i))) i
 
+-- an index below the binders becomes that of the corresponding variable
 pub shuffle-below : (ks js : List Kind) (to : ℕ → ℕ) (i : ℕ) → i < length js → shuffle ks js to i ≡ own ks (to (own js i))
 shuffle-below ks js to i h = cond-true (nat_lt i (length js)) (own ks (to (own js i))) i (lt-ltb i (length js) h)
 
+-- a binder's own variable becomes the corresponding one
 pub shuffle-own : (ks js : List Kind) (to : ℕ → ℕ) (j : ℕ) → j < length js → shuffle ks js to (own js j) ≡ own ks (to j)
 shuffle-own ks js to j h = shuffle-below ks js to (own js j) (omega (arith, h)) ∙ ap (λ n. own ks (to n)) (own-own js j h)
 
+-- an index from outside stays
 pub shuffle-past : (ks js : List Kind) (to : ℕ → ℕ) (i : ℕ) → shuffle ks js to (past js i) ≡ past js i
 shuffle-past ks js to i = go (nat_lt (past js i) (length js)) (false_from_ne_true (nat_lt (past js i) (length js)) (λ e. let h = ltb-true (past js i) (length js) e in let p = past-length js i in omega (arith, h, p)))
   where
@@ -62,9 +67,11 @@ shuffle-past ks js to i = go (nat_lt (past js i) (length js)) (false_from_ne_tru
     go false e = refl
     go true e = absurd (cc e)
 
+-- an index goes past corresponding binders in the same way
 pub past-same : {ks js : List Kind} {to from : ℕ → ℕ} → Paired ks js to from → (i : ℕ) → past js i ≡ past ks i
 past-same {ks} {js} p i = let l = p.same_length in let a = past-length ks i in let b = past-length js i in omega arith
 
+-- corresponding variables have the same kinds
 pub shuffle-maps : {ks js : List Kind} {to from : ℕ → ℕ} → Paired ks js to from → (ctx : List Kind) → Maps (extend ctx js) (extend ctx ks) (shuffle ks js to)
 shuffle-maps {ks} {js} {to} {from} p ctx i k x = go (split_index js i)
   where
@@ -87,6 +94,7 @@ shuffle-back {ks} {js} {to} {from} p i = go (split_index js i)
         ap (shuffle js ks from) (shuffle-below ks js to i h) ∙ (shuffle-own js ks from (to (own js i)) (p.to_below (own js i) lv) ∙ (ap (own js) (p.from_to (own js i) lv) ∙ own-own js i h))
     go (inr (j, e)) = ap (λ n. shuffle js ks from (shuffle ks js to n)) e ∙ (ap (shuffle js ks from) (shuffle-past ks js to j ∙ past-same p j) ∙ (shuffle-past js ks from j ∙ (sym (past-same p j) ∙ sym e)))
 
+-- the shuffle of corresponding variables is undone by the shuffle back
 pub undone-shuffle : {ks js : List Kind} {to from : ℕ → ℕ} → Paired ks js to from → (ctx : List Kind) → Undone (extend ctx js) (extend ctx ks) (shuffle ks js to) (shuffle js ks from)
 undone-shuffle p ctx = record { there = shuffle-maps p ctx; back = shuffle-maps (paired-turned p) ctx; back_there = shuffle-back p; there_back = shuffle-back (paired-turned p) }
 

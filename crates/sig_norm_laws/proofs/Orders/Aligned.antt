@@ -1,4 +1,5 @@
 -- Parts at one path of two signatures, one of which is a subtype of the other.
+-- Main results: common, aligned-instance.
 use Rattle.std.specs.Prelude.{ℕ, zero, suc, ◌-◌, ◌<◌, List, [], ◌∷◌, ◌++◌, ◌≡◌, ◌⊎◌, length}
 use mathlib.Core.Logic.{inl, inr}
 use Rattle.std.proofs.Common.{arith}
@@ -106,6 +107,7 @@ under-fixed ctx ks js bs f {t} {k} (fixed e c) h =
     subst (λ u. Conv (extend (extend ctx js) bs) (substitute (unders bs f) t) u k) (ap (λ g. substitute g t) (unders-vars bs (λ i. i) ∙ ap (λ r i. Ty.Var (r i)) (lifts-id bs)) ∙ substitute-id t)
     (substitute-convertible (unders bs f) (unders bs Ty.Var) (unders-convertible bs c) h)
 
+-- lists of kinds that have the same length and the same kind at each number are the same
 pub same-kinds : (xs ys : List Kind) → length xs ≡ length ys → ((k : ℕ) → k < length xs → kind_at xs k ≡ kind_at ys k) → xs ≡ ys
 same-kinds [] [] e f = refl
 same-kinds [] (y ∷ ys) e f = absurd (omega (arith, e))
@@ -158,9 +160,11 @@ all-fixed ctx ks js ts o e h = fixed same all
             let g : puts ts (λ n. Ty.Var (past js n)) i ≡ Ty.Var i = puts-past ts (λ n. Ty.Var (past js n)) j i (omega (arith, l, p, f)) ∙ ap Ty.Var (omega (arith, e, p, q, f)) in
             subst (λ t. Conv (extend ctx js) t (Ty.Var i) k) (sym g) (c_refl (subst (λ t. HasKind (extend ctx js) t k) g (F-substitutes i k x)))
 
+-- a signature renamed past further binders, at types, is the signature at these types under the binders
 pub sig_at-under : (ks js : List Kind) (guess : List Ty) (s : Sig) → Fits guess ks → sig_at guess (rename_sig (lifts ks (past js)) s) ≡ substitute_sig (puts guess (λ n. Ty.Var (past js n))) s
 sig_at-under ks js guess s e = substitute-rename_sig (puts guess Ty.Var) (lifts ks (past js)) s ∙ ap (λ f. substitute_sig f s) (puts-lifts e Ty.Var (past js))
 
+-- the type at the end of a path in a well kinded signature has its kind
 pub part-kind : {ctx : List Kind} {s : Sig} {p : SigPath} {bs : List Kind} {t : Ty} {k : Kind} → ConvSig ctx s s → PartAt s p bs (Sig.Typ t k) → HasKind (extend ctx bs) t k
 part-kind {ctx} {bs = bs} {t = t} {k = k} c x = go (part-alike ctx x c)
   where
@@ -187,18 +191,22 @@ agree-result : {ctx ks js bs cs : List Kind} {t u v : Ty} {k j : Kind} → ks �
 agree-result {ctx} {ks} {js} {bs} {cs} {t} {u} {v} {k} {j} e c (agree f d g) = agree (ap₂ (λ x y. x ++ y) e f)
     (subst (λ z. Conv z t u k) (ap (λ z. extend (extend ctx z) bs) (sym e) ∙ sym (extend-append ks bs ctx)) (c_trans (c_sym c) d)) g
 
+-- the fields of a well kinded structure are well kinded
 pub str-kinds : {ctx : List Kind} {fs : SigRow} {z : Sig} {l : Name} {s : Sig} → ConvSig ctx (Sig.Str fs) z → HasField fs l s → ConvSig ctx s s
 str-kinds (str c) h = let q = field-alike c h in conv_sig-trans q.2 (conv_sig-sym q.2)
 
 pub typ-kind : {ctx : List Kind} {t : Ty} {k : Kind} {z : Sig} → ConvSig ctx (Sig.Typ t k) z → HasKind ctx t k
 typ-kind (typ c) = (conv-kinds c).0
 
+-- the parameter of a well kinded functor is well kinded
 pub param-kinds : {ctx ks : List Kind} {e : Effect} {s z : Sig} {x : Abs} → ConvSig ctx (Sig.Fun e ks s x) z → ConvSig (extend ctx ks) s s
 param-kinds (fun c d) = conv_sig-trans c (conv_sig-sym c)
 
+-- so is its result
 pub result-kinds : {ctx ks is : List Kind} {e : Effect} {s r z : Sig} → ConvSig ctx (Sig.Fun e ks s (Abs.Ex is r)) z → ConvSig (extend (extend ctx ks) is) r r
 result-kinds (fun c (ex d)) = conv_sig-trans d (conv_sig-sym d)
 
+-- a variable and a type at one path of aligned signatures are convertible
 pub common : {ctx : List Kind} {s r : Sig} {i : ℕ} {u : Ty} {p : SigPath} → ((bs cs : List Kind) (t w : Ty) (k j : Kind) → PartAt s p bs (Sig.Typ t k) → PartAt r p cs (Sig.Typ w j) → Agree ctx bs cs t w k j) → Rooted ctx s i p → Shows ctx r u p → (k : Kind) × Conv ctx (Ty.Var i) u k
 common {ctx} h (at {bs = bs} {t = t} {k = k} x c) (shows {bs = cs} {t = w} {k = j} y d) = shown-same ctx (h bs cs t w k j x y) c d
 
@@ -221,22 +229,27 @@ fixed-by ctx ks js s t r guess ts o n f j h = fixed-forms ctx ks js guess ts n (
     each : (i : ℕ) → i < length ks → (k : Kind) × Conv (extend ctx js) (Ty.Var (own js i)) (puts guess (λ n. Ty.Var (past js n)) (own ks i)) k
     each i lt = let w = j.1 i lt in common (h w.0) w.2 (shows-alike (shows-substitute (puts guess (λ n. Ty.Var (past js n))) F-substitutes (rooted-shows w.1)) conv)
 
+-- signatures that are aligned stay so when types are put into the right one
 pub aligned-instance : (ctx ks js : List Kind) (s t r : Sig) (guess : List Ty) → OfKinds (extend ctx js) guess ks → NormalSigForm (extend ctx js) (sig_at guess (rename_sig (lifts ks (past js)) s)) r → Aligned (extend ctx js) (extend ctx ks) t s → Aligned (extend ctx js) (extend ctx js) t r
 aligned-instance ctx ks js s t r guess o f a = aligned-moved (puts guess (λ n. Ty.Var (past js n))) (puts-substitutes o (past-substitutes js ctx)) a
     (subst (λ z. ConvSig (extend ctx js) z r) (sig_at-under ks js guess s (kinds-fit o)) (form-conv_sig f))
 
+-- a normal form of a signature is well kinded
 pub form-kinds : {ctx : List Kind} {s r : Sig} → NormalSigForm ctx s r → ConvSig ctx r r
 form-kinds f = let c = form-conv_sig f in conv_sig-trans (conv_sig-sym c) c
 
 finish : (ctx ks js bs cs : List Kind) (t u : Ty) (k j : Kind) {f : ℕ → Ty} {r : Sig} {p : SigPath} → Fixed ctx ks js f → Moved (extend ctx js) r p bs t k → ((v : Ty) → PartAt r p bs (Sig.Typ v k) → Agree (extend ctx js) bs cs v u k j) → Agree ctx (ks ++ bs) (js ++ cs) t u k j
 finish ctx ks js bs cs t u k j (fixed e c) (moved {u = v} x d) h = agree-result e d (h v x)
 
+-- signatures that are the same hide the same kinds
 pub same-hidden : {ks js : List Kind} {s t : Sig} → Path Abs (Abs.Ex ks s) (Abs.Ex js t) → ks ≡ js
 same-hidden e = cc
 
+-- they have the same body
 pub same-body : {ks js : List Kind} {s t : Sig} → Path Abs (Abs.Ex ks s) (Abs.Ex js t) → s ≡ t
 same-body e = cc
 
+-- the normal form of a signature that hides nothing is that of its body
 pub plain-form : {ctx : List Kind} {s t : Sig} → AlikeAbs NormalForm ctx (Abs.Ex [] s) (Abs.Ex [] t) → NormalSigForm ctx s t
 plain-form (ex n) = n
 

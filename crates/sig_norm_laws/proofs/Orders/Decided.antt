@@ -1,4 +1,5 @@
 -- What the order of quantifiers asks is decided.
+-- Main results: params_dec, rooted_dec.
 use Rattle.std.specs.Prelude.{ℕ, zero, suc, List, [], ◌∷◌, ◌++◌, ◌≡◌}
 use Rattle.std.proofs.Math.Path.{refl, subst, subst₂}
 use Rattle.omega_kinds.specs.Kind.{Kind, Kind-discrete}
@@ -54,6 +55,7 @@ Enters (Item.Arg ∷ p) = ⊥
 Enters (Item.Res ∷ p) = Unit {0}
 Enters (Item.Meta ∷ p) = ⊥
 
+-- a path that goes through a functor's parameter is one that can go on
 pub param-enters : {s t : Sig} {p : SigPath} {ds ks : List Kind} → ParamOn s p ds ks t → Enters p
 param-enters ParamOn.here = tt
 param-enters (ParamOn.field h on) = tt
@@ -66,6 +68,7 @@ IsStr s = ⊥
 param-str : {s t : Sig} {l : Name} {p : SigPath} {ds ks : List Kind} → ParamOn s (Item.Part l ∷ p) ds ks t → IsStr s
 param-str (ParamOn.field h on) = tt
 
+-- whether the parameters on a path avoid a variable is decided
 pub params_dec : (p : SigPath) (ctx : List Kind) (s : Sig) (i : ℕ) → ConvSig ctx s s → Dec (ParamsAvoid ctx s p i)
 params_dec [] ctx s i c = yes (λ ds ks t on. absurd (param-enters on))
 params_dec (Item.Arg ∷ p) ctx s i c = yes (λ ds ks t on. absurd (param-enters on))
@@ -125,6 +128,7 @@ head_dec ctx bs t k i h = go (lookup_dec ctx i (arrow_over bs k))
     go (yes x) = with-kind (applied-kind bs (k_var x)) (dec_ty (normal (extend ctx bs) t) (normal (extend ctx bs) (applied bs (Ty.Var i))))
     go (no d) = no (λ c. d (lookup-of (applied-kinded bs (Ty.Var i) (conv-kinds c).1)))
 
+-- whether a variable is rooted at a path to a type is decided
 pub rooted_dec : {ctx : List Kind} {s : Sig} {p : SigPath} {bs : List Kind} {t : Ty} {k : Kind} (i : ℕ) → ConvSig ctx s s → PartAt s p bs (Sig.Typ t k) → Dec (Rooted ctx s i p)
 rooted_dec {ctx} {s} {p} {bs} {t} {k} i c x = dec_by (λ d. at x d) back (head_dec ctx bs t k i (part-kind c x))
   where

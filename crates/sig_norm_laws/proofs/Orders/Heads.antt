@@ -1,4 +1,5 @@
 -- At most one variable, applied to the variables of binders, is convertible to a type.
+-- Main results: one-head.
 use Rattle.std.specs.Prelude.{ℕ, suc, List, ◌≡◌}
 use Rattle.std.proofs.Math.Decide.{ℕ_discrete}
 use Rattle.std.proofs.Math.Path.{sym, subst}
@@ -44,6 +45,7 @@ pub mentions-eta : (k : Kind) {i : ℕ} {t : Ty} → Mentions i t → Mentions i
 mentions-eta Kind.Star m = m
 mentions-eta (Kind.Arrow k l) m = m_lam (mentions-eta l (m_operator (rename-mentions suc m)))
 
+-- a type variable of a kind is one of the context
 pub lookup-of : {ctx : List Kind} {i : ℕ} {k : Kind} → HasKind ctx (Ty.Var i) k → Lookup ctx i k
 lookup-of (k_var x) = x
 
@@ -57,6 +59,7 @@ one-variable {ctx} {k} {i} {j} c = go (ℕ_discrete j i)
         let n = eta-normal k (n_var (lookup-of (conv-kinds c).1)) in
         absurd (unmentioned n.0 (c_trans c n.1) (λ m. h (in_var m)) (mentions-eta k m_var))
 
+-- at most one variable, applied to the variables of binders, is convertible to a type
 pub one-head : (ks ctx : List Kind) {t : Ty} {k l : Kind} {i j : ℕ} → Conv (extend ctx ks) t (applied ks (Ty.Var i)) k → Conv (extend ctx ks) t (applied ks (Ty.Var j)) l → i ≡ j
 one-head ks ctx {t} {k} {l} {i} {j} c d =
     let e : l ≡ k = one_kind (extend ctx ks) t l k (conv-kinds d).0 (conv-kinds c).0 in

@@ -1,4 +1,5 @@
 -- Each ordered explicit signature has an order of its quantifiers.
+-- Main results: order_exists, root-each.
 use Rattle.std.specs.Prelude.{ℕ, zero, suc, ◌+◌, ◌<◌, ◌≤◌, List, [], ◌∷◌, ◌++◌, ◌≡◌, ◌⊎◌, length}
 use mathlib.Core.Logic.{inl, inr}
 use Rattle.std.proofs.Common.{arith}
@@ -27,6 +28,7 @@ use Rattle.sig_laws.proofs.Algebra.Paths.{before-cases, before-result}
 
 -- searches below a number
 
+-- a property that is decided for each number is decided for all below a bound
 pub all_below : (n : ℕ) (P : ℕ → Type 0) → ((j : ℕ) → Dec (P j)) → Dec ((j : ℕ) → j < n → P j)
 all_below zero P d = yes (λ j lt. absurd (omega (arith, lt)))
 all_below (suc n) P d = go (all_below n P d) (d n)
@@ -45,6 +47,7 @@ pub data LeastBelow (n : ℕ) (P : ℕ → Type 0) : Type 0 where
   found : (j : ℕ) → j < n → P j → ((i : ℕ) → i < j → P i → ⊥) → LeastBelow n P
   none : ((j : ℕ) → j < n → P j → ⊥) → LeastBelow n P
 
+-- of the numbers below a bound, the least with a decided property is found, or there is none
 pub least_below : (n : ℕ) (P : ℕ → Type 0) → ((j : ℕ) → Dec (P j)) → LeastBelow n P
 least_below zero P d = LeastBelow.none (λ j lt p. absurd (omega (arith, lt)))
 least_below (suc n) P d = go (least_below n P d) (d n)
@@ -67,6 +70,7 @@ pub data LeastPath (s : Sig) (Q : SigPath → Type 0) : Type 0 where
 abbrev pub Known : Sig → (SigPath → Type 0) → Type 0
 Known s Q = (p : SigPath) (bs : List Kind) (t : Ty) (k : Kind) → PartAt s p bs (Sig.Typ t k) → Dec (Q p)
 
+-- a field is the first one or one of the others
 pub field-split : {m l : Name} {t q : Sig} {rest : SigRow} → HasField (SigRow.More m t rest) l q → ((l ≡ m) × (q ≡ t)) ⊎ HasField rest l q
 field-split here = inl (refl, refl)
 field-split (there n h) = inr h
@@ -81,6 +85,7 @@ Opens (Sig.Fun Pure ks s (Abs.Ex [] r)) = Unit {0}
 Opens (Sig.Fun Pure ks s (Abs.Ex (k ∷ js) r)) = ⊥
 Opens (Sig.Fun Impure ks s x) = ⊥
 
+-- a signature in which a path leads to a type is one where such a path can go
 pub part-opens : {s : Sig} {p : SigPath} {bs : List Kind} {t : Ty} {k : Kind} → PartAt s p bs (Sig.Typ t k) → Opens s
 part-opens PartAt.end = tt
 part-opens (PartAt.field h x) = tt
@@ -297,12 +302,14 @@ take_rest ctx ks s w r (suc fuel) taken d b e = go (least_path s (SomeCounts ctx
         let w = f q.0 (untaken-of q.1) in
         (q.0 ∷ w.0, next q.1 (λ j o c b. counts-part c (λ bs t k x. h o bs t k x (j, c) b)) w.1)
 
+-- each ordered explicit signature has an order of its quantifiers
 pub order_exists : (ctx ks : List Kind) (s : Sig) → WellFormed (extend ctx ks) s → EachRooted ctx ks s → (order : List ℕ) × NewOrder ctx ks s order
 unfolding Distinct
 order_exists ctx ks s w r = take_rest ctx ks s w r (length ks) [] tt tt (omega arith)
 
 -- norm exists, and there is one
 
+-- norm of the parts keeps that each hidden type has a root path
 pub root-each : {ctx ks : List Kind} {s t : Sig} → NormSig (extend ctx ks) s t → EachRooted ctx ks s → EachRooted ctx ks t
 root-each n r i lt = let q = r i lt in (q.0, root-norm n q.1)
 

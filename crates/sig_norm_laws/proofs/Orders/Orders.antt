@@ -1,4 +1,5 @@
 -- An order of quantifiers takes each variable exactly once.
+-- Main results: place-nth, nth-place, stages, renumber-own.
 use Rattle.std.specs.Prelude.{ℕ, zero, suc, ◌<◌, ◌≤◌, List, [], ◌∷◌, ◌≡◌, ◌≢◌, ◌==◌, ◌⊎◌, nat_lt, length, cond, Bool, true, false}
 use Rattle.std.proofs.Common.{arith}
 use Rattle.std.proofs.Math.Decide.{ℕ_discrete}
@@ -54,6 +55,7 @@ nth [] k = zero
 nth (i ∷ order) zero = i
 nth (i ∷ order) (suc k) = nth order k
 
+-- the place of the first number of an order is the first
 pub place-same : (i : ℕ) (order : List ℕ) → place (i ∷ order) i ≡ zero
 place-same i order = go (i == i) (eq-eqb i i refl)
   where
@@ -61,6 +63,7 @@ place-same i order = go (i == i) (eq-eqb i i refl)
     go true e = refl
     go false e = absurd (cc e)
 
+-- any other number has its place one further than in the rest
 pub place-other : (i j : ℕ) (order : List ℕ) → j ≢ i → place (i ∷ order) j ≡ suc (place order j)
 place-other i j order h = go (j == i) (false_from_ne_true (j == i) (λ e. h (eqb-true j i e)))
   where
@@ -68,17 +71,20 @@ place-other i j order h = go (j == i) (false_from_ne_true (j == i) (λ e. h (eqb
     go false e = refl
     go true e = absurd (cc e)
 
+-- each number of an order is none of those taken before
 pub nth-untaken : {ctx ks : List Kind} {s : Sig} {taken order : List ℕ} (k : ℕ) → Taking ctx ks s taken order → k < length order → Untaken ks taken (nth order k)
 nth-untaken k (done h) lt = absurd (omega (arith, lt))
 nth-untaken zero (next c g t) lt = counts-untaken c
 nth-untaken {taken = taken} (suc k) (next {order = o} {number = i} c g t) lt = let u = nth-untaken k t (omega (arith, lt)) in (u.0, u.1.1)
 
+-- the place of the number at a place is this place
 pub place-nth : {ctx ks : List Kind} {s : Sig} {taken order : List ℕ} (k : ℕ) → Taking ctx ks s taken order → k < length order → place order (nth order k) ≡ k
 place-nth k (done h) lt = absurd (omega (arith, lt))
 place-nth zero (next {order = o} {number = i} c g t) lt = place-same i o
 place-nth {taken = taken} (suc k) (next {order = o} {number = i} c g t) lt =
     place-other i (nth o k) o ((nth-untaken k t (omega (arith, lt))).1.0) ∙ ap suc (place-nth k t (omega (arith, lt)))
 
+-- each number that is not taken has a place in the order, where it stands
 pub nth-place : {ctx ks : List Kind} {s : Sig} {taken order : List ℕ} (v : ℕ) → Taking ctx ks s taken order → Untaken ks taken v → (place order v < length order) × (nth order (place order v) ≡ v)
 nth-place v (done h) u = absurd (h v u)
 nth-place {ks = ks} {taken = taken} v (next {order = o} {number = i} c g t) u = go (ℕ_discrete v i) (nth-place v t)
@@ -91,6 +97,7 @@ nth-place {ks = ks} {taken = taken} v (next {order = o} {number = i} c g t) u = 
 pub data Stage (ctx ks : List Kind) (s : Sig) (order : List ℕ) (k : ℕ) : Type 0 where
   stage : {p : SigPath} → Rooted (extend ctx ks) s (own ks (nth order k)) p → ((j : ℕ) → k ≤ j → j < length order → ParamsAvoid (extend ctx ks) s p (own ks (nth order j))) → Stage ctx ks s order k
 
+-- at each place of an order stands a number that is rooted at a path whose parameters avoid it and those after it
 pub stages : {ctx ks : List Kind} {s : Sig} {taken order : List ℕ} (k : ℕ) → Taking ctx ks s taken order → k < length order → Stage ctx ks s order k
 stages k (done h) lt = absurd (omega (arith, lt))
 stages {ctx} {ks} {s} {taken} zero (next {order = o} {number = i} {p = p} (counts u r a) g t) lt = stage r go
@@ -109,23 +116,29 @@ stages {ctx} {ks} {s} (suc k) (next {order = o} {number = i} c g t) lt = go (sta
 
 -- where the variables of binders stand
 
+-- the number of the index of a number, and the index of the number of an index, are the same again
 pub own-own : (ks : List Kind) (i : ℕ) → i < length ks → own ks (own ks i) ≡ i
 own-own ks i h = omega arith
 
+-- the kind at a place of the new order is that of the number there
 pub kind_at-reordered : (ks : List Kind) (order : List ℕ) (k : ℕ) → k < length order → kind_at (reordered ks order) k ≡ kind_at ks (nth order k)
 kind_at-reordered ks [] k h = absurd (omega (arith, h))
 kind_at-reordered ks (i ∷ order) zero h = refl
 kind_at-reordered ks (i ∷ order) (suc k) h = kind_at-reordered ks order k (omega (arith, h))
 
+-- the kinds in the new order are as many as before
 pub reordered-length : {ctx ks : List Kind} {s : Sig} {order : List ℕ} → NewOrder ctx ks s order → length (reordered ks order) ≡ length ks
 reordered-length {ks = ks} {order = order} t = length-map order (kind_at ks) ∙ order-length t
 
+-- renumbering takes an index of the binders to that of its new place
 pub renumber-below : (ks : List Kind) (order : List ℕ) (i : ℕ) → i < length ks → renumber ks order i ≡ own ks (place order (own ks i))
 renumber-below ks order i h = cond-true (nat_lt i (length ks)) (own ks (place order (own ks i))) i (lt-ltb i (length ks) h)
 
+-- renumbering takes the variable of a number to that of its new place
 pub renumber-own : (ks : List Kind) (order : List ℕ) (v : ℕ) → v < length ks → renumber ks order (own ks v) ≡ own ks (place order v)
 renumber-own ks order v h = renumber-below ks order (own ks v) (omega (arith, h)) ∙ ap (λ n. own ks (place order n)) (own-own ks v h)
 
+-- renumbering leaves an index from outside as it is
 pub renumber-past : (ks : List Kind) (order : List ℕ) (i : ℕ) → renumber ks order (past ks i) ≡ past ks i
 renumber-past ks order i = go (nat_lt (past ks i) (length ks)) (false_from_ne_true (nat_lt (past ks i) (length ks)) (λ e. let h = ltb-true (past ks i) (length ks) e in let p = past-length ks i in omega (arith, h, p)))
   where

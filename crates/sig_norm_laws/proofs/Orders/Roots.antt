@@ -1,4 +1,5 @@
 -- Each variable has a least root path, or none.
+-- Main results: roots.
 use Rattle.std.specs.Prelude.{ℕ, ◌<◌, ◌≤◌, List, length}
 use Rattle.std.proofs.Math.Decide.{dec_le, dec_lt}
 use Rattle.omega_kinds.specs.Kind.{Kind}
@@ -41,6 +42,7 @@ pub data Roots (ctx ks : List Kind) (s : Sig) (i : ℕ) : Type 0 where
   found : (p : SigPath) → LeastRoot ctx ks s i p → Roots ctx ks s i
   none : ((p : SigPath) → RootPath ctx ks s i p → ⊥) → Roots ctx ks s i
 
+-- a hidden type has a least root path, or no root path
 pub roots : (ctx ks : List Kind) (s : Sig) (i : ℕ) → WellFormed (extend ctx ks) s → Roots ctx ks s i
 roots ctx ks s i w = go (least_path s (RootPath ctx ks s i) w (λ p bs t k x. root_dec ctx ks s i p bs t k (well_formed-kinds w) x))
   where
