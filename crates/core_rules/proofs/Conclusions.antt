@@ -1,4 +1,5 @@
 -- From the conditions of a rule to its conclusion, and from one that fails to the refusal.
+-- Main results: applied-given, call-given, instance-given, get-given, if-given, operation-given.
 use Rattle.std.proofs.Common.{◌≡◌, ◌≢◌, List, ◌∷◌, zero, Option, Some, None, MatchOption, Result, Ok, Err, IfErr, IfOk, IfSome, IsErrAnd, refl, sym, ap, ◌∙◌, subst, subst₂}
 use Rattle.std.proofs.lemmas.Result.{err_from_is_err_and}
 use Rattle.omega_kinds.specs.Kind.{Kind}
@@ -49,6 +50,7 @@ pub given-more : {T E : Type 0} (P Q : T → Type 0) → ((x : T) → P x → Q 
 given-more P Q f (Ok x) h = f x h
 given-more P Q f (Err e) h = tt
 
+-- what a refusal says, if there is one, may be weakened
 pub refused-more : {T : Type 0} (P Q : CoreWhy → Type 0) → ((w : CoreWhy) → P w → Q w) → (r : Result T CoreRefusal) → IfErr r (λ e. IfSome (plain_why e) P) → IfErr r (λ e. IfSome (plain_why e) Q)
 refused-more P Q f (Ok x) h = tt
 refused-more P Q f (Err e) h = some-weaker (plain_why e) P Q f h
@@ -73,6 +75,7 @@ instance-gives {ctx} {k} {u} {t} n m =
 pub applied-kind : (t u : Ty) (k j l m a b : Kind) → k ≡ Kind.Arrow m j → l ≢ m → a ≡ l → b ≡ m → AppliedRefuses t k u l (KindDiffer a b)
 applied-kind t u k j l m a b e n p q = rw (e, p, q) (AppliedRefuses.arg_kind n)
 
+-- an operator at an argument of its kind gives the hereditary substitution
 pub applied-given : (ctx : List Kind) (t u v : Ty) (k j l m : Kind) → k ≡ Kind.Arrow m j → l ≡ m → (i : Kind) → i ≡ j → v ≡ beta t u → Normal ctx t k → Normal ctx u l → AppliedGives ctx t k u l v i
 applied-given ctx t u v k j l m e p i q r n o =
     rw (e, p, q, r) (AppliedGives.applied (beta-gives (subst (Normal ctx t) e n) (subst (Normal ctx u) p o)))
@@ -81,6 +84,7 @@ applied-given ctx t u v k j l m e p i q r n o =
 pub call-differs : (f v t u p : Ty) → f ≡ Ty.Arrow t u → p ≡ t → v ≢ p → CallRefuses f v (Differ v p)
 call-differs f v t u p e q n = rw (e, q) (CallRefuses.arg_type (λ h. n (h ∙ sym q)))
 
+-- the call of a function at an argument of its type has the type of its result
 pub call-given : (f v t u p w : Ty) (d a x : Term) → f ≡ Ty.Arrow t u → p ≡ t → v ≡ p → w ≡ u → x ≡ Term.Call d a → CallGives f d v a w x
 call-given f v t u p w d a x e q r is ix = rw (e, r ∙ q, is, ix) CallGives.call
 
@@ -88,6 +92,7 @@ call-given f v t u p w d a x e q r is ix = rw (e, r ∙ q, is, ix) CallGives.cal
 pub instance-kind : (f t u : Ty) (k j a b : Kind) → f ≡ Ty.All k u → j ≢ k → a ≡ j → b ≡ k → InstanceRefuses f t j (KindDiffer a b)
 instance-kind f t u k j a b e n p q = rw (e, p, q) (InstanceRefuses.arg_kind n)
 
+-- a term of a universally quantified type, at a type of its kind, has the type of the body at it
 pub instance-given : (ctx : List Kind) (f t u p v : Ty) (k j : Kind) (d x : Term) → f ≡ Ty.All k u → p ≡ u → j ≡ k → v ≡ hsubst k zero t p → x ≡ Term.Inst d t → Normal ctx f Kind.Star → Normal ctx t j → InstanceGives ctx f d t j v x
 instance-given ctx f t u p v k j d x e q r is ix n m =
     rw (e, r, is ∙ ap (hsubst k zero t) q, ix) (InstanceGives.instance (instance-gives (subst (λ s. Normal ctx s Kind.Star) e n) (subst (Normal ctx t) r m)))
@@ -97,12 +102,15 @@ pub none-case : (o : Option Ty) (P : Type 0) (Q : Ty → Type 0) → ((t : Ty) �
 none-case None P Q n h = h
 none-case (Some t) P Q n h = absurd (n t refl)
 
+-- of an option that is a value, the case of the value holds
 pub some-case : (o : Option Ty) (P : Type 0) (Q : Ty → Type 0) (t : Ty) → o ≡ Some t → MatchOption o P Q → Q t
 some-case o P Q t e h = subst (λ x. MatchOption x P Q) e h
 
+-- the selection of a name that the record lacks is refused
 pub get-missing : (w : Ty) (r : Row) (l n : Name) → w ≡ Ty.Fields r → n ≡ l → ((t : Ty) → HasPart r (Label.Name l) t → ⊥) → GetRefuses w l (NoField n)
 get-missing w r l n e q h = rw (e, q) (GetRefuses.no_field h)
 
+-- the selection of a field gives the field of its type
 pub get-given : (w t : Ty) (r : Row) (l : Name) (d x : Term) → w ≡ Ty.Fields r → HasPart r (Label.Name l) t → x ≡ Term.Get d (Label.Name l) → GetGives w d l t x
 get-given w t r l d x e h ix = rw (e, ix) (GetGives.get h)
 
@@ -110,9 +118,11 @@ get-given w t r l d x e h ix = rw (e, ix) (GetGives.get h)
 pub test-differs : (t u v p : Ty) → p ≡ Ty.Bool → t ≢ p → IfRefuses t u v (Differ t p)
 test-differs t u v p e n = rw (e) (IfRefuses.test_type (λ h. n (h ∙ sym e)))
 
+-- branches of different types are refused
 pub branches-differ : (t u v p : Ty) → p ≡ Ty.Bool → t ≡ p → u ≢ v → IfRefuses t u v (Differ u v)
 branches-differ t u v p e q n = rw (q ∙ e) (IfRefuses.branches n)
 
+-- a conditional on a truth value, with branches of one type, has this type
 pub if-given : (t u v p : Ty) (d a b x : Term) → p ≡ Ty.Bool → t ≡ p → u ≡ v → x ≡ Term.If d a b → IfGives t d u a v b u x
 if-given t u v p d a b x e q r ix = rw (q ∙ e, r, ix) IfGives.if_
 
@@ -120,8 +130,10 @@ if-given t u v p d a b x e q r ix = rw (q ∙ e, r, ix) IfGives.if_
 pub left-differs : (t u p : Ty) → p ≡ Ty.Int → t ≢ p → OperationRefuses t u (Differ t p)
 left-differs t u p e n = rw (e) (OperationRefuses.left_type (λ h. n (h ∙ sym e)))
 
+-- a right operand that is no integer is refused
 pub right-differs : (t u p : Ty) → p ≡ Ty.Int → t ≡ p → u ≢ p → OperationRefuses t u (Differ u p)
 right-differs t u p e q n = rw (q ∙ e, e) (OperationRefuses.right_type (λ h. n (h ∙ sym e)))
 
+-- an operation on two integers has the type of its results
 pub operation-given : (o : Op) (t u p v : Ty) (d a x : Term) → p ≡ Ty.Int → t ≡ p → u ≡ p → v ≡ result_type o → x ≡ Term.Arith o d a → OperationGives o t d u a v x
 operation-given o t u p v d a x e q r is ix = rw (q ∙ e, r ∙ e, is, ix) OperationGives.operation

@@ -1,4 +1,5 @@
 -- Parts by their names in an ordered map: which names it has, and the rows that its entries make.
+-- Main results: not-equal.
 use Rattle.std.proofs.Common.{◌≡◌, ◌≢◌, Bool, true, false, cond, List, [], ◌∷◌, ◌++◌, Option, Some, None, refl, sym, ap, ◌∙◌, subst}
 use Rattle.std.proofs.lemmas.Bool.{false≢true}
 use Rattle.std.proofs.lemmas.Cmp.{nat_list_cmp_total, tied_itself}
@@ -27,6 +28,7 @@ cond-none false x o e = (refl, e)
 none-cond : {A : Type 0} (b : Bool) (x : A) (o : Option A) → b ≡ false → o ≡ None → cond b (Some x) o ≡ None
 none-cond b x o e f = ap (λ c. cond c (Some x) o) e ∙ f
 
+-- different names do not compare as equal
 pub not-equal : (l m : Name) → l ≢ m → is_eq (name_cmp l m) ≡ false
 not-equal l m n = go (name_cmp l m) refl
   where

@@ -1,4 +1,5 @@
 -- Types whose outermost form is another than a rule needs.
+-- Main results: no-sum, not-arrow, not-all, not-record.
 use Rattle.std.proofs.Common.{◌≡◌, refl, subst, ◌∙◌}
 use Rattle.omega_kinds.specs.declared.kind.Kind.{Kind as KindHandle}
 use Rattle.omega_types.specs.Ty.{Ty}
@@ -77,16 +78,20 @@ sum-node (node.Mu b) h = tt
 sum-node (node.Lam k b) h = tt
 sum-node (node.Apply a b) h = tt
 
+-- a type whose outermost form is another is no sum type
 pub no-sum : (n : TyNode) (s t : Ty) → ty_of n ≡ s → s ≡ t → ((f : TyFields) → n ≡ node.Sum f → ⊥) → IsNoSum t
 no-sum n s t p q h = subst IsNoSum (p ∙ q) (sum-node n h)
 
 -- the type is kept
 
+-- the call of what has no function type is refused
 pub not-arrow : (n : TyNode) (s t v w : Ty) → ty_of n ≡ s → s ≡ t → ((a b : TyHandle) → n ≡ node.Arrow a b → ⊥) → w ≡ t → CallRefuses t v (NotArrow w)
 not-arrow n s t v w p q h e = rw (e) (CallRefuses.no_function (no-arrow n s t p q h))
 
+-- an instance of what has no universally quantified type is refused
 pub not-all : (n : TyNode) (s t u w : Ty) (j : Kind) → ty_of n ≡ s → s ≡ t → ((k : KindHandle) (b : TyHandle) → n ≡ node.All k b → ⊥) → w ≡ t → InstanceRefuses t u j (NotAll w)
 not-all n s t u w j p q h e = rw (e) (InstanceRefuses.not_polymorphic (no-all n s t p q h))
 
+-- the selection from what has no record type is refused
 pub not-record : (n : TyNode) (s t w : Ty) (l : Name) → ty_of n ≡ s → s ≡ t → ((f : TyFields) → n ≡ node.Fields f → ⊥) → w ≡ t → GetRefuses t l (NotRecord w)
 not-record n s t w l p q h e = rw (e) (GetRefuses.no_record (no-record n s t p q h))

@@ -1,4 +1,5 @@
 -- Fields of different labels may be put into a row in either order.
+-- Main results: swap-part, swap-term.
 use Rattle.std.proofs.Common.{◌≡◌, ◌≢◌, Bool, true, false, cond, refl, sym, ap, ◌∙◌, inl, inr, ◌⊎◌}
 use Rattle.std.proofs.lemmas.Bool.{false≢true}
 use Rattle.omega_kinds.specs.declared.label.Label.{Label}
@@ -47,6 +48,7 @@ parts-one l m k t u v r a b =
 parts-end : (l m : Label) (t u : Ty) → LabelBefore l m → insert_part l t (insert_part m u Row.End) ≡ insert_part m u (insert_part l t Row.End)
 parts-end l m t u c = part-front l m t u Row.End c ∙ sym (part-back m l u t Row.End (before-not l m c))
 
+-- parts of different labels may be put into a row in either order
 pub swap-part : (l m : Label) (t u : Ty) (r : Row) → l ≢ m → insert_part l t (insert_part m u r) ≡ insert_part m u (insert_part l t r)
 swap-part l m t u Row.End n = go (total_order l m)
   where
@@ -87,6 +89,7 @@ terms-one l m k t u v r a b =
 terms-end : (l m : Label) (t u : Term) → LabelBefore l m → insert_term l t (insert_term m u TermRow.End) ≡ insert_term m u (insert_term l t TermRow.End)
 terms-end l m t u c = term-front l m t u TermRow.End c ∙ sym (term-back m l u t TermRow.End (before-not l m c))
 
+-- so may fields of different labels into a row of terms
 pub swap-term : (l m : Label) (t u : Term) (r : TermRow) → l ≢ m → insert_term l t (insert_term m u r) ≡ insert_term m u (insert_term l t r)
 swap-term l m t u TermRow.End n = go (total_order l m)
   where

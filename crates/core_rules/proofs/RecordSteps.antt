@@ -1,4 +1,5 @@
 -- The fields of a record one after the other.
+-- Main results: types-next, types-end, exps-next, exps-end.
 use Rattle.std.proofs.Common.{◌≡◌, ◌≢◌, ℕ, ◌≤◌, List, [], ◌∷◌, ◌++◌, true, false, Option, Some, None, is_some, length, drop, refl, sym, ap, ◌∙◌, subst}
 use Rattle.std.proofs.lemmas.Bool.{false≢true}
 use Rattle.std.proofs.lemmas.List.{drop_all}
@@ -28,16 +29,19 @@ use Rattle.core_rules.proofs.Entries.{at_name, Seen, none, more, none-new, new-n
 
 -- the map's answer
 
+-- an option without a value is none
 pub none-is : {A : Type 0} (o : Option A) → is_some o ≡ false → o ≡ None
 none-is None e = refl
 none-is (Some x) e = absurd (false≢true (sym e))
 
+-- an option with a value is not none
 pub some-is : {A : Type 0} (o : Option A) → is_some o ≡ true → o ≡ None → ⊥
 some-is None e f = false≢true e
 some-is (Some x) e f = absurd (let g : Some x ≡ None → ⊥ = λ p. cc in g f)
 
 -- what is left of a list at one place
 
+-- nothing is left of a list from its length on
 pub left-none : {A : Type 0} (xs : List A) (i : ℕ) → length xs ≤ i → drop i xs ≡ []
 left-none xs i h = drop_all i xs h
 
@@ -66,17 +70,21 @@ types-refuse rest why (more xs es l a s n) g =
 abbrev pub TypesLeft : (whole rest : List (Name × Kinded)) → List (Name × Ty) → Type 0
 TypesLeft whole rest es = (xs : List (Name × Ty)) × (before : List Name) × Seen xs before es × (type_fields whole ≡ of_values xs ++ type_fields rest)
 
+-- before the first field, all fields of a record type are left
 pub types-begin : (whole : List (Name × Kinded)) → TypesLeft whole whole []
 types-begin whole = ([], [], none, refl)
 
+-- one more field of a new name and of kind * is entered
 pub types-next : (whole rest : List (Name × Kinded)) (x : Name × Kinded) (es : List (Name × Ty)) → is_some (at_name x.0 es) ≡ false → kind_tree x.1.kind ≡ Kind.Star → TypesLeft whole (x ∷ rest) es → TypesLeft whole rest (insert_entry name_cmp es x.0 x.1.ty)
 types-next whole rest x es h k (xs, before, s, e) =
     (xs ++ (x.0, x.1.ty) ∷ [], x.0 ∷ before, more xs es x.0 x.1.ty s (none-new x.0 s (none-is (at_name x.0 es) h)), e ∙ (ap (λ j. of_values xs ++ (field_ty x.0 x.1.ty j ∷ type_fields rest)) k ∙ sym (values-push xs (x.0, x.1.ty) (type_fields rest))))
 
+-- a field whose name is entered already is refused
 pub types-again : (whole rest : List (Name × Kinded)) (x : Name × Kinded) (es : List (Name × Ty)) → is_some (at_name x.0 es) ≡ true → TypesLeft whole (x ∷ rest) es → RecordTypeRefuses [] (type_fields whole) (DuplicateField x.0)
 types-again whole rest x es h (xs, before, s, e) =
     subst (λ ys. RecordTypeRefuses [] ys (DuplicateField x.0)) (sym e) (types-refuse (type_fields (x ∷ rest)) (DuplicateField x.0) s (RecordTypeRefuses.name_again (λ n. some-is (at_name x.0 es) h (new-none x.0 s n))))
 
+-- a field of another kind than * is refused
 pub types-kind : (whole rest : List (Name × Kinded)) (x : Name × Kinded) (es : List (Name × Ty)) → is_some (at_name x.0 es) ≡ false → kind_tree x.1.kind ≢ Kind.Star → TypesLeft whole (x ∷ rest) es → RecordTypeRefuses [] (type_fields whole) (KindDiffer (kind_tree x.1.kind) Kind.Star)
 types-kind whole rest x es h k (xs, before, s, e) =
     subst (λ ys. RecordTypeRefuses [] ys (KindDiffer (kind_tree x.1.kind) Kind.Star)) (sym e) (types-refuse (type_fields (x ∷ rest)) (KindDiffer (kind_tree x.1.kind) Kind.Star) s (RecordTypeRefuses.field_kind (none-new x.0 s (none-is (at_name x.0 es) h)) k))
@@ -85,6 +93,7 @@ labelled-rows : (es : List (Name × Ty)) → type_rows (λ t. t) es ≡ row (lab
 labelled-rows [] = refl
 labelled-rows (x ∷ es) = ap (Row.More (Label.Name x.0) x.1) (labelled-rows es)
 
+-- when no fields are left, the entries make the record type
 pub types-end : (whole : List (Name × Kinded)) (es : List (Name × Ty)) → TypesLeft whole [] es → RecordTypeGives [] (type_fields whole) (row (labelled (λ t. t) es))
 types-end whole es (xs, before, s, e) =
     let given = types-give [] Row.End s RecordTypeGives.no_fields in
@@ -92,6 +101,7 @@ types-end whole es (xs, before, s, e) =
 
 -- records
 
+-- one more field that is done is the first of those that are left
 pub exps-push : (xs : List (Name × Typed)) (x : Name × Typed) (rest : List FieldExp) → exp_fields (xs ++ x ∷ []) ++ rest ≡ exp_fields xs ++ (field_exp x.0 x.1.ty x.1.term ∷ rest)
 exps-push [] x rest = refl
 exps-push (y ∷ xs) x rest = ap (λ ys. field_exp y.0 y.1.ty y.1.term ∷ ys) (exps-push xs x rest)
@@ -113,13 +123,16 @@ exps-refuse rest why (more xs es l a s n) g =
 abbrev pub ExpsLeft : (whole rest : List (Name × Typed)) → List (Name × Typed) → Type 0
 ExpsLeft whole rest es = (xs : List (Name × Typed)) × (before : List Name) × Seen xs before es × (exp_fields whole ≡ exp_fields xs ++ exp_fields rest)
 
+-- before the first field, all fields of a record are left
 pub exps-begin : (whole : List (Name × Typed)) → ExpsLeft whole whole []
 exps-begin whole = ([], [], none, refl)
 
+-- one more field of a new name is entered
 pub exps-next : (whole rest : List (Name × Typed)) (x : Name × Typed) (es : List (Name × Typed)) → is_some (at_name x.0 es) ≡ false → ExpsLeft whole (x ∷ rest) es → ExpsLeft whole rest (insert_entry name_cmp es x.0 x.1)
 exps-next whole rest x es h (xs, before, s, e) =
     (xs ++ x ∷ [], x.0 ∷ before, more xs es x.0 x.1 s (none-new x.0 s (none-is (at_name x.0 es) h)), e ∙ sym (exps-push xs x (exp_fields rest)))
 
+-- a field whose name is entered already is refused
 pub exps-again : (whole rest : List (Name × Typed)) (x : Name × Typed) (es : List (Name × Typed)) → is_some (at_name x.0 es) ≡ true → ExpsLeft whole (x ∷ rest) es → RecordRefuses [] (exp_fields whole) (DuplicateField x.0)
 exps-again whole rest x es h (xs, before, s, e) =
     subst (λ ys. RecordRefuses [] ys (DuplicateField x.0)) (sym e) (exps-refuse (exp_fields (x ∷ rest)) (DuplicateField x.0) s (RecordRefuses.name_again (λ n. some-is (at_name x.0 es) h (new-none x.0 s n))))
@@ -132,6 +145,7 @@ terms-rows : (es : List (Name × Typed)) → term_rows (λ e. e.term) es ≡ ter
 terms-rows [] = refl
 terms-rows (x ∷ es) = ap (TermRow.More (Label.Name x.0) x.1.term) (terms-rows es)
 
+-- when no fields are left, the entries make the record
 pub exps-end : (whole : List (Name × Typed)) (es : List (Name × Typed)) → ExpsLeft whole [] es → RecordGives [] (exp_fields whole) (row (labelled (λ e. e.ty) es)) (term_row (labelled (λ e. e.term) es))
 exps-end whole es (xs, before, s, e) =
     let given = exps-give [] Row.End TermRow.End s RecordGives.no_fields in
@@ -147,6 +161,7 @@ labels-rise f [] h = tt
 labels-rise f (x ∷ []) h = tt
 labels-rise f (x ∷ y ∷ es) h = (ap is_lt h.0.0, labels-rise f (y ∷ es) h.1)
 
+-- in fields that rise, the next label may follow those before it
 pub follows-first : {T : Type 0} (done : List (Label × T)) (x : Label × T) (rest : List (Label × T)) → Rises (done ++ x ∷ rest) → MayFollow done x.0
 follows-first [] x rest r = tt
 follows-first (y ∷ []) x rest r = r.0

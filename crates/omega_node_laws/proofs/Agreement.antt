@@ -1,4 +1,5 @@
 -- Parts by label and types outside of a binder, as the checker finds them, are those of the store.
+-- Main results: one-variant.
 use Rattle.std.specs.Prelude.{◌≡◌, Option, Some, refl, if◌then◌else◌}
 use Rattle.std.specs.Ordering.{is_eq}
 use Rattle.std.proofs.Math.Path.{ap}
@@ -26,6 +27,7 @@ one-field (Ty.Mu b) l = refl
 one-field (Ty.Lam k b) l = refl
 one-field (Ty.Apply f a) l = refl
 
+-- the type of an injection is the sum type, where its label has the type of the value
 pub one-variant : (l : Label) (n : Ty) (o : Option Ty) → injected l n o ≡ if_same n (variant_type n l) o
 one-variant l (Ty.Sum r) o = ap (λ q. if_same (Ty.Sum r) q o) (one-part r l)
 one-variant l (Ty.Var i) o = refl

@@ -1,4 +1,5 @@
 -- The type of each form of term that binds or has several parts, from the types of its parts.
+-- Main results: lam-done, ty_lam-done, pack-done, unpack-done, call-let, call-applied.
 use Rattle.std.proofs.Common.{◌≡◌, ℕ, ◌<◌, List, ◌∷◌, Option, Some, None, Bool as Truth, true, false, if◌then◌else◌, length, refl, sym, ap, ap₂, ◌∙◌, subst}
 use Rattle.std.specs.Option.{option_map}
 use Rattle.omega_kinds.specs.Kind.{Kind}
@@ -27,6 +28,7 @@ no-number ts None None f h = refl
 no-number ts None (Some t) f h = absurd h
 no-number ts (Some n) t f h = absurd (f n refl)
 
+-- no number stands for no type
 pub none-number : (ts : List Ty) (t : Option Ty) → t ≡ None → NumberOf ts None t
 none-number ts None e = tt
 none-number ts (Some t) e = absurd (let f : Some t ≡ None → ⊥ = λ p. cc in f e)
@@ -37,6 +39,7 @@ nothing {z} {c} {ks} {vs} {e} g h = record { grows = g; is_number = none-number 
 
 -- ---- under a variable
 
+-- a term below one more term variable, whose scope is left again, is synthesised in the context with it
 pub bound-done : {a b c d : Scope} {n : ℕ} {e : Term} {o : Option ℕ} → IsWithVar a b n → Synthesises b c b.kinds (types_of b) e o → IsWithoutVar c d → Synthesises a d a.kinds (at a.types n ∷ types_of a) e o
 bound-done {a} {b} {c} {d} {n} {e} {o} w s r =
     let vs = with-var-types w in
@@ -47,6 +50,7 @@ bound-done {a} {b} {c} {d} {n} {e} {o} w s r =
       held = (λ m p. subst (λ us. Held us a.kinds (at a.types n ∷ types_of a) e) ts (subst (λ k. Held c.types k (at a.types n ∷ types_of a) e) w.same_kinds (subst (λ v. Held c.types b.kinds v e) vs (s.held m p))));
     }
 
+-- a term below one more type variable, whose scope is left again, is synthesised in the context with it
 pub under-type-done : {a b c d : Scope} {k : Kind} {e : Term} {o : Option ℕ} → IsWithType a b k → Synthesises b c b.kinds (types_of b) e o → IsWithoutType c d → Synthesises a d (k ∷ a.kinds) (shift_all (types_of a)) e o
 under-type-done {a} {b} {c} {d} {k} {e} {o} w s r =
     let vs = with-type-types w in
@@ -82,6 +86,7 @@ recursive-done {a} {b} {c} {d} {w} n {e} {o} i s r =
 
 -- ---- functions
 
+-- the type of a function, from that of its body at the type of its argument
 pub function-done : {a b c : Scope} {f : ℕ} {e : Term} {o p : Option ℕ} → f < length a.types → Synthesises a b a.kinds (at a.types f ∷ types_of a) e o → Finds b c p (option_map (Ty.Arrow (at b.types f)) (type_at b.types o)) → FindsFunction a c f e p
 function-done {a} {b} {c} {f} {e} {o} {p} l s h =
     let t = synth_in a.kinds (at a.types f ∷ types_of a) e in
@@ -97,6 +102,7 @@ pub lam-none : {z c : Scope} {t : Ty} {e : Term} {o : Option ℕ} → Finds z c 
 lam-none {z} {c} {t} {e} {o} h f =
     nothing h.grows (ap (λ q. and_then q (λ n. option_map (Ty.Arrow n) (synth_in z.kinds (n ∷ types_of z) e))) (no-number c.types o (normal_at z.kinds t Kind.Star) f h.is_number))
 
+-- the type of a function term, where the type of its argument is normal
 pub lam-done : {z a c : Scope} {t : Ty} {e : Term} {f : ℕ} {o p : Option ℕ} → Finds z a o (normal_at z.kinds t Kind.Star) → o ≡ Some f → FindsFunction a c f e p → Synthesises z c z.kinds (types_of z) (Term.Lam t e) p
 lam-done {z} {a} {c} {t} {e} {f} {o} {p} h i s =
     let ks = h.grows.same_kinds in
@@ -119,6 +125,7 @@ lam-done {z} {a} {c} {t} {e} {f} {o} {p} h i s =
 
 -- ---- a function from types
 
+-- the type of a type function, from that of its body
 pub ty_lam-done : {z y c : Scope} {k : Kind} {e : Term} {o p : Option ℕ} → Synthesises z y (k ∷ z.kinds) (shift_all (types_of z)) e o → Finds y c p (option_map (Ty.All k) (type_at y.types o)) → Synthesises z c z.kinds (types_of z) (Term.TyLam k e) p
 ty_lam-done {z} {y} {c} {k} {e} {o} {p} s h =
     let t = synth_in (k ∷ z.kinds) (shift_all (types_of z)) e in
@@ -131,6 +138,7 @@ ty_lam-done {z} {y} {c} {k} {e} {o} {p} s h =
 
 -- ---- a choice and a computation
 
+-- the type of a conditional, from those of its test and its branches
 pub if-done : {z a b y c : Scope} {e f g : Term} {o p q r : Option ℕ} → Synthesises z a z.kinds (types_of z) e o → Synthesises a b a.kinds (types_of a) f p → Synthesises b y b.kinds (types_of b) g q → Finds y c r (if_type (type_at y.types o) (type_at y.types p) (type_at y.types q))
     → Synthesises z c z.kinds (types_of z) (Term.If e f g) r
 if-done {z} {a} {b} {y} {c} {e} {f} {g} {o} {p} {q} {r} s t u h =
@@ -155,6 +163,7 @@ if-done {z} {a} {b} {y} {c} {e} {f} {g} {o} {p} {q} {r} s t u h =
           ));
     }
 
+-- the type of an operation, from those of its operands
 pub arith-done : {z b y c : Scope} {op : Op} {e f : Term} {o p r : Option ℕ} → Synthesises z b z.kinds (types_of z) e o → Synthesises b y b.kinds (types_of b) f p → Finds y c r (op_type op (type_at y.types o) (type_at y.types p))
     → Synthesises z c z.kinds (types_of z) (Term.Arith op e f) r
 arith-done {z} {b} {y} {c} {op} {e} {f} {o} {p} {r} s u h =
@@ -187,6 +196,7 @@ pub pack-none : {z c : Scope} {t u : Ty} {e : Term} {o : Option ℕ} → Synthes
 pack-none {z} {c} {t} {u} {e} {o} s f =
     nothing s.grows (ap (pack_type z.kinds t (normal_at z.kinds u Kind.Star)) (no-number c.types o (synth_in z.kinds (types_of z) e) f s.is_number) ∙ pack-without z.kinds t (normal_at z.kinds u Kind.Star))
 
+-- the type of a package, from that of what is packed
 pub pack-done : {z x c : Scope} {t u : Ty} {e : Term} {o r : Option ℕ} {b : ℕ} → Synthesises z x z.kinds (types_of z) e o → o ≡ Some b → Finds x c r (pack_type x.kinds t (normal_at x.kinds u Kind.Star) (Some (at x.types b)))
     → Synthesises z c z.kinds (types_of z) (Term.Pack t e u) r
 pack-done {z} {x} {c} {t} {u} {e} {o} {r} {b} s i h =
@@ -202,11 +212,13 @@ pack-done {z} {x} {c} {t} {u} {e} {o} {r} {b} s i h =
 
 -- ---- an opened package
 
+-- opening what has no package type has no type
 pub unpack-none : {z c : Scope} {p e : Term} {o : Option ℕ} → Synthesises z c z.kinds (types_of z) p o → IsPackage c.types o None → Synthesises z c z.kinds (types_of z) (Term.Unpack p e) None
 unpack-none {z} {c} {p} {e} {o} s f =
     let F = λ (k : Kind) (b : Ty). lowered (synth_in (k ∷ z.kinds) (b ∷ shift_all (types_of z)) e) in
     nothing s.grows (ap (λ q. and_then q (λ t. of_package t F)) (sym (at-number s)) ∙ f F)
 
+-- the type of an opened package, from that of the body, seen from outside of the hidden type
 pub unpack-done : {z x y c : Scope} {p e : Term} {o q r : Option ℕ} (k : SharedKind) (b : ℕ) → Synthesises z x z.kinds (types_of z) p o → IsPackage x.types o (Some (k, b)) → Synthesises x y (kind_tree k ∷ x.kinds) (at x.types b ∷ shift_all (types_of x)) e q → Finds y c r (lowered (type_at y.types q))
     → Synthesises z c z.kinds (types_of z) (Term.Unpack p e) r
 unpack-done {z} {x} {y} {c} {p} {e} {o} {q} {r} k b s f u h =
@@ -271,6 +283,7 @@ let-none {z} {c} {t} {e} {a} {o} h f =
       held = (λ n p. absurd (let g : None ≡ Some n → ⊥ = λ q. cc in g p));
     }
 
+-- the type of a function that is called at once, from those of the function and of its argument
 pub let-done : {z x c : Scope} {t : Ty} {e : Term} {a f : ℕ} {o p r : Option ℕ} → a < length z.types → Finds z x o (parameter_type z.kinds t (at z.types a)) → o ≡ Some f → FindsFunction x c f e p → NumberOf c.types r (call_type (type_at c.types p) (Some (at c.types a)))
     → FindsLet z c t e a r
 let-done {z} {x} {c} {t} {e} {a} {f} {o} {p} {r} l h i s k =
@@ -298,6 +311,7 @@ let-done {z} {x} {c} {t} {e} {a} {f} {o} {p} {r} l h i s k =
           ));
     }
 
+-- the type of another call, from those of the function and of its argument
 pub applied-done : {z c : Scope} {f : Term} {a : ℕ} {o r : Option ℕ} → a < length z.types → Synthesises z c z.kinds (types_of z) f o → NumberOf c.types r (call_type (type_at c.types o) (Some (at c.types a))) → FindsCall z c f a r
 applied-done {z} {c} {f} {a} {o} {r} l s k =
     let S = synth_in z.kinds (types_of z) f in
@@ -316,6 +330,7 @@ call-none-of : (ks : List Kind) (vs : List Ty) (f a : Term) → synth_in ks vs a
 call-none-of ks vs (Term.Lam t e) a h = ap (let_type (normal_at ks t Kind.Star) t (λ n. synth_in ks (n ∷ vs) e)) h
 call-none-of ks vs f a h = ap (call_type (synth_in ks vs f)) h ∙ call-without (synth_in ks vs f)
 
+-- a call whose argument has no type has none
 pub call-none : {z c : Scope} {f a : Term} {o : Option ℕ} → Synthesises z c z.kinds (types_of z) a o → ((n : ℕ) → o ≡ Some n → ⊥) → Synthesises z c z.kinds (types_of z) (Term.Call f a) None
 call-none {z} {c} {f} {a} {o} s h = nothing s.grows (call-none-of z.kinds (types_of z) f a (no-number c.types o (synth_in z.kinds (types_of z) a) h s.is_number))
 
@@ -323,6 +338,7 @@ call-none {z} {c} {f} {a} {o} s h = nothing s.grows (call-none-of z.kinds (types
 argument : {z x : Scope} {a : Term} {o : Option ℕ} {n : ℕ} → Synthesises z x z.kinds (types_of z) a o → o ≡ Some n → Some (at x.types n) ≡ synth_in z.kinds (types_of z) a
 argument {z} {x} {a} {o} {n} s i = sym (type-some x.types o (synth_in z.kinds (types_of z) a) n s.is_number i)
 
+-- the type of a call of a function term, as one that is called at once
 pub call-let : {z x c : Scope} {f a e : Term} {t : Ty} {o r : Option ℕ} {n : ℕ} → f ≡ Term.Lam t e → Synthesises z x z.kinds (types_of z) a o → o ≡ Some n → FindsLet x c t e n r → Synthesises z c z.kinds (types_of z) (Term.Call f a) r
 call-let {z} {x} {c} {f} {a} {e} {t} {o} {r} {n} g s i h = subst (λ d. Synthesises z c z.kinds (types_of z) (Term.Call d a) r) (sym g) done
   where
@@ -366,6 +382,7 @@ type-call : (ks : List Kind) (vs : List Ty) (f a : Term) → ((t : Ty) (e : Term
 type-call ks vs (Term.Lam t e) a n = absurd (n t e refl)
 type-call ks vs f a n = refl
 
+-- the type of a call of any other function
 pub call-applied : {z x c : Scope} {f a : Term} {o r : Option ℕ} {n : ℕ} → ((t : Ty) (e : Term) → f ≡ Term.Lam t e → ⊥) → Synthesises z x z.kinds (types_of z) a o → o ≡ Some n → FindsCall x c f n r → Synthesises z c z.kinds (types_of z) (Term.Call f a) r
 call-applied {z} {x} {c} {f} {a} {o} {r} {n} g s i h =
     let ks = s.grows.same_kinds in

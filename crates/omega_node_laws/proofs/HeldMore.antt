@@ -1,4 +1,5 @@
 -- What a list holds a longer one holds too.
+-- Main results: number-more.
 use Rattle.std.specs.Prelude.{ℕ, List, ◌∷◌, Option, Some, None}
 use Rattle.omega_kinds.specs.Kind.{Kind}
 use Rattle.omega_types.specs.Ty.{Ty, Row}
@@ -9,6 +10,7 @@ use Rattle.type_store.specs.Trees.{Begins}
 use Rattle.type_store.proofs.TreeLaws.{holds-more}
 use Rattle.omega_node_laws.specs.Held.{Has, Held, HeldFields, HeldBranches}
 
+-- the number of a type is its number in a longer list
 pub number-more : (ts us : List Ty) (o : Option ℕ) (t : Option Ty) → Begins ts us → NumberOf ts o t → NumberOf us o t
 number-more ts us None None b h = tt
 number-more ts us None (Some t) b h = h

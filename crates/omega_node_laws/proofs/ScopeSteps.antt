@@ -1,4 +1,5 @@
 -- What stays as a scope grows, and what a binder takes is what it gave.
+-- Main results: number-in, at-more, grows-then, wrapped, var-at.
 use Rattle.std.proofs.Common.{◌≡◌, ℕ, zero, suc, ◌+◌, ◌-◌, ◌<◌, ◌≤◌, List, [], ◌∷◌, ◌++◌, Option, Some, None, All, length, map, reverse, take, slice_get, get_or, IsTrue, ◌↔◌, Bool as Truth, refl, sym, ap, ap₂, ◌∙◌, subst, arith}
 use Rattle.std.proofs.lemmas.List.{reverse-append, map-append, length-append, length-map, length-reverse, get_or-map, get_or-reverse}
 use Rattle.std.proofs.lemmas.Option.{slice_get_past}
@@ -18,26 +19,31 @@ use Rattle.omega_checker.proofs.Trees.{test-is}
 
 -- ---- numbers that may be missing
 
+-- the number of a type is one of the list
 pub number-in : (ts : List Ty) (o : Option ℕ) (t : Option Ty) → NumberOf ts o t → IsIn ts o
 number-in ts None None h = tt
 number-in ts None (Some t) h = tt
 number-in ts (Some n) None h = absurd h
 number-in ts (Some n) (Some t) h = h.within
 
+-- the type at its number is the type
 pub number-at : (ts : List Ty) (o : Option ℕ) (t : Option Ty) → NumberOf ts o t → type_at ts o ≡ t
 number-at ts None None h = refl
 number-at ts None (Some t) h = absurd h
 number-at ts (Some n) None h = absurd h
 number-at ts (Some n) (Some t) h = ap Some h.value
 
+-- a number in a list is one in a longer list
 pub in-more : (ts us : List Ty) (o : Option ℕ) → Begins ts us → IsIn ts o → IsIn us o
 in-more ts us None b h = tt
 in-more ts us (Some n) b h = omega (arith, begins-length ts us b)
 
+-- the type at a number stays the same in a longer list
 pub at-more : (ts us : List Ty) (o : Option ℕ) → Begins ts us → IsIn ts o → type_at us o ≡ type_at ts o
 at-more ts us None b h = refl
 at-more ts us (Some n) b h = ap Some (begins-at ts us n b h)
 
+-- a number in a list is that of the type there
 pub number-of-in : (ts : List Ty) (o : Option ℕ) → IsIn ts o → NumberOf ts o (type_at ts o)
 number-of-in ts None h = tt
 number-of-in ts (Some n) h = record { within = h; value = refl }
@@ -48,6 +54,7 @@ number-some ts None None u h e = absurd (let f : None ≡ Some u → ⊥ = λ p.
 number-some ts None (Some t) u h e = absurd h
 number-some ts (Some n) t u h e = (n, refl)
 
+-- where there is a number, there is the type at it
 pub type-some : (ts : List Ty) (o : Option ℕ) (t : Option Ty) (n : ℕ) → NumberOf ts o t → o ≡ Some n → t ≡ Some (at ts n)
 type-some ts o t n h e = sym (number-at ts o t h) ∙ ap (type_at ts) e
 
@@ -81,9 +88,11 @@ grows-of {old} {new} b h k d v =
       same_vars = v;
     }
 
+-- a scope has grown from itself
 pub grows-itself : (s : Scope) → Grows s s
 grows-itself s = record { begins = begins-itself s.types; same_types = refl; same_kinds = refl; same_depth = refl; same_vars = refl }
 
+-- what has grown from a scope that has grown has grown
 pub grows-then : {a b c : Scope} → Grows a b → Grows b c → Grows a c
 grows-then {a} {b} {c} g h =
     record {
@@ -109,6 +118,7 @@ types-var s n =
     (reverse-append (map (type_under s.types s.depth) s.vars) (type_under s.types s.depth (n, s.depth) ∷ []) ∙
     ap (λ u. u ∷ reverse (map (type_under s.types s.depth) s.vars)) (under-none s.types s.depth n))
 
+-- one more term variable stands before the types of the others
 pub with-var-types : {old new : Scope} {n : ℕ} → IsWithVar old new n → types_of new ≡ at old.types n ∷ types_of old
 with-var-types {old} {new} {n} w =
     same-scope new (record { types = old.types; kinds = old.kinds; depth = old.depth; vars = old.vars ++ (n, old.depth) ∷ [] }) w.same_depth w.more_vars w.same_types ∙ types-var old n
@@ -139,10 +149,12 @@ types-type : (s : Scope) (ks : List Kind) → All (λ x. x.1 ≤ s.depth) s.vars
 unfolding types_of
 types-type s ks h = ap reverse (map-under s.types s.depth s.vars h) ∙ raised-vars (map (type_under s.types s.depth) s.vars)
 
+-- one more type variable shifts the types of the term variables
 pub with-type-types : {old new : Scope} {k : Kind} → IsWithType old new k → types_of new ≡ shift_all (types_of old)
 with-type-types {old} {new} {k} w =
     same-scope new (record { types = old.types; kinds = new.kinds; depth = old.depth + 1; vars = old.vars }) w.more_depth w.same_vars w.same_types ∙ types-type old new.kinds w.bound.depths
 
+-- in a scope that has grown from one with a type variable more, this variable is the last one
 pub with-type-last : {a b c : Scope} {k : Kind} → IsWithType a b k → Grows b c → IsLastType c
 with-type-last {a} {b} {c} {k} w g =
     let d = g.same_depth ∙ w.more_depth in
@@ -165,11 +177,13 @@ type-back {a} {b} {c} {d} {k} w g o =
 
 -- ---- for the code, whose scope is seen as `s`
 
+-- a type made in the list of a scope is made in the scope
 pub wrapped : {s : Scope} (f : List Ty → Ty) (ts us : List Ty) (ks : List Kind) (d : ℕ) (xs : List (ℕ × ℕ)) (n : ℕ) → record { types = ts; kinds = ks; depth = d; vars = xs } ≡ s → AreBound (length ts) d xs → Begins ts us → Holds us n (f ts)
     → Makes s (record { types = us; kinds = ks; depth = d; vars = xs }) n (f s.types)
 wrapped f ts us ks d xs n e h b k =
     subst (λ s. Makes s (record { types = us; kinds = ks; depth = d; vars = xs }) n (f s.types)) e (record { grows = grows-of {old = record { types = ts; kinds = ks; depth = d; vars = xs }} {new = record { types = us; kinds = ks; depth = d; vars = xs }} b h.numbers refl refl refl; holds = k })
 
+-- a type found in the list of a scope is found in the scope
 pub wrapped-find : {s : Scope} (f : Scope → Option Ty) (ts us : List Ty) (ks : List Kind) (d : ℕ) (xs : List (ℕ × ℕ)) (o : Option ℕ) → record { types = ts; kinds = ks; depth = d; vars = xs } ≡ s → AreBound (length ts) d xs → Begins ts us
     → NumberOf us o (f (record { types = ts; kinds = ks; depth = d; vars = xs })) → Finds s (record { types = us; kinds = ks; depth = d; vars = xs }) o (f s)
 wrapped-find f ts us ks d xs o e h b k =
@@ -186,9 +200,11 @@ found-some {s} n t h e = record { grows = grows-itself s; is_number = subst (Num
 tree-of : (b : Truth) (s t : Ty) → (IsTrue b ↔ s ≡ t) → b ≡ same_ty t s
 tree-of b s t h = test-is b t s (λ p. sym (h.0 p), λ p. h.1 (sym p))
 
+-- the test of the list for a type is the test for sameness
 pub tree-test : {s : Scope} (ts : List Ty) (ks : List Kind) (d : ℕ) (xs : List (ℕ × ℕ)) (n : ℕ) (t : Ty) (b : Truth) → record { types = ts; kinds = ks; depth = d; vars = xs } ≡ s → (IsTrue b ↔ at ts n ≡ t) → b ≡ same_ty t (at s.types n)
 tree-test ts ks d xs n t b e h = subst (λ s. b ≡ same_ty t (at s.types n)) e (tree-of b (at ts n) t h)
 
+-- the test of the list for two numbers is the test for sameness of their types
 pub same-test : {s : Scope} (ts : List Ty) (ks : List Kind) (d : ℕ) (xs : List (ℕ × ℕ)) (m n : ℕ) (b : Truth) → record { types = ts; kinds = ks; depth = d; vars = xs } ≡ s → (IsTrue b ↔ at ts m ≡ at ts n) → b ≡ same_ty (at s.types m) (at s.types n)
 same-test ts ks d xs m n b e h = subst (λ s. b ≡ same_ty (at s.types m) (at s.types n)) e (test-is b (at ts m) (at ts n) h)
 
@@ -199,6 +215,7 @@ place [] i x h e = absurd (omega (arith, h))
 place (y ∷ xs) zero x h e = ap Some e
 place (y ∷ xs) (suc i) x h e = place xs i x (omega (arith, h)) e
 
+-- a term variable has the type that the scope notes, seen past the type variables since
 pub var-at : (s : Scope) (i : ℕ) (x : ℕ × ℕ) → i < length s.vars → x ≡ get_or s.vars (length s.vars - 1 - i) x → Some (type_under s.types s.depth x) ≡ slice_get (types_of s) i
 unfolding types_of
 var-at s i x h at-x =
@@ -210,6 +227,7 @@ var-at s i x h at-x =
     let q = get_or-reverse ts i t inside ∙ (ap (λ m. get_or ts (m - 1 - i) t) n ∙ (get_or-map g s.vars (length s.vars - 1 - i) x t (omega (arith, h)) ∙ ap g (sym at-x))) in
     place (reverse ts) i t (subst (λ m. i < m) (sym (length-reverse ts)) inside) (sym q)
 
+-- an index past the variables of a scope has no type
 pub no-var : (s : Scope) (i : ℕ) → length s.vars ≤ i → slice_get (types_of s) i ≡ None
 unfolding types_of
 no-var s i h =

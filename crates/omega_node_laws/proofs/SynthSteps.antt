@@ -1,4 +1,5 @@
 -- The type of each form of term, from the types of its parts.
+-- Main results: has-number.
 use Rattle.std.proofs.Common.{◌≡◌, ℕ, List, Option, Some, ap, ap₂, subst}
 use Rattle.omega_kinds.specs.Kind.{Kind}
 use Rattle.omega_kinds.specs.declared.label.Label.{Label}
@@ -15,6 +16,7 @@ use Rattle.omega_node_laws.proofs.ScopeSteps.{number-at, number-some, type-some,
 
 -- ---- a term that was synthesised in a part of the way
 
+-- where a type has a number, the list has the type
 pub has-number : (ts : List Ty) (o : Option ℕ) (s : Option Ty) (n : ℕ) → NumberOf ts o s → o ≡ Some n → Has ts s
 has-number ts o s n h e = record { number = n; is_number = subst (λ p. NumberOf ts p s) e h }
 

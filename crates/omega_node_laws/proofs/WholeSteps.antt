@@ -1,4 +1,5 @@
 -- Terms without parts, records and the branches of a case, from their parts in a row.
+-- Main results: leaf-done, record-done, branch-more.
 use Rattle.std.proofs.Common.{◌≡◌, ℕ, ◌∷◌, Some, None, true, ◌&&◌, if◌then◌else◌, refl, sym, ap, ap₂, ◌∙◌, subst}
 use Rattle.std.specs.Option.{option_map}
 use Rattle.std.specs.Ordering.{is_eq}
@@ -25,6 +26,7 @@ use Rattle.omega_node_laws.proofs.SynthSteps.{moved, has-number, with-parts}
 
 -- ---- leaves
 
+-- the type of a term without parts
 pub leaf-done : {z c : Scope} (e : Term) (t : Ty) (n : ℕ) → IsLeaf e → synth_in z.kinds (types_of z) e ≡ Some t → Makes z c n t → Synthesises z c z.kinds (types_of z) e (Some n)
 leaf-done {z} {c} e t n l s m =
     let number = subst (NumberOf c.types (Some n)) (sym s) m.holds in
@@ -55,6 +57,7 @@ all-found (FindsFields.more {a} {b} {c} {l} {e} {n} {xs} {parts} s r) =
       held = (h.held n refl, subst (λ k. HeldFields c.types k (types_of a) (term_row xs)) s.grows.same_kinds (subst (λ v. HeldFields c.types b.kinds v (term_row xs)) s.grows.same_types q.held));
     }
 
+-- the type of a record, from those of its fields
 pub record-done : {z y c : Scope} {xs : TermPairs} {parts : Parts} {n : ℕ} → FindsFields z y xs parts → Rises xs → Makes y c n (Ty.Fields (row_at y.types parts)) → Synthesises z c z.kinds (types_of z) (Term.Fields (term_row xs)) (Some n)
 record-done {z} {y} {c} {xs} {parts} {n} f r m =
     let q = all-found f in
@@ -66,9 +69,11 @@ record-done {z} {y} {c} {xs} {parts} {n} f r m =
 
 -- ---- branches
 
+-- no branches have the labels of an empty sum
 pub no-branch : (z : Scope) (t : Ty) → FindsBranches z z TermRow.End Row.End t true
 no-branch z t = record { grows = grows-itself z; value = refl; held = (λ p. tt) }
 
+-- one more branch has the next label of the sum, and the type
 pub branch-more : (a b c : Scope) (l : Label) (e : Term) (rest : TermRow) (u t : Ty) (r : Row) (n : ℕ) → Synthesises a b a.kinds (u ∷ types_of a) e (Some n) → at b.types n ≡ t → FindsBranches b c rest r t true → FindsBranches a c (TermRow.More l e rest) (Row.More l u r) t true
 branch-more a b c l e rest u t r n s p h =
     let one = type-some b.types (Some n) (synth_in a.kinds (u ∷ types_of a) e) n s.is_number refl in

@@ -1,4 +1,5 @@
 -- All bytes have an answer: a text that is not too deep, or a refusal, and not both.
+-- Main results: unread, unrefused, answered.
 use Rattle.std.proofs.Common.{◌≡◌, Bool, true, false, List, ℕ, Option, Some, None, refl, inl, inr}
 use Rattle.std.specs.Prelude.{◌⊎◌}
 use Rattle.omega_types.specs.Ty.{Ty}
@@ -13,9 +14,11 @@ apart : (b : Bool) → b ≡ true → b ≡ false → ⊥
 apart true p q = cc
 apart false p q = cc
 
+-- a text that is not too deep and that the reader does not read is no Omega text
 pub unread : (bytes : List ℕ) → is_too_deep bytes ≡ false → omega_at bytes ≡ None → IsOmega bytes → ⊥
 unread bytes s e o = let g = omega-again bytes o.0 o.1 o.2 s in cc
 
+-- an Omega text that is not too deep is not refused
 pub unrefused : (bytes : List ℕ) (t : Ty) (e : Term) → OmegaText bytes t e → is_too_deep bytes ≡ false → (r : Refused) → Refuses bytes r → ⊥
 unrefused bytes t e o s IsVersion h = apart (is_version bytes) h (not-refused bytes t e o).0
 unrefused bytes t e o s IsTooDeep h = apart (is_too_deep bytes) h.1 s
@@ -33,6 +36,7 @@ unread-answer bytes v s e = pick (has_wide bytes) refl (omega_at (zeroed bytes))
     pick true q (Some x) p = inr (IsWide, (v, s, ((x.0, x.1, omega-takes (zeroed bytes) x.0 x.1 p), q)))
     pick true q None p = inr (IsNotOmega, (v, s, not-wide bytes s p, unread bytes s e))
 
+-- all bytes are an Omega text that is not too deep, or are refused
 pub answered : (bytes : List ℕ) → Answer bytes
 answered bytes = pick (is_version bytes) refl (is_too_deep bytes) refl (omega_at bytes) refl
   where

@@ -1,4 +1,5 @@
 -- A text with no more than 4,000 open parentheses spells a type that is no deeper.
+-- Main results: kind-shows, field-shows, two-shows.
 use Rattle.std.proofs.Common.{◌≡◌, ℕ, ◌+◌, ◌-◌, ◌^◌, ◌<◌, ◌≤◌, max, Bool, true, false, List, [], ◌∷◌, ◌++◌, refl, sym, ap, ◌∙◌, subst, arith, inl, inr}
 use Rattle.std.specs.Prelude.{◌⊎◌, codes, decimal, ◌&&◌, ◌||◌, ◌==◌, not, nat_lt, Option, Some, None}
 use Rattle.std.specs.Char.{is_ascii_digit}
@@ -23,6 +24,7 @@ use Rattle.omega_spelling.proofs.Types.{built-is, closed-is, field-is}
 abbrev pub quiet : ℕ → Bool
 quiet b = not (b == 34) && not (b == 40) && not (b == 41)
 
+-- if neither of two holds, each does not
 pub or-no : (a b : Bool) → (a || b) ≡ false → (a ≡ false) × (b ≡ false)
 or-no true b e = absurd cc
 or-no false b e = (refl, e)
@@ -45,6 +47,7 @@ quiet-step b o c rest q e =
         let j : o + 0 ≡ o = omega arith in
         rw (k, j) at t.1
 
+-- bytes without parentheses and quotation marks do not change how deep a text is
 pub quiet-run : (xs : List ℕ) (o c : ℕ) (rest : List ℕ) → passes quiet xs ≡ true → deep_from Outside o c (xs ++ rest) ≡ false → deep_from Outside o c rest ≡ false
 quiet-run [] o c rest q e = e
 quiet-run (x ∷ xs) o c rest q e = let t = and_ok (quiet x) (passes quiet xs) q in quiet-run xs o c rest t.1 (quiet-step x o c (xs ++ rest) t.0 e)
@@ -52,6 +55,7 @@ quiet-run (x ∷ xs) o c rest q e = let t = and_ok (quiet x) (passes quiet xs) q
 not-below : (a b : ℕ) → nat_lt a b ≡ false → b ≤ a
 not-below a b e = grind (arith, nat_tests)
 
+-- an open parenthesis is one of those that the depth allows
 pub open-step : (o c : ℕ) (rest : List ℕ) → deep_from Outside o c (40 ∷ rest) ≡ false → (o + 1 ≤ c + 4000) × (deep_from Outside (o + 1) c rest ≡ false)
 open-step o c rest e =
     let t = or-no (nat_lt (c + 0 + 4000) (o + 1)) (deep_from Outside (o + 1) (c + 0) rest) e in
@@ -59,6 +63,7 @@ open-step o c rest e =
     let le = not-below (c + 0 + 4000) (o + 1) t.0 in
     (omega (arith, le), rw k at t.1)
 
+-- a closed parenthesis is counted as closed
 pub close-step : (o c : ℕ) (rest : List ℕ) → deep_from Outside o c (41 ∷ rest) ≡ false → deep_from Outside o (c + 1) rest ≡ false
 close-step o c rest e =
     let t = or-no (nat_lt (c + 1 + 4000) (o + 0)) (deep_from Outside (o + 0) (c + 1) rest) e in
@@ -81,10 +86,12 @@ quiet-from p x y z b e = rw (other p 34 b x e, other p 40 b y e, other p 41 b z 
     other : (p : ℕ → Bool) (c b : ℕ) → p c ≡ false → p b ≡ true → (b == c) ≡ false
     other p c b x e = pick p c b x e (b == c) refl
 
+-- bytes that pass a test which the marks and parentheses fail are without these
 pub quiet-all : (p : ℕ → Bool) → p 34 ≡ false → p 40 ≡ false → p 41 ≡ false → (xs : List ℕ) → passes p xs ≡ true → passes quiet xs ≡ true
 quiet-all p x y z [] e = refl
 quiet-all p x y z (b ∷ bs) e = let t = and_ok (p b) (passes p bs) e in rw (quiet-from p x y z b t.0, quiet-all p x y z bs t.1) refl
 
+-- if one of two tests holds, the first or the second does
 pub or-cases : (a b : Bool) → (a || b) ≡ true → (a ≡ true) ⊎ (b ≡ true)
 or-cases true b e = inl refl
 or-cases false b e = inr e
@@ -104,6 +111,7 @@ name-quiet bytes ok =
         rw (quiet-from (λ b. b == 37) refl refl refl p t.0, quiet-from is_ascii_digit refl refl refl d t.1) refl
     hidden-quiet (p ∷ d ∷ x ∷ bs) e = absurd cc
 
+-- a spelled label has no parentheses and no quotation marks
 pub label-quiet : (l : Label) → LabelSpelled l → passes quiet (label_text l) ≡ true
 label-quiet Val ok = refl
 label-quiet Typ ok = refl
@@ -121,12 +129,14 @@ pub record Shallow (o c d : ℕ) (rest : List ℕ) : Type 0 where
 abbrev pub Shows : List ℕ → ℕ → Type 0
 Shows text d = (o c : ℕ) (rest : List ℕ) → deep_from Outside o c (text ++ rest) ≡ false → Shallow o c d rest
 
+-- a text without parentheses and quotation marks is of depth 0
 pub quiet-shows : (text : List ℕ) → passes quiet text ≡ true → Shows text 0
 quiet-shows text q o c rest e =
     let k : o + 0 ≡ o = omega arith in
     let j : c + 0 ≡ c = omega arith in
     record { fits = λ some. absurd (omega arith); more = 0; later = rw (k, j) (quiet-run text o c rest q e) }
 
+-- two texts in parentheses show the greater of their depths, and one more
 pub two-shows : (front a b : List ℕ) (da db : ℕ) → passes quiet front ≡ true → Shows a da → Shows b db → (o c : ℕ) (rest : List ℕ)
     → deep_from Outside o c (40 ∷ (front ++ (a ++ (32 ∷ (b ++ (41 ∷ rest)))))) ≡ false → Shallow o c (max da db + 1) rest
 two-shows front a b da db q sa sb o c rest e =
@@ -144,6 +154,7 @@ two-shows front a b da db q sa sb o c rest e =
     deepest : (o c da db m : ℕ) → o + 1 ≤ c + 4000 → (0 < da → o + 1 + da ≤ c + 4000) → (0 < db → o + 1 + m + db ≤ c + m + 4000) → o + (max da db + 1) ≤ c + 4000
     deepest o c da db m x y z = grind arith
 
+-- the text of a kind shows its depth
 pub kind-shows : (k : Kind) → Shows (kind_text k) (kind_deep k)
 kind-shows Star = quiet-shows (codes "*") refl
 kind-shows (ArrowKind a b) = λ o c rest e.
@@ -168,6 +179,7 @@ closed-shows front a da q sa o c rest e =
     deepest : (o c da : ℕ) → o + 1 ≤ c + 4000 → (0 < da → o + 1 + da ≤ c + 4000) → o + (da + 1) ≤ c + 4000
     deepest o c da x y = grind arith
 
+-- the text of a field and of those after it shows the greater of their depths
 pub field-shows : (l a b : List ℕ) (da db : ℕ) → passes quiet l ≡ true → Shows a da → Shows b db → (o c : ℕ) (rest : List ℕ)
     → deep_from Outside o c (codes " (" ++ (l ++ (32 ∷ (a ++ (41 ∷ (b ++ rest)))))) ≡ false → Shallow o c (max da db) rest
 field-shows l a b da db q sa sb o c rest e =

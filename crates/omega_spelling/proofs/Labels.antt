@@ -1,4 +1,5 @@
 -- Labels are read as they are written.
+-- Main results: label-reads.
 use Rattle.std.proofs.Common.{◌≡◌, ℕ, Bool, true, false, List, [], ◌∷◌, ◌++◌, Some, refl, sym, ap, ◌∙◌, subst, arith, inl, inr}
 use Rattle.std.specs.Prelude.{◌⊎◌, ◌&&◌, ◌||◌, ◌==◌, not}
 use Rattle.std.specs.Char.{is_ascii_digit}
@@ -96,5 +97,6 @@ label-again (Name bytes) rest ok ends =
       | inr h ↦ hidden-again bytes rest h
     ]
 
+-- the reader of labels takes just the texts of spelled labels
 pub label-reads : Reads label_at label_text LabelSpelled
 label-reads = record { takes = label-takes; again = label-again }

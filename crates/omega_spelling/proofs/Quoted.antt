@@ -1,4 +1,5 @@
 -- Signed numbers and texts are read as they are written.
+-- Main results: signed-reads, chars-again, chars-takes.
 use Rattle.std.proofs.Common.{◌≡◌, ℕ, suc, ◌+◌, ◌-◌, ◌^◌, ◌<◌, Bool, true, false, cond, List, [], ◌∷◌, ◌++◌, length, Option, Some, None, refl, sym, ap, ◌∙◌, subst, append_assoc, arith, inl, inr}
 use Rattle.std.specs.Prelude.{◌⊎◌, codes, decimal, flat_map, ◌&&◌, ◌||◌, ◌==◌, nat_lt, ℤ, pos, negsuc}
 use Rattle.std.specs.Fmt.{signed_decimal}
@@ -14,6 +15,7 @@ use Rattle.omega_spelling.proofs.Types.{below-test}
 true-false : (let t : Bool = true in t) ≡ false → ⊥
 true-false e = cc
 
+-- a byte that passes a test is none that fails it
 pub differs : (b c : ℕ) (p : ℕ → Bool) → p c ≡ false → p b ≡ true → (b == c) ≡ false
 differs b c p x e = pick (b == c) refl
   where
@@ -67,6 +69,7 @@ positive-takes bytes z rest e =
     let left : b.0.1 ≡ rest = ap (λ (x : ℤ × List ℕ). x.1) t.1 in
     subst (λ (x : ℤ). (bytes ≡ signed_decimal x ++ rest) × SignedFits x) (ap (λ (x : ℤ × List ℕ). x.0) t.1) (m.0 ∙ ap (λ (w : List ℕ). decimal k ++ w) left, test-below k (2 ^ 63) t.0)
 
+-- the reader of signed numbers takes just the decimals of those that fit 64 bits
 pub signed-reads : Reads signed_at signed_decimal SignedFits
 unfolding signed_at
 signed-reads = record {
@@ -82,6 +85,7 @@ pub data Sorted (b : ℕ) : Type 0 where
   line : b ≡ 10 → Sorted b
   other : (b == 34) ≡ false → (b == 92) ≡ false → (b == 10) ≡ false → Sorted b
 
+-- each byte is of one of the sorts that quoted text tells apart
 pub sorted : (b : ℕ) → Sorted b
 sorted b = first (b == 34) refl
   where
@@ -100,6 +104,7 @@ sorted b = first (b == 34) refl
 pub printed : (b : ℕ) → (b == 10) ≡ false → (b == 10 || is_printed b) ≡ true → is_printed b ≡ true
 printed b x h = rw x at h
 
+-- quoted bytes are read again up to the quotation mark
 pub chars-again : (xs rest : List ℕ) → all_spelled xs ≡ true → chars_at false (flat_map byte_text xs ++ (34 ∷ rest)) ≡ Some (xs, rest)
 unfolding chars_at
 chars-again [] rest h = refl
@@ -140,6 +145,7 @@ one-more b front tail xs rest more text ok e =
 printed-other : (b : ℕ) → is_printed b ≡ true → (b == 10) ≡ false
 printed-other b e = differs b 10 is_printed refl e
 
+-- what is read of quoted text is the bytes that it spells
 pub chars-takes : (bytes : List ℕ) (escaped : Bool) (xs rest : List ℕ) → chars_at escaped bytes ≡ Some (xs, rest) → Chars (from_slash escaped bytes) xs rest
 unfolding chars_at
 chars-takes [] escaped xs rest e = absurd cc

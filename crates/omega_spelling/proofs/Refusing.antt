@@ -1,4 +1,5 @@
 -- No two refusals hold of the same bytes.
+-- Main results: exclusive.
 use Rattle.std.proofs.Common.{◌≡◌, ℕ, Bool, true, false, List, refl}
 use Rattle.omega_spelling.specs.Refusals.{is_version, is_too_deep}
 use Rattle.omega_spelling.specs.Refused.{Refused, IsVersion, IsTooDeep, IsWide, IsNotOmega, Refuses}
@@ -7,6 +8,7 @@ apart : (b : Bool) → b ≡ true → b ≡ false → ⊥
 apart true p q = cc
 apart false p q = cc
 
+-- bytes have at most one refusal
 pub exclusive : (bytes : List ℕ) (a b : Refused) → Refuses bytes a → Refuses bytes b → a ≡ b
 exclusive bytes IsVersion IsVersion p q = refl
 exclusive bytes IsVersion IsTooDeep p q = absurd (apart (is_version bytes) p q.0)

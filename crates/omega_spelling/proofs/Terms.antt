@@ -1,4 +1,5 @@
 -- Terms are read as they are written.
+-- Main results: term-reads.
 use Rattle.std.proofs.Common.{◌≡◌, ℕ, zero, suc, ◌+◌, ◌-◌, ◌^◌, ◌<◌, ◌≤◌, Bool as Truth, true, false, cond, List, [], ◌∷◌, ◌++◌, length, Option, Some, None, refl, sym, ap, ◌∙◌, subst, append_assoc, arith, inl, inr}
 use Rattle.std.specs.Prelude.{◌⊎◌, codes, decimal, flat_map, nat_lt, ◌==◌, ℤ, pos, negsuc}
 use Rattle.std.specs.Fmt.{signed_decimal}
@@ -27,6 +28,7 @@ use Rattle.omega_spelling.proofs.Quoted.{no-front, signed-reads, chars-again, ch
 
 -- ---- three parts
 
+-- three parts in parentheses, regrouped as a reader takes them
 pub three-is : (p a b c rest : List ℕ) → (p then a then codes " " then b then codes " " then c then codes ")") ++ rest ≡ p ++ (a ++ (32 ∷ (b ++ (32 ∷ (c ++ (41 ∷ rest))))))
 unfolding ◌then◌
 three-is p a b c rest = simp append_assoc
@@ -53,6 +55,7 @@ three-takes mk f g h ta tb tc Pa Pb Pc rf rg rh bytes w rest e =
 
 -- ---- two parts and branches
 
+-- a case with its branches, regrouped as a reader takes it
 pub case-is : (p a b c rest : List ℕ) → (p then a then codes " " then b then c then codes ")") ++ rest ≡ p ++ (a ++ (32 ∷ (b ++ (c ++ (41 ∷ rest)))))
 unfolding ◌then◌
 case-is p a b c rest = simp append_assoc
@@ -65,6 +68,7 @@ row-ends n m (More l t r) rest = refl
 
 -- ---- leaves and fields
 
+-- quoted bytes, regrouped as a reader takes them
 pub quoted-is : (bytes rest : List ℕ) → (codes "\"" then flat_map byte_text bytes then codes "\"") ++ rest ≡ 34 ∷ (flat_map byte_text bytes ++ (34 ∷ rest))
 unfolding ◌then◌
 quoted-is bytes rest = simp append_assoc

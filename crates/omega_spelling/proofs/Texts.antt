@@ -1,4 +1,5 @@
 -- A whole Omega text is the text of one type and one term, in one version.
+-- Main results: one-text, one-tree.
 use Rattle.std.proofs.Common.{◌≡◌, ◌≢◌, ℕ, max, List, [], ◌∷◌, ◌++◌, Some, None, refl, sym, ap, ◌∙◌, subst, arith}
 use Rattle.std.specs.Prelude.{codes}
 use Rattle.omega_kinds.specs.Text.{◌then◌}
@@ -17,6 +18,7 @@ use Rattle.omega_spelling.proofs.Steps.{some_is, some-none, strip-again, Ends}
 use Rattle.omega_spelling.proofs.Types.{ty-reads}
 use Rattle.omega_spelling.proofs.Terms.{term-reads}
 
+-- an Omega text, regrouped as a reader takes it
 pub text-is : (v : Version) (t : Ty) (e : Term) → version_text v t e ≡ version_line v ++ (ty_text 0 t ++ (10 ∷ (term_text 0 0 e ++ (10 ∷ []))))
 unfolding ◌then◌
 text-is v t e = refl
@@ -65,6 +67,7 @@ module _ (v : Version) where
   pub one-type : (n : ℕ) (t u : Ty) → TySpelled v n t → TySpelled v n u → ty_text n t ≡ ty_text n u → t ≡ u
   one-type n t u p q e = (ty-front n t u [] [] p q tt tt (ap (λ (w : List ℕ). w ++ []) e)).0
 
+-- equal texts are of one version, one type and one term
 pub one-text : (v w : Version) (t u : Ty) (e f : Term) → TySpelled v 0 t → TySpelled w 0 u → TermSpelled v 0 0 e → TermSpelled w 0 0 f
     → version_text v t e ≡ version_text w u f → (v ≡ w) × (t ≡ u) × (e ≡ f)
 one-text v w t u e f p q r s same =
@@ -73,6 +76,7 @@ one-text v w t u e f p q r s same =
     let trees = one-body v t u e f p (subst (λ (x : Version). TySpelled x 0 u) back q) r (subst (λ (x : Version). TermSpelled x 0 0 f) back s) lines.1 in
     (lines.0, trees.0, trees.1)
 
+-- bytes are the Omega text of at most one type and one term
 pub one-tree : (bytes : List ℕ) (t u : Ty) (e f : Term) → OmegaText bytes t e → OmegaText bytes u f → (t ≡ u) × (e ≡ f)
 one-tree bytes t u e f (v, p) (w, q) =
     let same = one-text v w t u e f p.type_spelled q.type_spelled p.term_spelled q.term_spelled (sym p.text ∙ q.text) in

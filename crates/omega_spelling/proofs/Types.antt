@@ -1,4 +1,5 @@
 -- Kinds and types are read as they are written.
+-- Main results: kind-reads, ty-reads.
 use Rattle.std.proofs.Common.{◌≡◌, ℕ, zero, suc, ◌+◌, ◌-◌, ◌^◌, ◌<◌, ◌≤◌, true, cond, List, ◌∷◌, ◌++◌, length, Option, Some, None, refl, sym, ap, ◌∙◌, subst, append_assoc, arith}
 use Rattle.std.specs.Prelude.{codes, decimal, nat_lt}
 use Rattle.std.proofs.lemmas.Bool.Decides.{nat_tests}
@@ -17,6 +18,7 @@ use Rattle.omega_spelling.proofs.Steps.{bind_ok, step, constant, some_is, if_ok,
 use Rattle.omega_spelling.proofs.Numbers.{number-reads, test-below}
 use Rattle.omega_spelling.proofs.Labels.{label-reads}
 
+-- a number below a bound passes the test
 pub below-test : (a b : ℕ) → a < b → nat_lt a b ≡ true
 below-test a b lt = grind (arith, nat_tests)
 
@@ -25,6 +27,7 @@ below-test a b lt = grind (arith, nat_tests)
 abbrev pub KindFits : ℕ → Kind → Type 0
 KindFits d k = kind_deep k ≤ d
 
+-- nothing is not a value
 pub none-some : {A Goal : Type 0} (y : A) → (let n : Option A = None in n) ≡ Some y → Goal
 none-some y e = absurd cc
 
@@ -33,6 +36,7 @@ pub built-is : (p a b rest : List ℕ) → (p then a then codes " " then b then 
 unfolding ◌then◌
 built-is p a b rest = simp append_assoc
 
+-- the text of two parts in parentheses, put together of what was read
 pub built : (p a b rest bytes r : List ℕ) → bytes ≡ p ++ r → r ≡ a ++ (32 ∷ (b ++ (41 ∷ rest))) → bytes ≡ (p then a then codes " " then b then codes ")") ++ rest
 built p a b rest bytes r e f = e ∙ ap (λ (w : List ℕ). p ++ w) f ∙ sym (built-is p a b rest)
 
@@ -66,16 +70,19 @@ kind-step d reads = record {
         subst (λ (w : List ℕ). kind_at (suc d) w ≡ Some (ArrowKind a b, rest)) (sym (built-is (codes "(> ") (kind_text a) (kind_text b) rest))
         (two-again ArrowKind (kind_at d) (kind_at d) kind_text kind_text (KindFits d) (KindFits d) reads reads a b rest (omega arith) (omega arith))
 
+-- the reader of kinds takes just the texts of those that are not too deep for it
 pub kind-reads : (d : ℕ) → Reads (kind_at d) kind_text (KindFits d)
 kind-reads zero = kind-zero
 kind-reads (suc d) = kind-step d (kind-reads d)
 
 -- ---- fields, and variables
 
+-- a field and those after it, regrouped as a reader takes them
 pub field-is : (p a b c rest : List ℕ) → (p then a then codes " " then b then codes ")" then c) ++ rest ≡ p ++ (a ++ (32 ∷ (b ++ (41 ∷ (c ++ rest)))))
 unfolding ◌then◌
 field-is p a b c rest = simp append_assoc
 
+-- one part in parentheses, regrouped as a reader takes it
 pub closed-is : (p a rest : List ℕ) → (p then a then codes ")") ++ rest ≡ p ++ (a ++ (41 ∷ rest))
 unfolding ◌then◌
 closed-is p a rest = simp append_assoc

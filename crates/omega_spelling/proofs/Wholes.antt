@@ -1,4 +1,5 @@
 -- A whole Omega text with no more than 4,000 open parentheses is read as it is written, and nothing else is read.
+-- Main results: omega-again, omega-takes.
 use Rattle.std.proofs.Common.{◌≡◌, ℕ, zero, suc, ◌+◌, ◌<◌, ◌≤◌, true, false, List, [], ◌∷◌, ◌++◌, Some, None, refl, sym, ap, ◌∙◌, subst, arith}
 use Rattle.std.specs.Prelude.{codes}
 use Rattle.omega_types.specs.Ty.{Ty}
@@ -50,6 +51,7 @@ unfolding is_version strip run
 version-known First rest = refl
 version-known Second rest = refl
 
+-- the first line has no parentheses and no quotation marks
 pub line-quiet : (v : Version) → passes quiet (version_line v) ≡ true
 line-quiet First = refl
 line-quiet Second = refl
@@ -71,6 +73,7 @@ deep-text v t e p q shallow =
     first zero h = omega arith
     first (suc n) h = omega (arith, h (omega arith))
 
+-- an Omega text that is not too deep is read as its type and its term
 pub omega-again : (bytes : List ℕ) (t : Ty) (e : Term) → OmegaText bytes t e → is_too_deep bytes ≡ false → omega_at bytes ≡ Some (t, e)
 unfolding omega_at strip
 omega-again bytes t e (v, o) shallow =
@@ -79,6 +82,7 @@ omega-again bytes t e (v, o) shallow =
     subst (λ (w : List ℕ). omega_at w ≡ Some (t, e)) (sym (o.text ∙ text-is v t e))
     (rw (version-again v (ty_text 0 t ++ (10 ∷ (term_text 0 0 e ++ (10 ∷ [])))), (ty-reads v 4000 0).again t (10 ∷ (term_text 0 0 e ++ (10 ∷ []))) (o.type_spelled, d.0) refl, (term-reads v 4000 0 0).again e (10 ∷ []) (o.term_spelled, d.1) refl) refl)
 
+-- what is read as a type and a term is their Omega text
 pub omega-takes : (bytes : List ℕ) (t : Ty) (e : Term) → omega_at bytes ≡ Some (t, e) → OmegaText bytes t e
 unfolding omega_at
 omega-takes bytes t e h =

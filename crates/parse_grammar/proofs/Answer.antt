@@ -1,4 +1,5 @@
 -- Each list of tokens is a phrase of a class from which a text starts, or has the number at which it goes wrong; never both.
+-- Main results: one_answer.
 use Rattle.std.proofs.Common.{◌≡◌, ℕ, List, [], ◌∷◌, length, le_refl, inl, inr, ◌⊎◌}
 use Rattle.parse_grammar.specs.Grammar.{Class, phrase}
 use Rattle.fing_lexer.specs.declared.token.Token.{Token}
@@ -9,6 +10,7 @@ use Rattle.parse_grammar.specs.Reading.{got, run, need}
 use Rattle.parse_grammar.proofs.Ends.{Ends, ends}
 use Rattle.parse_grammar.proofs.Laws.{stop_is_farthest, rest_is_farthest, end_is_phrase}
 
+-- a list of tokens is a phrase of a class from which a text starts, or goes wrong at a token
 pub one_answer : (n : Class) → Start n → (ts : List Token) → ((p : Value n) × Phrase n ts p) ⊎ Refused n ts
 one_answer n st ts = go (ends f (phrase n ∷ []) ts (le_refl f))
   where

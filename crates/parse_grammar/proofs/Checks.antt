@@ -1,4 +1,5 @@
 -- the tables are right for each production
+-- Main results: predicts, rules_ok.
 use Rattle.std.proofs.Common.{◌≡◌, ℕ, zero, suc, pred, ◌&&◌, ◌||◌, true, false, not, eqb, leb, length, refl, sym, ◌∙◌, ap, List, [], ◌∷◌}
 use Rattle.std.specs.Prelude.{Some}
 use Rattle.parse_grammar.specs.Grammar.{Terminal, a_keyword, a_mark, a_name, a_number, a_text, Class, Units, OneUnit, Binds, Bind, Decls, Decl, TypeOf, K, KArrow, KA, P, Dots, T, TArrow, TC, TArgs, TA, TFields, MoreTFields, S, SArrow, Wheres, SA, M, MArgs, Seals, MA, E, Lam, EBranches, MoreEBranches, Compare, ES, Sums, EM, Products, EP, Args, EA, Gets, EB, EFields, MoreEFields, phrase, Rule, rhs, no_units, more_units, unit_module, no_binds, more_binds, bind_val, bind_type, bind_data, bind_module, bind_signature, bind_include, no_decls, more_decls, decl_val, decl_type, decl_data, decl_module, decl_signature, decl_include, type_of_nothing, type_is, type_has, kind_chain, no_kind_arrow, kind_arrow, kind_type, kind_paren, path_name, path_from, no_dots, more_dots, ty_lam, ty_all, ty_chain, no_arrow, ty_arrow, ty_args, no_ty_args, more_ty_args, ty_int, ty_bool, ty_text, ty_path, ty_fields, ty_sum, ty_pack, ty_paren, no_ty_fields, ty_field, last_ty_field, next_ty_field, sig_fun, sig_where, generative, applicative, no_wheres, more_wheres, sig_path, sig_decls, sig_paren, mod_fun, mod_gen, mod_unpack, mod_chain, no_mod_args, more_mod_args, no_seals, seal, ascribe, mod_path, mod_struct, mod_let, mod_paren, exp_fun, exp_fix, exp_if, exp_case, exp_compare, lam_value, lam_type, no_branches, case_branch, last_branch, next_branch, no_compare, less_than, equal_to, sums, no_sums, add, subtract, products, no_products, multiply, divide, remainder, exp_args, no_args, exp_arg, ty_arg, exp_gets, no_gets, more_gets, exp_number, exp_text, exp_true, exp_false, exp_path, exp_fields, exp_inj, exp_roll, exp_unroll, exp_let, exp_pack, exp_paren, no_exp_fields, exp_field, last_exp_field, next_exp_field}
@@ -9,6 +10,7 @@ use Rattle.parse_grammar.proofs.Sets.{all, Each, rule_ok, all_empty, fits}
 use Rattle.parse_grammar.proofs.Samples.{behind}
 use Rattle.parse_grammar.specs.Reading.{ahead, lead}
 
+-- what may follow the class of a production passes the checks of the production
 pub rules_ok : {n : Class} → (r : Rule n) → all (rule_ok r) (follow n) ≡ true
 unfolding number_of can_be_empty firsts_of follow predicted
 rules_ok no_units = refl
@@ -199,9 +201,11 @@ decoded a_name = refl
 decoded a_number = refl
 decoded a_text = refl
 
+-- terminals of one number are the same
 pub same_terminal : (j k : Terminal) → number_of j ≡ number_of k → j ≡ k
 same_terminal j k e = sym (decoded j) ∙ ap decode e ∙ decoded k
 
+-- no terminal has the number 0, which stands for the end
 pub number_positive : (k : Terminal) → eqb 0 (number_of k) ≡ false
 unfolding number_of
 number_positive (a_keyword KwVal) = refl
@@ -261,6 +265,7 @@ number_positive a_name = refl
 number_positive a_number = refl
 number_positive a_text = refl
 
+-- a production leads no higher than its rank, has at most 11 symbols, and is empty only where its class may be
 pub leads_ok : {n : Class} → (r : Rule n) → leb (lead (rhs r)) (rank n) && (leb (length (rhs r)) 11 && (not (all_empty (rhs r)) || can_be_empty n)) ≡ true
 unfolding rank can_be_empty
 leads_ok no_units = refl
@@ -383,6 +388,7 @@ leads_ok exp_field = refl
 leads_ok last_exp_field = refl
 leads_ok next_exp_field = refl
 
+-- ranks are at most 6
 pub ranks_ok : (n : Class) → leb (rank n) 6 ≡ true
 unfolding rank
 ranks_ok Units = refl
@@ -429,6 +435,7 @@ ranks_ok EB = refl
 ranks_ok EFields = refl
 ranks_ok MoreEFields = refl
 
+-- what the table has behind a class may follow it
 pub behind_ok : (n : Class) → fits (phrase n ∷ []) (ahead (behind n)) ≡ true
 unfolding can_be_empty firsts_of follow number_of
 behind_ok Units = refl
@@ -475,6 +482,7 @@ behind_ok EB = refl
 behind_ok EFields = refl
 behind_ok MoreEFields = refl
 
+-- a production is chosen at each token that it predicts
 pub predicts : {n : Class} → (r : Rule n) → Each (λ j. choose n j ≡ Some r) (predicted r)
 unfolding choose predicted
 predicts no_units = (refl, tt)

@@ -1,9 +1,11 @@
 -- Only a production with nothing on its right side can spell nothing at once.
+-- Main results: empties.
 use Rattle.std.proofs.Common.{◌≡◌, ◌||◌, true, not, eqb, length, refl}
 use Rattle.parse_grammar.specs.Grammar.{Rule, rhs, no_units, more_units, unit_module, no_binds, more_binds, bind_val, bind_type, bind_data, bind_module, bind_signature, bind_include, no_decls, more_decls, decl_val, decl_type, decl_data, decl_module, decl_signature, decl_include, type_of_nothing, type_is, type_has, kind_chain, no_kind_arrow, kind_arrow, kind_type, kind_paren, path_name, path_from, no_dots, more_dots, ty_lam, ty_all, ty_chain, no_arrow, ty_arrow, ty_args, no_ty_args, more_ty_args, ty_int, ty_bool, ty_text, ty_path, ty_fields, ty_sum, ty_pack, ty_paren, no_ty_fields, ty_field, last_ty_field, next_ty_field, sig_fun, sig_where, generative, applicative, no_wheres, more_wheres, sig_path, sig_decls, sig_paren, mod_fun, mod_gen, mod_unpack, mod_chain, no_mod_args, more_mod_args, no_seals, seal, ascribe, mod_path, mod_struct, mod_let, mod_paren, exp_fun, exp_fix, exp_if, exp_case, exp_compare, lam_value, lam_type, no_branches, case_branch, last_branch, next_branch, no_compare, less_than, equal_to, sums, no_sums, add, subtract, products, no_products, multiply, divide, remainder, exp_args, no_args, exp_arg, ty_arg, exp_gets, no_gets, more_gets, exp_number, exp_text, exp_true, exp_false, exp_path, exp_fields, exp_inj, exp_roll, exp_unroll, exp_let, exp_pack, exp_paren, no_exp_fields, exp_field, last_exp_field, next_exp_field}
 use Rattle.parse_grammar.specs.Tables.{can_be_empty}
 use Rattle.parse_grammar.proofs.Sets.{all_empty}
 
+-- a production whose symbols may all be empty has none
 pub empties : {n : _} → (r : Rule n) → not (all_empty (rhs r)) || eqb (length (rhs r)) 0 ≡ true
 unfolding can_be_empty
 empties no_units = refl

@@ -1,4 +1,5 @@
 -- A run with enough fuel ends.
+-- Main results: ends, reads_phrase, reads_token.
 use Rattle.std.proofs.Common.{◌≡◌, ℕ, zero, suc, max, ◌+◌, ◌<◌, ◌≤◌, ◌&&◌, ◌||◌, not, Bool, true, false, cond, eqb, leb, refl, sym, ◌∙◌, ap, subst, List, [], ◌∷◌, ◌++◌, length, length-append, leb-true, arith, inl, inr, ◌⊎◌}
 use Rattle.std.specs.Prelude.{Option, Some, None}
 use Rattle.parse_grammar.specs.Grammar.{Terminal, kind_of, Class, Symbol, token, phrase, Rule, rhs}
@@ -14,12 +15,15 @@ use Rattle.parse_grammar.proofs.Front.{Got, Stopped, sound, stopped}
 abbrev pub Ends : ℕ → List Symbol → List Token → Type 0
 Ends f ss ts = ((vs : Values ss) × (rest : List Token) × (run f ss ts ≡ got vs rest)) ⊎ ((left : List Token) × (run f ss ts ≡ stop left))
 
+-- the right side of a production leads no higher than the rank of its class
 pub lead_rule : {n : Class} (r : Rule n) → lead (rhs r) ≤ rank n
 lead_rule {n} r = leb-true _ _ (and-left (leb (lead (rhs r)) (rank n)) _ (leads_ok r))
 
+-- the right side of a production has at most 11 symbols
 pub length_rule : {n : Class} (r : Rule n) → length (rhs r) ≤ 11
 length_rule {n} r = leb-true _ _ (and-left (leb (length (rhs r)) 11) (not (all_empty (rhs r)) || can_be_empty n) (and-right (leb (lead (rhs r)) (rank n)) _ (leads_ok r)))
 
+-- a class with a production whose symbols may all be empty may be empty
 pub empty_rule : {n : Class} (r : Rule n) → all_empty (rhs r) ≡ true → can_be_empty n ≡ true
 empty_rule {n} r e = go (all_empty (rhs r)) e (and-right (leb (length (rhs r)) 11) (not (all_empty (rhs r)) || can_be_empty n) (and-right (leb (lead (rhs r)) (rank n)) _ (leads_ok r)))
   where
@@ -47,6 +51,7 @@ lead_small (phrase n ∷ ss) = go (can_be_empty n) (lead_small ss)
     go true h = omega (arith, leb-true _ _ (ranks_ok n))
     go false h = omega (arith, leb-true _ _ (ranks_ok n))
 
+-- symbols that begin with a class lead higher than its rank
 pub lead_above : (n : Class) (ss : List Symbol) → suc (rank n) ≤ lead (phrase n ∷ ss)
 lead_above n ss = go (can_be_empty n)
   where
@@ -54,6 +59,7 @@ lead_above n ss = go (can_be_empty n)
     go true = omega arith
     go false = omega arith
 
+-- symbols lead no higher than those with a class before them that may be empty
 pub lead_rest : (n : Class) (ss : List Symbol) → can_be_empty n ≡ true → lead ss ≤ lead (phrase n ∷ ss)
 lead_rest n ss e = go (can_be_empty n) e
   where
@@ -81,6 +87,7 @@ into_rule : {n : Class} (r : Rule n) (ss : List Symbol) (k : ℕ) → need (rhs 
 unfolding need
 into_rule {n} r ss k = omega (arith, lead_rule r, length_rule r, lead_above n ss)
 
+-- behind a token less fuel is needed
 pub token_behind : (k : _) (ss : List Symbol) (n : ℕ) → need ss n < need (token k ∷ ss) (suc n)
 unfolding need
 token_behind k ss n = omega (arith, lead_small ss)
@@ -89,6 +96,7 @@ need_positive : (ss : List Symbol) (n : ℕ) → need ss n ≤ 0 → ⊥
 unfolding need
 need_positive ss n h = omega arith
 
+-- a run with enough fuel ends
 pub ends : (f : ℕ) (ss : List Symbol) (ts : List Token) → need ss (length ts) ≤ f → Ends f ss ts
 ends zero ss ts h = absurd (need_positive ss (length ts) h)
 ends (suc f) [] ts h = inl (tt, ts, refl)
@@ -137,20 +145,24 @@ stable f ss ts h = go (ends m ss ts (omega arith))
         let s : Stopped m ss ts q.0 = stopped m ss ts q.0 q.1 in
         ap (λ z. run f ss z) (sym s.split) ∙ s.other f q.0 h refl ∙ sym q.1
 
+-- reading no symbols takes no tokens
 pub reads_none : (ts : List Token) → reads [] ts ≡ got tt ts
 unfolding reads need
 reads_none ts = sym (stable (suc (need [] (length ts))) [] ts (omega arith))
 
+-- reading a token where none is left stops
 pub reads_no_token : (k : Terminal) (ss : List Symbol) → reads (token k ∷ ss) [] ≡ stop []
 unfolding reads need
 reads_no_token k ss = sym (stable (suc (need (token k ∷ ss) 0)) (token k ∷ ss) [] (omega arith))
 
+-- reading a token takes the first one if it is the wanted one, and stops otherwise
 pub reads_token : (k : Terminal) (ss : List Symbol) (t : Token) (ts : List Token) → reads (token k ∷ ss) (t ∷ ts) ≡ by_token (eqb (number_of (kind_of t)) (number_of k)) (reads ss ts) t ts
 reads_token k ss t ts =
     let f : ℕ = need ss (length ts) + need (token k ∷ ss) (suc (length ts)) in
     sym (stable (suc f) (token k ∷ ss) (t ∷ ts) (omega arith))
     ∙ ap (λ z. by_token (eqb (number_of (kind_of t)) (number_of k)) z t ts) (stable f ss ts (omega arith))
 
+-- reading a class goes on with the production that is chosen, or stops
 pub reads_phrase : (n : Class) (ss : List Symbol) (ts : List Token) → reads (phrase n ∷ ss) ts ≡ by_rule ss reads (choose n (ahead ts)) ts
 reads_phrase n ss ts = sym (stable (suc f) (phrase n ∷ ss) ts (omega arith)) ∙ go (choose n (ahead ts))
   where

@@ -1,4 +1,5 @@
 -- The code's choice of a production gives the move.
+-- Main results: choice_moves.
 use Rattle.std.proofs.Common.{◌≡◌, ℕ, List, refl, ◌∙◌, ap}
 use Rattle.std.specs.Prelude.{Option, option_map}
 use Rattle.fing_lexer.specs.declared.token.Token.{Token}
@@ -54,6 +55,7 @@ chosen_is ExpAtom j = refl
 chosen_is ExpFields j = refl
 chosen_is MoreExpFields j = refl
 
+-- the code's choice of a production for a class and a token is the move of the definitions
 pub choice_moves : (c : ClassIn) (j k : ℕ) (ts : List Token) (o : Option RuleIn) → j ≡ k → option_map rule_in o ≡ chosen c j
     → any_move ts (option_map rule_in o) ≡ any_move ts (option_map any (choose (class_in c) k))
 choice_moves c j k ts o p q = ap (λ z. any_move ts z) (q ∙ chosen_is c j ∙ ap (λ i. option_map any (choose (class_in c) i)) p)

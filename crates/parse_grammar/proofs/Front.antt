@@ -1,4 +1,5 @@
 -- What a run says of the tokens that it took, and of all other tokens behind them.
+-- Main results: sound, stopped.
 use Rattle.std.proofs.Common.{◌≡◌, ℕ, zero, suc, ◌≤◌, Bool, true, false, eqb, refl, sym, ◌∙◌, ap, ap₂, subst, List, [], ◌∷◌, ◌++◌, append_assoc, eqb-true, arith, inl, inr, ◌⊎◌}
 use Rattle.std.specs.Prelude.{Option, Some, None}
 use Rattle.parse_grammar.specs.Grammar.{Terminal, kind_of, Class, Symbol, token, phrase, Rule, rhs}
@@ -38,12 +39,15 @@ next_stop (got a m) k x e = inr (a, m, refl, e)
 next_stop {A} (stop m) k x e = inl (let q : m ≡ x = cc in ap (λ z. stop z) q)
 next_stop spent k x e = absurd (cc)
 
+-- runs that end with the same outcome leave the same tokens
 pub got_rest : {A : Type 0} {a b : A} {x y : List Token} → got a x ≡ got b y → x ≡ y
 got_rest e = cc
 
+-- runs that end with the same outcome have the same value
 pub got_value : {A : Type 0} {a b : A} {x y : List Token} → got a x ≡ got b y → a ≡ b
 got_value e = cc
 
+-- a run that ends is none that stops
 pub got_not_stop : {A : Type 0} {a : A} {x y : List Token} → got a x ≡ stop y → ⊥
 got_not_stop e = cc
 
@@ -104,6 +108,7 @@ step_rule f n ss ts r ws mid us vs rest p ev i1 i2 = record {
         ∙ ap (λ z. next z (λ vs rest. got (act r ws, vs) rest)) (i2.other g x (omega arith) q)
         ∙ ap (λ z. got z x) ev
 
+-- what a run gives is the trees that the tokens which it took spell
 pub sound : (f : ℕ) (ss : List Symbol) (ts : List Token) (vs : Values ss) (rest : List Token) → run f ss ts ≡ got vs rest → Got f ss ts vs rest
 sound zero ss ts vs rest e = absurd (cc)
 sound (suc f) [] ts vs rest e = record { trees = end; spelled = sym (got_rest e); given = got_value e; other = λ g x h q. at_end g x h }
@@ -224,6 +229,7 @@ stop_of A x = stop x
 stop_is : (A : Type 0) {x y : List Token} → stop_of A x ≡ stop_of A y → x ≡ y
 stop_is A e = cc
 
+-- where a run stops, no phrases begin with the tokens up to that place
 pub stopped : (f : ℕ) (ss : List Symbol) (ts left : List Token) → run f ss ts ≡ stop left → Stopped f ss ts left
 stopped zero ss ts left e = absurd (cc)
 stopped (suc f) [] ts left e = absurd (cc)

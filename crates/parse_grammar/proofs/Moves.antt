@@ -1,4 +1,5 @@
 -- Reading by a list of the symbols that are still wanted, one symbol at a time.
+-- Main results: at_start, on_rest.
 use Rattle.std.proofs.Common.{◌≡◌, ℕ, suc, Bool, true, false, ◌&&◌, ◌||◌, not, eqb, max, cond, ◌+◌, ◌-◌, ◌*◌, ◌<◌, refl, sym, ◌∙◌, ap, subst, List, [], ◌∷◌, ◌++◌, length, length-append, append_assoc, eqb-true, arith}
 use Rattle.std.specs.Prelude.{Option, None, Some, option_map}
 use Rattle.fing_lexer.specs.declared.token.Token.{Token}
@@ -107,6 +108,7 @@ cut (phrase n ∷ xs) ys (node r cs ts) =
       tracked = λ ms. i.tracked (track cs (by (any r) ∷ ms));
     }
 
+-- at the start the class is wanted, and no tokens are taken
 pub at_start : (m : Class) (tokens : List Token) → Reached m tokens tokens (phrase m ∷ []) []
 at_start m tokens = record { taken = []; split = refl; grows = λ c. (c, refl, refl); ends = refl }
 
@@ -249,6 +251,7 @@ left_over : {m : Class} {tokens rest : List Token} {t : Token} → Start m → (
 unfolding reads
 left_over {m} {tokens} {rest} {t} st q = wrong tokens (t ∷ rest) (rest_is_farthest (need (phrase m ∷ []) (length tokens)) tokens q.0 t rest st q.1)
 
+-- where no symbols are wanted and tokens are left, the text goes wrong at the first of these
 pub on_rest : {m : Class} {tokens rest : List Token} {ms : List Move} → Start m → 0 < length rest → Reached m tokens rest [] ms → WrongAt m tokens (length tokens - length rest)
 on_rest {rest = []} st h i = absurd (omega (arith, h))
 on_rest {m} {tokens} {rest = t ∷ rest} st h i = left_over st (over_got (reads (phrase m ∷ []) tokens) (t ∷ rest) (sym i.ends ∙ ap ended (reads_none (t ∷ rest))))

@@ -1,4 +1,5 @@
 -- A token is the wanted one where their numbers are equal.
+-- Main results: same_number.
 use Rattle.std.proofs.Common.{◌≡◌, ◌∙◌, ap, refl, sym, Bool, true, false, eqb, eqb-true, eq-eqb}
 use Rattle.parse_grammar.specs.Grammar.{Terminal, a_keyword, a_mark, a_name, a_number, a_text}
 use Rattle.parse_grammar.specs.Tables.{number_of}
@@ -24,6 +25,7 @@ and_back Text = refl
 same_view : (t u : TerminalIn) → terminal_in t ≡ terminal_in u → t ≡ u
 same_view t u e = sym (and_back t) ∙ ap back e ∙ and_back u
 
+-- the code's test for equal terminals is that of their numbers
 pub same_number : (b : Bool) (t u : TerminalIn) → (b ≡ true → t ≡ u) → (b ≡ false → t ≡ u → ⊥) → b ≡ eqb (number_of (terminal_in t)) (number_of (terminal_in u))
 same_number true t u same apart = sym (eq-eqb (number_of (terminal_in t)) (number_of (terminal_in u)) (ap (λ x. number_of (terminal_in x)) (same refl)))
 same_number false t u same apart = go (eqb (number_of (terminal_in t)) (number_of (terminal_in u))) refl

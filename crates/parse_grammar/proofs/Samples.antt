@@ -1,4 +1,5 @@
 -- a phrase of each class, the least deep one
+-- Main results: any_kind.
 use Rattle.std.proofs.Common.{refl, List, [], ◌∷◌}
 use Rattle.parse_grammar.specs.Grammar.{Terminal, a_keyword, a_mark, a_name, a_number, a_text, Class, Units, OneUnit, Binds, Bind, Decls, Decl, TypeOf, K, KArrow, KA, P, Dots, T, TArrow, TC, TArgs, TA, TFields, MoreTFields, S, SArrow, Wheres, SA, M, MArgs, Seals, MA, E, Lam, EBranches, MoreEBranches, Compare, ES, Sums, EM, Products, EP, Args, EA, Gets, EB, EFields, MoreEFields, phrase, rhs, no_units, unit_module, no_binds, bind_module, no_decls, decl_type, type_of_nothing, kind_chain, no_kind_arrow, kind_type, path_name, no_dots, ty_chain, no_arrow, ty_args, no_ty_args, ty_int, no_ty_fields, last_ty_field, sig_where, generative, no_wheres, sig_decls, mod_chain, no_mod_args, no_seals, mod_struct, exp_compare, lam_value, no_branches, last_branch, no_compare, sums, no_sums, products, no_products, exp_args, no_args, exp_gets, no_gets, exp_number, no_exp_fields, last_exp_field}
 use Rattle.fing_lexer.specs.declared.token.Word.TheVariants.{KwType, KwModule, KwStruct, KwSig, KwEnd, KwFrom, KwInt, KwKind}
@@ -20,6 +21,7 @@ any_what a_text = what.Text []
 abbrev pub any_token : Terminal → Token
 any_token k = record { what = any_what k; span = record { from = 0; to = 0 } }
 
+-- the sample token of a terminal is of its kind
 pub any_kind : (k : Terminal) → kind_of (any_token k) ≡ k
 any_kind (a_keyword w) = refl
 any_kind (a_mark m) = refl

@@ -1,4 +1,5 @@
 -- Sets of next tokens as lists of numbers, and what a production is checked for.
+-- Main results: all_at, each_at.
 use Rattle.std.proofs.Common.{◌≡◌, ℕ, ◌&&◌, ◌||◌, Bool, true, false, cond, eqb, refl, sym, subst, List, [], ◌∷◌, ◌++◌, eqb-true, eq-eqb}
 use Rattle.parse_grammar.specs.Grammar.{Class, Symbol, token, phrase, Rule, rhs}
 use Rattle.parse_grammar.specs.Tables.{number_of, can_be_empty, firsts_of, follow, predicted, is_in}
@@ -35,14 +36,17 @@ begins n k j = is_in j (firsts_of n) || (can_be_empty n && eqb j k)
 abbrev pub rule_ok : {n : Class} → Rule n → ℕ → Bool
 rule_ok {n} r k = fits (rhs r) k && all (λ j. begins n k j && is_in j (predicted r)) (starts (rhs r) k)
 
+-- if both of two tests hold, the first does
 pub and-left : (a b : Bool) → a && b ≡ true → a ≡ true
 and-left true b e = refl
 and-left false b e = e
 
+-- if both of two tests hold, the second does
 pub and-right : (a b : Bool) → a && b ≡ true → b ≡ true
 and-right true b e = e
 and-right false b e = absurd (cc)
 
+-- a test that all members of a list pass is passed by each
 pub all_at : (p : ℕ → Bool) (xs : List ℕ) (j : ℕ) → all p xs ≡ true → is_in j xs ≡ true → p j ≡ true
 all_at p [] j e h = absurd (cc)
 all_at p (x ∷ xs) j e h = go (eqb j x) refl h (λ k. all_at p xs j (and-right (p x) (all p xs) e) k)
@@ -51,6 +55,7 @@ all_at p (x ∷ xs) j e h = go (eqb j x) refl h (λ k. all_at p xs j (and-right 
     go true q h ih = subst (λ i. p i ≡ true) (sym (eqb-true j x q)) (and-left (p x) (all p xs) e)
     go false q h ih = ih h
 
+-- what holds for all members of a list holds for each
 pub each_at : (P : ℕ → Type 0) (xs : List ℕ) (j : ℕ) → Each P xs → is_in j xs ≡ true → P j
 each_at P [] j e h = absurd (cc)
 each_at P (x ∷ xs) j e h = go (eqb j x) refl h (λ k. each_at P xs j e.1 k)
@@ -87,5 +92,6 @@ begins-starts n ss k i j h w = go (is_in j (firsts_of n)) refl h
     go true q h = is_in-left j (firsts_of n) (cond (can_be_empty n) (starts ss i) []) q
     go false q h = is_in-right j (firsts_of n) (cond (can_be_empty n) (starts ss i) []) (empty (can_be_empty n) h)
 
+-- the first member of a list is in it
 pub is_in-here : (j k : ℕ) (ks : List ℕ) → j ≡ k → is_in j (k ∷ ks) ≡ true
 is_in-here j k ks p = rw (eq-eqb j k p) refl

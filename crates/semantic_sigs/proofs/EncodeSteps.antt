@@ -1,4 +1,5 @@
 -- Fields encoded one after the other.
+-- Main results: row-encoded, quantified-next.
 use Rattle.std.proofs.Common.{◌≡◌, ℕ, zero, suc, ◌-◌, ◌<◌, ◌≤◌, List, [], ◌∷◌, length, get_or, take, map, refl, sym, ap, ap₂, ◌∙◌, arith}
 use Rattle.omega_kinds.specs.View.{kind_tree}
 use Rattle.omega_kinds.specs.declared.kind.Kind.{Kind as SharedKind}
@@ -17,6 +18,7 @@ use Rattle.semantic_sigs.specs.Inner.Fields.{SigPairs, sig_row, Rises}
 abbrev pub encoded_pairs : SigPairs → Pairs
 encoded_pairs = map (λ x. (Label.Name x.0, enc x.1))
 
+-- the fields of a structure, encoded one by one, are the encoded row
 pub row-encoded : (xs : SigPairs) → row (encoded_pairs xs) ≡ enc_row (sig_row xs)
 row-encoded [] = refl
 row-encoded (x ∷ xs) = ap (Row.More (Label.Name x.0) (enc x.1)) (row-encoded xs)
@@ -38,6 +40,7 @@ quantified-take quantifier.Some (k ∷ kinds) zero d t lt = refl
 quantified-take quantifier.All (k ∷ kinds) (suc n) d t lt = ap (Ty.All (kind_tree k)) (quantified-take quantifier.All kinds n d t (omega arith))
 quantified-take quantifier.Some (k ∷ kinds) (suc n) d t lt = ap (Ty.Ex (kind_tree k)) (quantified-take quantifier.Some kinds n d t (omega arith))
 
+-- one more quantifier is put in front, and the whole type stays the one to come
 pub quantified-next : (q : Quantifier) (kinds : List SharedKind) (left : ℕ) (kind shared : SharedKind) (ty next whole : Ty) → 0 < left → left ≤ length kinds → quantified q (map kind_tree (take left kinds)) ty ≡ whole → kind ≡ get_or kinds (left - 1) kind → kind_tree shared ≡ kind_tree kind → next ≡ quantified_once q (kind_tree shared) ty → quantified q (map kind_tree (take (left - 1) kinds)) next ≡ whole
 quantified-next q kinds zero kind shared ty next whole lt le e ek es en = absurd (omega (arith, lt))
 quantified-next q kinds (suc n) kind shared ty next whole lt le e ek es en =

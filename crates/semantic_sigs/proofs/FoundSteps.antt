@@ -1,4 +1,5 @@
 -- The entry at the place of a name, and what it stands for.
+-- Main results: find-there, find-missing, found-module, found-value, found-param.
 use Rattle.std.specs.Prelude.{ℕ, zero, suc, ◌+◌, ◌-◌, ◌<◌, ◌≤◌, ◌≡◌, ◌==◌, List, [], ◌∷◌, ◌++◌, ◌↔◌, Bool, true, false, Option, Some, None, length, take}
 use Rattle.std.specs.HashMap.{HashMap, get}
 use Rattle.std.specs.Cmp.Lexicographic.{pointwise}
@@ -106,6 +107,7 @@ some-slot : (slots : List Slot) (x : Name) (at : ℕ) → place_of (with_slots [
 some-slot [] x at h = absurd (not-some at h)
 some-slot (s ∷ slots) x at h = s
 
+-- the place that is kept of a name is one of the slots
 pub place-inside : {S : Type 0} → (slots : List Slot) (list : List SharedKind) (places : HashMap Name ℕ S) (terms : ℕ) (x : Name) (at : ℕ) → IsKept slots list places terms → get (pointwise ◌==◌) places x ≡ Some at → at < length slots
 place-inside slots list places terms x at kept h = (found-all slots list places terms x at (some-slot slots x at (sym (kept.1.1 x) ∙ h)) kept h).0
 
@@ -134,12 +136,15 @@ past slots list places terms x at d kept h ed = go (found-all slots list places 
         all-terms : terms ≡ count + d.terms
         all-terms = kept.2 ∙ (sym (ap (λ all. term_count (with_slots [] all)) (take-all slots)) ∙ (em ∙ ap (λ n. count + n) (ap term_count there ∙ sym one.2)))
 
+-- as many types as are noted at a slot are among those in scope
 pub types-inside : {S : Type 0} → (slots : List Slot) (list : List SharedKind) (places : HashMap Name ℕ S) (terms : ℕ) (x : Name) (at : ℕ) (d : Slot) → IsKept slots list places terms → get (pointwise ◌==◌) places x ≡ Some at → d ≡ get_or slots at d → d.types ≤ length list
 types-inside slots list places terms x at d kept h ed = (past slots list places terms x at d kept h ed).0
 
+-- as many term variables as are noted at a slot are among those in scope
 pub terms-inside : {S : Type 0} → (slots : List Slot) (list : List SharedKind) (places : HashMap Name ℕ S) (terms : ℕ) (x : Name) (at : ℕ) (d : Slot) → IsKept slots list places terms → get (pointwise ◌==◌) places x ≡ Some at → d ≡ get_or slots at d → d.terms ≤ terms
 terms-inside slots list places terms x at d kept h ed = (past slots list places terms x at d kept h ed).1
 
+-- a name whose place is kept stands for the entry there, seen past the variables after it
 pub find-there : {S : Type 0} → (slots : List Slot) (list : List SharedKind) (places : HashMap Name ℕ S) (terms : ℕ) (x : Name) (at : ℕ) (d : Slot) → IsKept slots list places terms → get (pointwise ◌==◌) places x ≡ Some at → d ≡ get_or slots at d
     → find (with_slots [] slots) x ≡ seen (length list - d.types) (terms - d.terms) (here_first (with_slots [] (take (at + 1) slots)))
 find-there slots list places terms x at d kept h ed = (past slots list places terms x at d kept h ed).2
@@ -152,6 +157,7 @@ find-none (e ∷ g) x h = go (λ q. find-none g x q) (is_named x e) refl
     go ih true q = absurd (not-some (length g) (sym h ∙ found-if (is_named x e) (Some (length g)) (place_of g x) q))
     go ih false q = sym (seen-none (find (e ∷ g) x)) ∙ (find-other 0 0 e g x q ∙ ap (λ o. seen (0 + type_vars e) (0 + term_vars e) o) (ih (sym (past-if (is_named x e) (Some (length g)) (place_of g x) q) ∙ h)))
 
+-- a name whose place is not kept is not found
 pub find-missing : {S : Type 0} → (slots : List Slot) (list : List SharedKind) (places : HashMap Name ℕ S) (terms : ℕ) (x : Name) → IsKept slots list places terms → get (pointwise ◌==◌) places x ≡ None → find (with_slots [] slots) x ≡ None
 find-missing slots list places terms x kept h = find-none (with_slots [] slots) x (sym (kept.1.1 x) ∙ h)
 
@@ -167,6 +173,7 @@ before-place slots (suc n) d some lt = ap (λ m. with_slots [] (take m slots)) (
     less : (n : ℕ) → n ≡ suc n - 1
     less n = omega arith
 
+-- the kind of the first entry, where this is no type variable, is *
 pub first-other : (e : CodeEntry) (g : Env) → ((k : SharedKind) → e ≡ entry.TypeVar k → ⊥) → Kind.Star ≡ first_kind (entry_of e ∷ g)
 first-other (entry.TypeVar k) g other = absurd (other k refl)
 first-other (entry.Named y s) g other = refl
@@ -180,19 +187,23 @@ entry-stands slots at types terms x e lt ee = sym (ap (λ g. seen types terms (h
 plus-none : (n : ℕ) → n ≡ n + 0
 plus-none n = omega arith
 
+-- an entry that is a type variable stands for nothing
 pub found-type : (slots : List Slot) (at types terms : ℕ) (x : Slot) (k : SharedKind) → at < length slots → (get_or slots at x).entry ≡ entry.TypeVar k → None ≡ seen types terms (here_first (with_slots [] (take (at + 1) slots)))
 found-type slots at types terms x k lt ee = entry-stands slots at types terms x (entry.TypeVar k) lt ee
 
+-- an entry that is a module stands for its signature and its term variable, raised past the variables after it
 pub found-module : (slots : List Slot) (at types terms : ℕ) (x : Slot) (y : Name) (s sig : Sig) (term : Term) → at < length slots → (get_or slots at x).entry ≡ entry.Named y s
     → sig ≡ rename_sig (bump types 0) s → term ≡ Term.Var terms → Some (sig, term) ≡ seen types terms (here_first (with_slots [] (take (at + 1) slots)))
 found-module slots at types terms x y s sig term lt ee es et =
     ap₂ (λ s e. Some (s, e)) es (et ∙ ap Term.Var (plus-none terms)) ∙ entry-stands slots at types terms x (entry.Named y s) lt ee
 
+-- an entry that is a value stands for the signature of its type and its value, raised past the variables after it
 pub found-value : (slots : List Slot) (at types terms : ℕ) (x : Slot) (y : Name) (t ty : Ty) (sig : Sig) (own term : Term) → at < length slots → (get_or slots at x).entry ≡ entry.Value y t
     → ty ≡ shift types 0 t → sig ≡ Sig.Val ty → own ≡ Term.Var terms → term ≡ value_term own → Some (sig, term) ≡ seen types terms (here_first (with_slots [] (take (at + 1) slots)))
 found-value slots at types terms x y t ty sig own term lt ee ey es eo et =
     ap₂ (λ s e. Some (s, e)) (es ∙ ap Sig.Val ey) (et ∙ ap value_term (eo ∙ ap Term.Var (plus-none terms))) ∙ entry-stands slots at types terms x (entry.Value y t) lt ee
 
+-- an entry that is a type parameter stands for the type of the variable before it, raised past those after it
 pub found-param : (slots : List Slot) (at types terms : ℕ) (x : Slot) (y : Name) (k : Kind) (sig : Sig) (term : Term) → at < length slots → (get_or slots at x).entry ≡ entry.TypeParam y → k ≡ first_kind (with_slots [] (take at slots))
     → sig ≡ Sig.Typ (shift types 0 (eta k (Ty.Var zero))) k → term ≡ type_term (shift types 0 (eta k (Ty.Var zero))) k → Some (sig, term) ≡ seen types terms (here_first (with_slots [] (take (at + 1) slots)))
 found-param slots at types terms x y k sig term lt ee ek es et =
@@ -215,5 +226,6 @@ no-variable slots at types terms x lt is other s n q = by x.entry other (entry-s
     by (entry.Value y t) o p = fields-other _ s _ _ n refl p
     by (entry.TypeParam y) o p = fields-other _ s _ _ n refl p
 
+-- where nothing is found, no term variable is
 pub nothing-found : {o : Option (Sig × Term)} → o ≡ None → (s : Sig) (n : ℕ) → o ≡ Some (s, Term.Var n) → ⊥
 nothing-found e s n q = not-some (s, Term.Var n) (sym e ∙ q)

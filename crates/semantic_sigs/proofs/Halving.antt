@@ -1,4 +1,5 @@
 -- A field sought by halving among fields that rise.
+-- Main results: sought-found, sought-none.
 use Rattle.std.proofs.Common.{◌≡◌, ℕ, zero, suc, ◌+◌, ◌<◌, ◌≤◌, [], ◌∷◌, length, get_or, take, drop, IsTrue, sym, subst, arith}
 use Rattle.std.specs.Prelude.{◌⊎◌}
 use Rattle.std.proofs.Math.Logic.{inl, inr}
@@ -47,12 +48,15 @@ none-all (x ∷ xs) (suc i) l a b = (a.0, none-all xs i l a.1 b)
 abbrev pub Sought : SigPairs → Name → (low high : ℕ) → Type 0
 Sought xs l low high = (low ≤ high) × (high ≤ length xs) × NoField l (sig_row (take low xs)) × NoField l (sig_row (drop high xs))
 
+-- the field at a place, if it has the name sought, is the field of the name
 pub sought-found : (xs : SigPairs) (i : ℕ) (x : Name × Sig) (l : Name) → Rises xs → i < length xs → x ≡ get_or xs i x → l ≡ x.0 → HasField (sig_row xs) l x.1
 sought-found xs i x l r lt e el = subst (λ m. HasField (sig_row xs) m x.1) (sym el) (subst (λ y. HasField (sig_row xs) y.0 y.1) (sym e) (has-at xs i x r lt))
 
+-- a name before that of a field is not from this field on
 pub sought-below : (xs : SigPairs) (i : ℕ) (x : Name × Sig) (l : Name) (low high : ℕ) → Rises xs → i < length xs → x ≡ get_or xs i x → low ≤ i → IsTrue (name_before l x.0) → Sought xs l low high → Sought xs l low i
 sought-below xs i x l low high r lt e le b s = (le, omega (arith, lt), s.2, none-after xs i x l r lt (subst (λ y. IsTrue (name_before l y.0)) e b))
 
+-- a name after that of a field is not up to this field
 pub sought-above : (xs : SigPairs) (i : ℕ) (x : Name × Sig) (l : Name) (low high : ℕ) → Rises xs → i < length xs → x ≡ get_or xs i x → i < high → (l ≡ x.0 → ⊥) → (IsTrue (name_before l x.0) → ⊥) → Sought xs l low high → Sought xs l (i + 1) high
 sought-above xs i x l low high r lt e le n b s =
     (omega (arith, le), s.1, subst (λ k. NoField l (sig_row (take k xs))) (sym (one i)) (none-before xs i x l r lt (subst (λ y. IsTrue (name_before y.0 l)) e (other (name-total l x.0)))), s.3)
@@ -65,5 +69,6 @@ sought-above xs i x l low high r lt e le n b s =
     other (inr (inl f)) = absurd (b f)
     other (inr (inr f)) = f
 
+-- where nothing is left between the bounds, the name has no field
 pub sought-none : (xs : SigPairs) (l : Name) (low high : ℕ) → high ≤ low → Sought xs l low high → NoField l (sig_row xs)
 sought-none xs l low high le s = none-all xs low l s.2 (subst (λ k. NoField l (sig_row (drop k xs))) (omega (arith, le, s.0)) s.3)

@@ -1,4 +1,5 @@
 -- What the changes are: renamings, and the normal form of a substitution.
+-- Main results: sig-raised, sig-moved, instantiated.
 use Rattle.std.specs.Prelude.{ℕ, zero, suc, ◌+◌, ◌-◌, ◌≡◌, List, [], ◌∷◌, Option}
 use Rattle.std.proofs.Math.Path.{refl, sym, ◌∙◌, ap, ap₂, subst}
 use Rattle.omega_kinds.specs.Kind.{Kind}
@@ -41,30 +42,39 @@ sunk-raising by (suc from) = ap under_head (sunk-raising by from) ∙ under-rena
 pub ty-raised : (by depth : ℕ) (t : Ty) → ty_in (sunk depth (raising by)) t ≡ shift by depth t
 ty-raised by depth t = ap (λ h. ty_in h t) (sunk-raising by depth) ∙ ap tree (head-renamed (bump by depth) t)
 
+-- lowering the indexes of a type below binders, as a change of variables
 pub ty-lowered : (by depth : ℕ) (t : Ty) → ty_in (sunk depth (lowering by)) t ≡ lower_from by depth t
 ty-lowered by depth t = ty-renamed depth (λ i. i - by) t
 
+-- new indexes for the variables of a type below binders, as a change of variables
 pub ty-moved : (ps : List (Option ℕ)) (depth : ℕ) (t : Ty) → ty_in (sunk depth (moving ps)) t ≡ renumbered ps depth t
 ty-moved ps depth t = ty-renamed depth (moved ps) t
 
+-- the change that raises indexes, in a signature, is the renaming by the shift
 pub sig-raised : (by from : ℕ) (s : Sig) → sig_in (sunk from (raising by)) s ≡ rename_sig (bump by from) s
 sig-raised by from s = ap (λ h. sig_in h s) (sunk-raising by from) ∙ sig-renamed (bump by from) s
 
+-- so it is in a signature that hides types
 pub abs-raised : (by from : ℕ) (x : Abs) → abs_in (sunk from (raising by)) x ≡ rename_abs (bump by from) x
 abs-raised by from x = ap (λ h. abs_in h x) (sunk-raising by from) ∙ abs-renamed (bump by from) x
 
+-- the change that lowers indexes, in a signature, is that renaming
 pub sig-lowered : (by : ℕ) (s : Sig) → sig_in (sunk 0 (lowering by)) s ≡ rename_sig (λ i. i - by) s
 sig-lowered by s = sig-renamed (λ i. i - by) s
 
+-- the change that gives variables new indexes, in a signature, is that renaming
 pub sig-moved : (ps : List (Option ℕ)) (s : Sig) → sig_in (sunk 0 (moving ps)) s ≡ rename_sig (moved ps) s
 sig-moved ps s = sig-renamed (moved ps) s
 
+-- so it is in a signature that hides types
 pub abs-moved : (ps : List (Option ℕ)) (x : Abs) → abs_in (sunk 0 (moving ps)) x ≡ rename_abs (moved ps) x
 abs-moved ps x = abs-renamed (moved ps) x
 
+-- a raised normal signature is normal
 pub sig-raised-normal : (by from : ℕ) (given raised : Sig) → raised ≡ rename_sig (bump by from) given → (ctx other : List Kind) → Maps ctx other (bump by from) → NormalSig ctx given → NormalSig other raised
 sig-raised-normal by from given raised e ctx other h n = subst (NormalSig other) (sym e) (normal_sig-rename (bump by from) h given n)
 
+-- so is one that hides types
 pub abs-raised-normal : (by from : ℕ) (given raised : Abs) → raised ≡ rename_abs (bump by from) given → (ctx other : List Kind) → Maps ctx other (bump by from) → NormalAbs ctx given → NormalAbs other raised
 abs-raised-normal by from given raised e ctx other h n = subst (NormalAbs other) (sym e) (normal_abs-rename (bump by from) h given n)
 
@@ -89,10 +99,12 @@ mutual
 pub sig-put : (ctx ks : List Kind) (ts : List Ty) (s : Sig) → NormalSig (extend ctx ks) s → NormalForms ctx ts ks ts → AlikeSig NormalForm ctx (substitute_sig (puts ts Ty.Var) s) (sig_in (sunk 0 (putting ts)) s)
 sig-put ctx ks ts s n ns = sig-in (good-puts ns (good-vars ctx)) s n
 
+-- the change that puts in normal types gives the normal form of the signature at the types
 pub instantiated : (x : Abs) (ts : List Ty) (body s : Sig) → body ≡ body_of x → s ≡ sig_in (sunk 0 (putting ts)) body → (ctx : List Kind) → NormalAbs ctx x → NormalForms ctx ts (kinds_of x) ts → IsSigAt ctx (body_of x) ts s
 instantiated (Abs.Ex ks b) ts body s eb es ctx n ns =
     subst (λ u. AlikeSig NormalForm ctx (substitute_sig (puts ts Ty.Var) b) u) (sym (es ∙ ap (sig_in (sunk 0 (putting ts))) eb)) (sig-put ctx ks ts b n ns)
 
+-- the change that puts in types, from outside the signature, is the one in its body
 pub instantiated-value : (x : Abs) (ts : List Ty) (body s : Sig) → body ≡ body_of x → s ≡ sig_in (sunk 0 (putting ts)) body → s ≡ sig_in (putting ts) (body_of x)
 instantiated-value x ts body s eb es = es ∙ ap (sig_in (putting ts)) eb
 

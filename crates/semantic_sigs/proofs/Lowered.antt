@@ -1,4 +1,5 @@
 -- Lowering a signature that does not mention the innermost variables.
+-- Main results: lowered-raised, lowered-normal.
 use Rattle.std.specs.Prelude.{ℕ, ◌+◌, ◌-◌, ◌<◌, ◌≤◌, List, [], ◌∷◌, ◌≡◌, ◌++◌, length}
 use Rattle.std.proofs.Common.{arith}
 use Rattle.std.proofs.Math.Decide.{dec_lt}
@@ -46,6 +47,7 @@ at-least n i P h p = go (dec_lt i n)
 abbrev pub Unmentioned : ℕ → Sig → Type 0
 Unmentioned by s = (i : ℕ) → i < by → MentionsSig i s → ⊥
 
+-- a signature that does not mention the innermost variables, lowered and raised, is itself
 pub lowered-raised : (by : ℕ) (given lowered : Sig) → lowered ≡ rename_sig (λ i. i - by) given → Unmentioned by given → rename_sig (bump by 0) lowered ≡ given
 lowered-raised by s lowered e h =
     ap (rename_sig (bump by 0)) e ∙ (rename-rename_sig (bump by 0) (λ i. i - by) s ∙ (sym (substitute-vars_sig (λ i. by + (i - by)) s) ∙ (substitute_sig-agree (λ i. Ty.Var (by + (i - by))) Ty.Var s (λ i m. ap Ty.Var (back by i (at-least by i (MentionsSig i s) (h i) m))) ∙ substitute_sig-id s)))
@@ -53,6 +55,7 @@ lowered-raised by s lowered e h =
     back : (n i : ℕ) → n ≤ i → n + (i - n) ≡ i
     back n i e = omega arith
 
+-- a normal signature that does not mention the innermost variables is normal when it is lowered
 pub lowered-normal : (by : ℕ) (given lowered : Sig) → lowered ≡ rename_sig (λ i. i - by) given → (inner ctx : List Kind) → length inner ≡ by → NormalSig (inner ++ ctx) given → Unmentioned by given → NormalSig ctx lowered
 lowered-normal by s lowered e inner ctx len n h =
     subst (NormalSig ctx) (sym e) (sig-mapped (λ i. i - by) s maps n)

@@ -1,4 +1,5 @@
 -- What a name stands for, seen past more variables.
+-- Main results: find-named, find-other.
 use Rattle.std.specs.Prelude.{ℕ, zero, suc, ◌+◌, ◌-◌, ◌<◌, ◌≤◌, ◌≡◌, ◌==◌, [], ◌∷◌, ◌++◌, ◌↔◌, Bool, true, false, cond, Option, Some, None}
 use Rattle.std.proofs.Common.{arith}
 use Rattle.std.proofs.lemmas.Bool.{false≢true}
@@ -69,22 +70,26 @@ pub found-if : {A : Type 0} (b : Bool) (x y : A) → b ≡ true → cond b x y �
 found-if true x y e = refl
 found-if false x y e = cc
 
+-- the choice at a test that fails is the second
 pub past-if : {A : Type 0} (b : Bool) (x y : A) → b ≡ false → cond b x y ≡ y
 past-if true x y e = cc
 past-if false x y e = refl
 
+-- a name that is that of the first entry stands for it
 pub find-named : (e : Entry) (g : Env) (x : Name) → is_named x e ≡ true → find (e ∷ g) x ≡ here e g
 find-named (Entry.TypeVar k) g x h = cc
 find-named (Entry.Named y s) g x h = found-if (same_name x y) (Some (s, Term.Var zero)) (past_term (find g x)) h
 find-named (Entry.Value y t) g x h = found-if (same_name x y) _ (past_term (find g x)) h
 find-named (Entry.TypeParam y) g x h = found-if (same_name x y) (Some (type_param (first_kind g))) (find g x) h
 
+-- what is seen past no further variables is the same
 pub same-counts : (t n : ℕ) (o : Option (Sig × Term)) → seen t n o ≡ seen (t + 0) (n + 0) o
 same-counts t n o = ap₂ (λ i j. seen i j o) (plus t) (plus n)
   where
     plus : (n : ℕ) → n ≡ n + 0
     plus n = omega arith
 
+-- a name that is not that of the first entry is looked for outside, past the entry's variables
 pub find-other : (t n : ℕ) (e : Entry) (g : Env) (x : Name) → is_named x e ≡ false → seen t n (find (e ∷ g) x) ≡ seen (t + type_vars e) (n + term_vars e) (find g x)
 find-other t n (Entry.TypeVar k) g x h = seen-type t n (find g x) ∙ ap (λ j. seen (t + 1) j (find g x)) (omega arith)
 find-other t n (Entry.Named y s) g x h = ap (seen t n) (past-if (same_name x y) (Some (s, Term.Var zero)) (past_term (find g x)) h) ∙ (seen-term t n (find g x) ∙ ap (λ i. seen i (n + 1) (find g x)) (omega arith))

@@ -1,4 +1,5 @@
 -- What a change of variables does at each form of signature, with indexes counted as the code counts them.
+-- Main results: name_follows-at, sig_row-changed.
 use Rattle.std.proofs.Common.{◌≡◌, ℕ, zero, suc, ◌+◌, ◌<◌, ◌≤◌, List, [], ◌∷◌, length, get_or, take, map, refl, ap, ap₂, ◌∙◌, arith}
 use Rattle.omega_kinds.specs.Kind.{Kind}
 use Rattle.omega_kinds.specs.Name.{Name}
@@ -46,6 +47,7 @@ abs-sinks ks depth h x = ap (λ g. abs_in g x) (sinks-sunk ks depth h)
 abbrev pub map_sigs : (Sig → Sig) → SigPairs → SigPairs
 map_sigs f = map (λ x. (x.0, f x.1))
 
+-- the name of the next field may follow those of the fields changed so far
 pub name_follows-at : (f : Sig → Sig) (xs : SigPairs) (i : ℕ) (d : Name × Sig) → i < length xs → Rises xs → MayFollow (map_sigs f (take i xs)) (get_or xs i d).0
 name_follows-at f [] i d p r = absurd (omega arith)
 name_follows-at f (x ∷ xs) zero d p r = tt
@@ -53,6 +55,7 @@ name_follows-at f (x ∷ []) (suc i) d p r = absurd (omega arith)
 name_follows-at f (x ∷ y ∷ xs) (suc zero) d p r = r.0
 name_follows-at f (x ∷ y ∷ xs) (suc (suc i)) d p r = name_follows-at f (y ∷ xs) (suc i) d (omega arith) r.1
 
+-- the fields of a structure, changed one by one, are the changed row
 pub sig_row-changed : (h : ℕ → Head) (xs : SigPairs) → sig_row (map_sigs (sig_in h) xs) ≡ sig_row_in h (sig_row xs)
 sig_row-changed h [] = refl
 sig_row-changed h (x ∷ xs) = ap (SigRow.More x.0 (sig_in h x.1)) (sig_row-changed h xs)

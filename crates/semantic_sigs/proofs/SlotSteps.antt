@@ -1,4 +1,5 @@
 -- Slots of an environment, and what is kept beside them: one entry more, and one less.
+-- Main results: slot-at, noted, forgotten, pushed, popped.
 use Rattle.std.specs.Prelude.{ℕ, zero, suc, ◌+◌, ◌-◌, ◌<◌, ◌≤◌, ◌≡◌, ◌==◌, List, [], ◌∷◌, ◌++◌, ◌↔◌, Bool, true, false, cond, Option, Some, None, IsSome, length, map, take}
 use Rattle.std.specs.HashMap.{HashMap, Updates, get}
 use Rattle.std.specs.Bool.{one_answer}
@@ -24,10 +25,12 @@ use Rattle.semantic_sigs.proofs.SeenSteps.{found-if, past-if}
 
 -- the slots
 
+-- an environment with one more slot has its entry first
 pub with-last : (g : Env) (slots : List Slot) (slot : Slot) → with_slots g (slots ++ slot ∷ []) ≡ entry_of slot.entry ∷ with_slots g slots
 with-last g [] slot = refl
 with-last g (s ∷ slots) slot = with-last (entry_of s.entry ∷ g) slots slot
 
+-- the environment of the slots up to a place has the entry there first
 pub with-take : (g : Env) (slots : List Slot) (n : ℕ) (d : Slot) → n < length slots → with_slots g (take (n + 1) slots) ≡ entry_of (get_or slots n d).entry ∷ with_slots g (take n slots)
 with-take g slots n d lt = ap (λ m. with_slots g (take m slots)) (next n) ∙ go g slots n d lt
   where
@@ -39,6 +42,7 @@ with-take g slots n d lt = ap (λ m. with_slots g (take m slots)) (next n) ∙ g
     go g (s ∷ slots) zero d lt = refl
     go g (s ∷ slots) (suc n) d lt = go (entry_of s.entry ∷ g) slots n d (omega (arith, lt))
 
+-- all of the slots are the first ones, as many as there are
 pub take-all : (slots : List Slot) → take (length slots) slots ≡ slots
 take-all [] = refl
 take-all (s ∷ slots) = ap (λ more. s ∷ more) (take-all slots)
@@ -53,6 +57,7 @@ length-with g (s ∷ slots) = length-with (entry_of s.entry ∷ g) slots ∙ mov
     moved : (m n : ℕ) → suc m + n ≡ m + suc n
     moved m n = omega arith
 
+-- the environment of slots has as many entries
 pub length-slots : (slots : List Slot) → length (with_slots [] slots) ≡ length slots
 length-slots slots = length-with [] slots ∙ none (length slots)
   where
@@ -67,6 +72,7 @@ slots-less : (g : Env) (slots : List Slot) (slot : Slot) → AreSlots g (slots +
 slots-less g [] slot all = (tt, all.0)
 slots-less g (s ∷ slots) slot all = let r = slots-less (entry_of s.entry ∷ g) slots slot all.1 in ((all.0, r.0), r.1)
 
+-- each slot notes what is so in the environment of those before it
 pub slot-at : (g : Env) (slots : List Slot) (n : ℕ) (d : Slot) → n < length slots → AreSlots g slots → IsSlot (with_slots g (take n slots)) (get_or slots n d)
 slot-at g [] n d lt all = absurd (omega (arith, lt))
 slot-at g (s ∷ slots) zero d lt all = all.0
@@ -80,6 +86,7 @@ equal-name y x =
 
 -- what is kept
 
+-- the context has as many kinds as the scope
 pub length-scope : (scope : List SharedKind) → length (scope_of scope) ≡ length scope
 length-scope scope = length-reverse (map kind_tree scope) ∙ length-map scope kind_tree
 
@@ -109,21 +116,27 @@ back-name list new before after y hidden e g named same en eh u h = (ap scope_of
 abbrev pub IsOf : Entry → Name → Type 0
 IsOf e y = ((x : Name) → is_named x e ≡ same_name x y) × ((g : Env) → kinds (e ∷ g) ≡ kinds g) × ((g : Env) → hidden_by e g ≡ place_of g y)
 
+-- an entry for a module is of its name
 pub is-module : (e : CodeEntry) (y : Name) (s : Sig) → e ≡ entry.Named y s → IsOf (entry_of e) y
 is-module e y s same = subst (λ e. IsOf (entry_of e) y) (sym same) (λ x. refl, λ g. refl, λ g. refl)
 
+-- an entry for a value is of its name
 pub is-value : (e : CodeEntry) (y : Name) (t : Ty) → e ≡ entry.Value y t → IsOf (entry_of e) y
 is-value e y t same = subst (λ e. IsOf (entry_of e) y) (sym same) (λ x. refl, λ g. refl, λ g. refl)
 
+-- an entry for a type parameter is of its name
 pub is-type : (e : CodeEntry) (y : Name) → e ≡ entry.TypeParam y → IsOf (entry_of e) y
 is-type e y same = subst (λ e. IsOf (entry_of e) y) (sym same) (λ x. refl, λ g. refl, λ g. refl)
 
+-- the place of a new entry, noted for its name, keeps the map right
 pub noted : {S : Type 0} → (list : List SharedKind) (before after : HashMap Name ℕ S) (y : Name) (at : ℕ) (e : Entry) → IsOf e y → Updates (pointwise ◌==◌) before after y (Some at) → (g : Env) → length g ≡ at → Keeps list before g → Keeps list after (e ∷ g)
 noted list before after y at e n u g lg h = keeps-name list list before after y at e g n.0 (n.1 g) refl u lg h
 
+-- the place that is kept of a new entry's name is that of the entry which it hides
 pub hidden-is : {S : Type 0} → (list : List SharedKind) (before : HashMap Name ℕ S) (y : Name) (hidden : Option ℕ) (e : Entry) → IsOf e y → hidden ≡ get (pointwise ◌==◌) before y → (g : Env) → Keeps list before g → hidden ≡ hidden_by e g
 hidden-is list before y hidden e n eh g h = eh ∙ (h.1 y ∙ sym (n.2 g))
 
+-- the place of the hidden entry, noted again when an entry is taken away, keeps the map right
 pub forgotten : {S : Type 0} → (list : List SharedKind) (before after : HashMap Name ℕ S) (y : Name) (hidden : Option ℕ) (e : Entry) → IsOf e y → (IsSome (get (pointwise ◌==◌) before y) → Updates (pointwise ◌==◌) before after y hidden) → (g : Env) → hidden ≡ hidden_by e g → Keeps list before (e ∷ g) → Keeps list after g
 forgotten list before after y hidden e n u g eh h = back-name list list before after y hidden e g n.0 (n.1 g) refl (eh ∙ n.2 g) u h
 
@@ -132,6 +145,7 @@ forgotten list before after y hidden e n u g eh h = back-name list list before a
 plus-turned : (m n : ℕ) → m + n ≡ n + m
 plus-turned m n = omega arith
 
+-- one slot more, with what it notes, keeps all that is kept beside the slots
 pub pushed : {S : Type 0} → (slots more : List Slot) (slot : Slot) (list new : List SharedKind) (before after : HashMap Name ℕ S) (terms : ℕ) → more ≡ slots ++ slot ∷ [] → IsKept slots list before terms → ((g : Env) → length g ≡ length slots → Keeps list before g → Keeps new after (entry_of slot.entry ∷ g))
     → ((g : Env) → Keeps list before g → slot.hidden ≡ hidden_by (entry_of slot.entry) g) → slot.types ≡ length new → slot.terms ≡ terms + term_vars (entry_of slot.entry) → IsKept more new after slot.terms
 pushed slots more slot list new before after terms em kept ok hidden types count = subst (λ all. IsKept all new after slot.terms) (sym em) (slots-last [] slots slot kept.0 (hidden g kept.1, types-are, terms-are), subst (λ h. Keeps new after h) (sym whole) next, terms-are ∙ sym (ap term_count whole))
@@ -154,9 +168,11 @@ pushed slots more slot list new before after terms em kept ok hidden types count
 last-count : (less : List Slot) (slot : Slot) (slots : List Slot) (terms : ℕ) → slots ≡ less ++ slot ∷ [] → terms ≡ term_count (with_slots [] slots) → terms ≡ term_vars (entry_of slot.entry) + term_count (with_slots [] less)
 last-count less slot slots terms es et = et ∙ (ap (λ all. term_count (with_slots [] all)) es ∙ ap term_count (with-last [] less slot))
 
+-- a slot has no more term variables than are counted
 pub terms-left : {S : Type 0} → (less : List Slot) (slot : Slot) (slots : List Slot) (list : List SharedKind) (places : HashMap Name ℕ S) (terms : ℕ) → slots ≡ less ++ slot ∷ [] → IsKept slots list places terms → term_vars (entry_of slot.entry) ≤ terms
 terms-left less slot slots list places terms es kept = let e = last-count less slot slots terms es kept.2 in omega (arith, e)
 
+-- one slot less keeps all that is kept beside the slots
 pub popped : {S : Type 0} → (slots less : List Slot) (slot : Slot) (list new : List SharedKind) (before after : HashMap Name ℕ S) (terms fewer : ℕ) → slots ≡ less ++ slot ∷ [] → IsKept slots list before terms
     → ((g : Env) → slot.hidden ≡ hidden_by (entry_of slot.entry) g → Keeps list before (entry_of slot.entry ∷ g) → Keeps new after g) → fewer ≡ terms - term_vars (entry_of slot.entry) → IsKept less new after fewer
 popped slots less slot list new before after terms fewer es kept ok ef = (parts.0, ok g parts.1.0 (subst (λ h. Keeps list before h) (ap (with_slots []) es ∙ with-last [] less slot) kept.1), fewer-is)

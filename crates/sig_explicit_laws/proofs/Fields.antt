@@ -1,4 +1,5 @@
 -- Fields of two structures together.
+-- Main results: merge-rising, merge-left, merge-right, merge-well_formed.
 use Rattle.std.specs.Prelude.{List, ◌≡◌, ◌≢◌, Bool, true, false, cond, IsTrue}
 use Rattle.std.proofs.Math.Path.{refl}
 use Rattle.omega_kinds.specs.Kind.{Kind}
@@ -18,6 +19,7 @@ pub data Apart : SigRow → SigRow → Type 0 where
   none : {gs : SigRow} → Apart SigRow.End gs
   next : {l : Name} {s : Sig} {fs gs : SigRow} → NoField l gs → Apart fs gs → Apart (SigRow.More l s fs) gs
 
+-- a name before another one that is before all fields is before all fields
 pub before_all-before : (l m : Name) (fs : SigRow) → IsTrue (name_before l m) → BeforeAll m fs → BeforeAll l fs
 before_all-before l m SigRow.End h g = tt
 before_all-before l m (SigRow.More n s rest) h g = (name-transitive l m n h g.0, before_all-before l m rest h g.1)
@@ -53,14 +55,17 @@ insert-rising l s (SigRow.More m t rest) n r =
     (λ e. ((e, before_all-before l m rest e r.0), r))
     (λ e. (insert-before_all m l s rest (later l m n.0 e) r.0, insert-rising l s rest n.1 r.1))
 
+-- a name without a field has none when a field of another name is put in
 pub insert-none : (n l : Name) (s : Sig) (fs : SigRow) → n ≢ l → NoField n fs → NoField n (insert_field l s fs)
 insert-none n l s SigRow.End h b = (h, tt)
 insert-none n l s (SigRow.More m t rest) h b = insert-cases (NoField n) l m s t rest (λ e. (h, b)) (λ e. (b.0, insert-none n l s rest h b.1))
 
+-- a name without a field in two structures has none in both together
 pub merge-none : (n : Name) (fs gs : SigRow) → NoField n fs → NoField n gs → NoField n (merge fs gs)
 merge-none n SigRow.End gs h g = g
 merge-none n (SigRow.More l s fs) gs h g = insert-none n l s (merge fs gs) h.0 (merge-none n fs gs h.1 g)
 
+-- the fields of two structures that are apart, in order each, are in order together
 pub merge-rising : (fs gs : SigRow) → Apart fs gs → Rising fs → Rising gs → Rising (merge fs gs)
 merge-rising SigRow.End gs a r q = q
 merge-rising (SigRow.More l s fs) gs (next n a) r q = insert-rising l s (merge fs gs) (merge-none l fs gs (before-no_field l fs r.0) n) (merge-rising fs gs a r.1 q)
@@ -74,11 +79,13 @@ insert-other l s SigRow.End d h = elim h [ ]
 insert-other l s (SigRow.More m t rest) {n} {q} d here = insert-cases (λ row. HasField row n q) l m s t rest (λ e. there d here) (λ e. here)
 insert-other l s (SigRow.More m t rest) {n} {q} d (there f h) = insert-cases (λ row. HasField row n q) l m s t rest (λ e. there d (there f h)) (λ e. there f (insert-other l s rest d h))
 
+-- the fields of the left structure are among those of both
 pub merge-left : (fs gs : SigRow) → Apart fs gs → Rising fs → FieldsIn fs (merge fs gs)
 merge-left SigRow.End gs a r l s h = elim h [ ]
 merge-left (SigRow.More m t fs) gs (next n a) r l s here = insert-here m t (merge fs gs) (merge-none m fs gs (before-no_field m fs r.0) n)
 merge-left (SigRow.More m t fs) gs (next n a) r l s (there d h) = insert-other m t (merge fs gs) d (merge-left fs gs a r.1 l s h)
 
+-- so are the fields of the right structure
 pub merge-right : (fs gs : SigRow) → Apart fs gs → FieldsIn gs (merge fs gs)
 merge-right SigRow.End gs a l s h = h
 merge-right (SigRow.More m t fs) gs (next n a) l s h = insert-other m t (merge fs gs) (field-not h n) (merge-right fs gs a l s h)
@@ -87,6 +94,7 @@ insert-well_formed : {ctx : List Kind} (l : Name) {s : Sig} {fs : SigRow} → We
 insert-well_formed l w WellFormedRow.end = WellFormedRow.more w WellFormedRow.end
 insert-well_formed {ctx} l {s} w (WellFormedRow.more {l = m} {s = t} {rest = rest} v vs) = insert-cases (WellFormedRow ctx) l m s t rest (λ e. WellFormedRow.more w (WellFormedRow.more v vs)) (λ e. WellFormedRow.more v (insert-well_formed l w vs))
 
+-- the fields of two structures, well formed each, are well formed together
 pub merge-well_formed : {ctx : List Kind} {fs gs : SigRow} → WellFormedRow ctx fs → WellFormedRow ctx gs → WellFormedRow ctx (merge fs gs)
 merge-well_formed WellFormedRow.end v = v
 merge-well_formed (WellFormedRow.more {l = l} w ws) v = insert-well_formed l w (merge-well_formed ws v)
@@ -95,6 +103,7 @@ insert-results : {ctx : List Kind} (l : Name) {s : Sig} {fs : SigRow} → Explic
 insert-results l w in_end = in_more w in_end
 insert-results {ctx} l {s} w (in_more {l = m} {s = t} {rest = rest} v vs) = insert-cases (ExplicitResultsRow ctx) l m s t rest (λ e. in_more w (in_more v vs)) (λ e. in_more v (insert-results l w vs))
 
+-- fields of ordered explicit functor results are so together
 pub merge-results : {ctx : List Kind} {fs gs : SigRow} → ExplicitResultsRow ctx fs → ExplicitResultsRow ctx gs → ExplicitResultsRow ctx (merge fs gs)
 merge-results in_end v = v
 merge-results (in_more {l = l} w ws) v = insert-results l w (merge-results ws v)

@@ -1,4 +1,5 @@
 -- The lifted signature of an applicative functor is ordered explicit where its parameter and its result are.
+-- Main results: lifted_explicit, lifted_well_formed.
 use Rattle.std.specs.Prelude.{ℕ, zero, suc, ◌<◌, List, [], ◌∷◌, ◌++◌, ◌≡◌, ◌⊎◌, length}
 use mathlib.Core.Logic.{inl, inr}
 use Rattle.std.proofs.Common.{arith}
@@ -33,6 +34,7 @@ use Rattle.sig_laws.proofs.Formed.Shows.{Shows, shows, rooted-shows, shows-roote
 
 -- what is mentioned
 
+-- an operator mentions from outside what it mentions when it is applied to the binders' variables
 pub mentions-applied : (ks : List Kind) {i : ℕ} {t : Ty} → Mentions (past ks i) (applied ks t) → Mentions i t
 mentions-applied [] m = m
 mentions-applied (k ∷ ks) {i} {t} m = go (mentions-applied ks m)
@@ -41,9 +43,11 @@ mentions-applied (k ∷ ks) {i} {t} m = go (mentions-applied ks m)
     go (m_operator n) = mentions-raised t i n
     go (m_arg n) = let e = in_var n in absurd (omega (arith, e))
 
+-- a renaming from outside leaves the binders' own variables
 pub lifts-below : (ks : List Kind) (r : ℕ → ℕ) (x : ℕ) → x < length ks → lifts ks r x ≡ x
 lifts-below ks r x h = let e : Path Ty (Ty.Var x) (Ty.Var (lifts ks r x)) = sym (unders-below ks (λ i. Ty.Var (r i)) x h) ∙ ap (λ g. g x) (unders-vars ks r) in cc
 
+-- an index that a renaming under binders takes to one from outside is from outside itself
 pub lifts-back : (ks : List Kind) (r : ℕ → ℕ) (x v : ℕ) → lifts ks r x ≡ past ks v → (y : ℕ) × (x ≡ past ks y) × (r y ≡ v)
 lifts-back ks r x v e = go (split_index ks x)
   where
@@ -53,10 +57,12 @@ lifts-back ks r x v e = go (split_index ks x)
 
 -- through the functor
 
+-- a path that shows an applied type in a pure functor's result shows the type in the functor, along the result
 pub shows-result : (ctx ks : List Kind) {s r : Sig} {u : Ty} {p : SigPath} → Shows (extend ctx ks) r (applied ks u) p → Shows ctx (Sig.Fun Pure ks s (Abs.Ex [] r)) u (Item.Res ∷ p)
 shows-result ctx ks {u = u} (shows {bs = bs} {t = t} {k = k} x c) =
     shows (PartAt.result x) (subst (λ v. Conv (extend ctx (ks ++ bs)) t v k) (sym (applied-append ks bs u)) (subst (λ z. Conv z t (applied bs (applied ks u)) k) (sym (extend-append ks bs ctx)) c))
 
+-- the parameters on a path along a result avoid a variable if the functor's own and those in the result do
 pub params-result : (ctx ks : List Kind) {s r : Sig} (p : SigPath) (v : ℕ) → Avoids (extend ctx ks) s (past ks v) → ParamsAvoid (extend ctx ks) r p (past ks v) → ParamsAvoid ctx (Sig.Fun Pure ks s (Abs.Ex [] r)) (Item.Res ∷ p) v
 params-result ctx ks p v a h ds js q ParamOn.here = a
 params-result ctx ks p v a h ds js q (ParamOn.result {ds = es} on) =
@@ -68,12 +74,15 @@ params-result ctx ks p v a h ds js q (ParamOn.result {ds = es} on) =
 pub lifted_param : (ctx ks bs : List Kind) (s : Sig) → Explicit ctx (Abs.Ex ks s) → Explicit (extend ctx (lifted_kinds ks bs)) (Abs.Ex ks (rename_sig (lifts ks (past bs)) s))
 lifted_param ctx ks bs s h = explicit-rename (past bs) (maps-lifted ks bs ctx) h
 
+-- the lifted functor signature is well formed if its parameter and its result are
 pub lifted_well_formed : (ctx ks bs : List Kind) (s r : Sig) → Explicit ctx (Abs.Ex ks s) → WellFormed (extend (extend ctx ks) bs) r → WellFormed (extend ctx (lifted_kinds ks bs)) (Sig.Fun Pure ks (rename_sig (lifts ks (past bs)) s) (Abs.Ex [] (substitute_sig (lifting ks bs) r)))
 lifted_well_formed ctx ks bs s r h w = WellFormed.pure (lifted_param ctx ks bs s h) (well_formed-substitute (lifting ks bs) (lifting_kinds ctx ks bs) w)
 
+-- the body of an ordered explicit signature is well formed
 pub body-of : {ctx ks : List Kind} {s : Sig} → Explicit ctx (Abs.Ex ks s) → WellFormed (extend ctx ks) s
 body-of (explicit w r e) = w
 
+-- the lifted signature is ordered explicit if its parameter and its result are
 pub lifted_explicit : (ctx ks bs : List Kind) (s r : Sig) → Explicit ctx (Abs.Ex ks s) → Explicit (extend ctx ks) (Abs.Ex bs r) → Explicit ctx (lifted ks s (Abs.Ex bs r))
 lifted_explicit ctx ks bs s r h (explicit w q e) = explicit
     (lifted_well_formed ctx ks bs s r h w)

@@ -1,4 +1,5 @@
 -- What elaboration makes of signatures is well formed, and ordered explicit where it is written.
+-- Main results: instance_explicit, generative_explicit, lift_explicit.
 use Rattle.std.specs.Prelude.{ℕ, List, [], ◌∷◌}
 use Rattle.std.proofs.Common.{arith}
 use Rattle.std.proofs.Math.Path.{refl, subst}
@@ -65,9 +66,11 @@ opaque_explicit ctx k = explicit (WellFormed.typ (normal-kind (eta-normal k (n_v
 
 -- types of the right kinds put in
 
+-- a well formed signature at types of the right kinds is well formed
 pub instance_well_formed : {ctx ks : List Kind} {ts : List Ty} {x y : Abs} → OfKinds ctx ts ks → WellFormedAbs (extend ctx ks) x → NormalAbsForm ctx (abs_at ts x) y → WellFormedAbs ctx y
 instance_well_formed {ts = ts} k w f = well_formed_abs-conv (well_formed_abs-substitute (puts ts Ty.Var) (at-substitutes k) w) (form-conv_abs f)
 
+-- an ordered explicit signature at types of the right kinds is ordered explicit
 pub instance_explicit : {ctx ks : List Kind} {ts : List Ty} {x y : Abs} → OfKinds ctx ts ks → Explicit (extend ctx ks) x → NormalAbsForm ctx (abs_at ts x) y → Explicit ctx y
 instance_explicit {ts = ts} k w f = explicit-conv (explicit-substitute (puts ts Ty.Var) (at-substitutes k) w) (form-conv_abs f)
 
@@ -81,15 +84,19 @@ outside_explicit {ctx} ks {y = y} e c f =
 
 -- functors
 
+-- a generative functor is ordered explicit if its parameter and its result are
 pub generative_explicit : {ctx ks : List Kind} {s : Sig} {x : Abs} → Explicit ctx (Abs.Ex ks s) → Explicit (extend ctx ks) x → Explicit ctx (Abs.Ex [] (Sig.Fun Impure ks s x))
 generative_explicit e f = plain_explicit (WellFormed.impure e (explicit-abs f)) (in_impure f)
 
+-- the lifted signature is ordered explicit if its parameter and its result are
 pub lift_explicit : {ctx ks : List Kind} {s : Sig} {x y : Abs} → Explicit ctx (Abs.Ex ks s) → Explicit (extend ctx ks) x → Lift ctx ks s x y → Explicit ctx y
 lift_explicit {ctx} {ks} {s} {x = Abs.Ex bs r} e f (lift n) = explicit-conv (lifted_explicit ctx ks bs s r e f) (form-conv_abs n)
 
+-- the lifted signature is well formed if its parameter and its result are
 pub lift_well_formed : {ctx ks : List Kind} {s : Sig} {x y : Abs} → Explicit ctx (Abs.Ex ks s) → WellFormedAbs (extend ctx ks) x → Lift ctx ks s x y → WellFormedAbs ctx y
 lift_well_formed {ctx} {ks} {s} {x = Abs.Ex bs r} e (abs w) (lift n) = well_formed_abs-conv (abs (lifted_well_formed ctx ks bs s r e w)) (form-conv_abs n)
 
+-- the lifted types of types have the lifted kinds
 pub lifted_types-kinds : {ctx : List Kind} (ks : List Kind) {ts : List Ty} {bs : List Kind} → OfKinds (extend ctx ks) ts bs → OfKinds ctx (lifted_types ks ts) (lifted_kinds ks bs)
 lifted_types-kinds ks none = none
 lifted_types-kinds ks (next h k) = next (lam_over-kind ks h) (lifted_types-kinds ks k)

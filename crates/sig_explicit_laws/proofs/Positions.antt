@@ -1,4 +1,5 @@
 -- Which variable of binders an index is.
+-- Main results: own-second, past-injective.
 use Rattle.std.specs.Prelude.{ℕ, ◌+◌, ◌-◌, ◌<◌, List, ◌++◌, ◌≡◌, ◌⊎◌, length}
 use mathlib.Core.Logic.{inl, inr}
 use Rattle.std.proofs.Common.{arith}
@@ -12,6 +13,7 @@ use Rattle.std.proofs.lemmas.List.{length-append}
 pub own-first : (ks js : List Kind) (i : ℕ) → i < length ks → own (ks ++ js) i ≡ past js (own ks i)
 own-first ks js i h = let e = length-append ks js in let g = past-length js (own ks i) in omega arith
 
+-- the index of a number in the second of two lists of binders is that in this list
 pub own-second : (ks js : List Kind) (i : ℕ) → own (ks ++ js) (length ks + i) ≡ own js i
 own-second ks js i = let e = length-append ks js in omega arith
 
@@ -23,11 +25,14 @@ split-number ks js i h = go (dec_lt i (length ks))
     go (yes e) = inl e
     go (no e) = let g = length-append ks js in inr (i - length ks, omega arith, omega arith)
 
+-- indexes that are the same past binders are the same
 pub past-injective : (ks : List Kind) (i j : ℕ) → past ks i ≡ past ks j → i ≡ j
 past-injective ks i j e = let a = past-length ks i in let b = past-length ks j in omega arith
 
+-- an index of the binders is none from outside
 pub not-past : (ks : List Kind) (i j : ℕ) → i < length ks → i ≡ past ks j → ⊥
 not-past ks i j h e = let a = past-length ks j in omega (arith, h, e, a)
 
+-- the index of a binder's variable is one of the binders
 pub own-below : (ks : List Kind) (i : ℕ) → i < length ks → own ks i < length ks
 own-below ks i h = omega (arith, h)

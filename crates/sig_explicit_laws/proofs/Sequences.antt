@@ -1,4 +1,5 @@
 -- Declarations one after the other are ordered explicit.
+-- Main results: sequence_explicit.
 use Rattle.std.specs.Prelude.{ℕ, ◌+◌, ◌<◌, ◌≤◌, List, ◌++◌, ◌≡◌, ◌⊎◌, length}
 use mathlib.Core.Logic.{inl, inr}
 use Rattle.std.proofs.Common.{arith}
@@ -35,6 +36,7 @@ pub params-fresh : (ctx js : List Kind) (s : Sig) (p : SigPath) (i : ℕ) → Co
 params-fresh ctx js s p i w h = subst (λ z. ParamsAvoid (extend ctx js) z p i) (substitute-vars_sig (past js) s)
     (params-moved s p i (λ j. Ty.Var (past js j)) (maps-substitutes (past-maps js ctx)) w (λ j m. absurd (not-past js i j h (in_var m))))
 
+-- the fields of a well formed structure rise, and are well formed
 pub row-of : {ctx : List Kind} {fs : SigRow} → WellFormed ctx (Sig.Str fs) → Rising fs × WellFormedRow ctx fs
 row-of (WellFormed.str r w) = (r, w)
 
@@ -49,6 +51,7 @@ sequence_well_formed ctx ks js fs gs w v a =
     subst (λ c. WellFormed c (Sig.Str (merge (raise_sig_row js fs) gs))) (sym (extend-append ks js ctx))
     (WellFormed.str (merge-rising (raise_sig_row js fs) gs (apart-raised js a) w'.0 v'.0) (merge-well_formed w'.1 v'.1))
 
+-- declarations of different names, one after the other, are ordered explicit if each is
 pub sequence_explicit : (ctx ks js : List Kind) (fs gs : SigRow) → Explicit ctx (Abs.Ex ks (Sig.Str fs)) → Explicit (extend ctx ks) (Abs.Ex js (Sig.Str gs)) → Apart fs gs → Explicit ctx (Abs.Ex (ks ++ js) (Sig.Str (merge (raise_sig_row js fs) gs)))
 sequence_explicit ctx ks js fs gs (explicit w r h) (explicit v q g) a = explicit
     (sequence_well_formed ctx ks js fs gs w v a)

@@ -1,4 +1,5 @@
 -- What single declarations give, and the exit at a condition that fails.
+-- Main results: module-given, generative-given.
 use Rattle.std.proofs.Common.{◌≡◌, List, [], Option, Some, None, Result, Ok, Err, IfErr, IfOk, IfSome, IsErrAnd, sym, ◌∙◌, subst}
 use Rattle.std.proofs.lemmas.Result.{err_from_is_err_and}
 use Rattle.omega_kinds.specs.Kind.{Kind}
@@ -20,6 +21,7 @@ some-weaker : (o : Option SigWhy) (P Q : SigWhy → Type 0) → ((w : SigWhy) �
 some-weaker None P Q f h = tt
 some-weaker (Some w) P Q f h = f w h
 
+-- a condition that fails, with its reason, is a refusal
 pub exit : {T : Type 0} (F : Type 0) (w : SigWhy) (Q : SigWhy → Type 0) → (F → Q w) → (r : Result T SigRefusal) (e : SigRefusal) → IsErrAnd r (λ y. y ≡ e) → IfSome (plain_why e) (λ why. F × (why ≡ w)) → IfErr r (λ y. IfSome (plain_why y) Q)
 exit {T} F w Q f r e out h =
     let p = err_from_is_err_and r out in
@@ -29,11 +31,13 @@ exit {T} F w Q f r e out h =
 module-by : (l : Name) (x z : Abs) → z ≡ Abs.Ex (kinds_of x) (one_part l (body_of x)) → ModuleGives l x z
 module-by l (Abs.Ex ks s) z e = subst (ModuleGives l (Abs.Ex ks s)) (sym e) ModuleGives.module_
 
+-- the declaration of a module gives the structure of its signature, which hides the same types
 pub module-given : (l : Name) (x z : Abs) (ks : List Kind) (s : Sig) → ks ≡ kinds_of x → s ≡ body_of x → z ≡ Abs.Ex ks (one_part l s) → ModuleGives l x z
 module-given l x z ks s ek es e = module-by l x z (e ∙ (λ i. Abs.Ex (ek i) (one_part l (es i))))
 
 generative-by : (x y z : Abs) → z ≡ Abs.Ex [] (Sig.Fun Impure (kinds_of x) (body_of x) y) → GenerativeGives x y z
 generative-by (Abs.Ex ks s) y z e = subst (GenerativeGives (Abs.Ex ks s) y) (sym e) GenerativeGives.generative
 
+-- a generative functor signature is made of its parameter and its result
 pub generative-given : (x y z t : Abs) (ks ls : List Kind) (s f : Sig) → ks ≡ kinds_of x → s ≡ body_of x → t ≡ y → f ≡ Sig.Fun Impure ks s t → ls ≡ [] → z ≡ Abs.Ex ls f → GenerativeGives x y z
 generative-given x y z t ks ls s f ek es et ef el e = generative-by x y z (e ∙ (λ i. Abs.Ex (el i) ((ef ∙ (λ j. Sig.Fun Impure (ek j) (es j) (et j))) i)))

@@ -1,4 +1,5 @@
 -- One of the hidden types is shown by a part, and is fixed.
+-- Main results: fixed-found, refined-by, leaves-refuses, not_own-refuses, kind-refuses.
 use Rattle.std.proofs.Common.{◌≡◌, ◌≢◌, ℕ, zero, suc, ◌+◌, ◌-◌, ◌<◌, ◌≤◌, List, [], ◌∷◌, ◌++◌, length, get_or, take, drop, map, Option, Some, None, MatchOption, refl, sym, ap, ap₂, ◌∙◌, subst, subst₂, arith, below_more, drop-cons, length-append, length-drop, take-append-drop}
 use Rattle.omega_kinds.specs.Kind.{Kind}
 use Rattle.omega_kinds.specs.Name.{Name}
@@ -42,6 +43,7 @@ others ks p lt = let e = ap length (split-at ks p lt) ∙ length-append (before 
 after-length : (ks : List Kind) (p : ℕ) → length (after ks p) ≡ length ks - (p + 1)
 after-length ks p = length-drop (p + 1) ks
 
+-- the kind at a place of the code's list is the one at the place
 pub kind_at-shared : (ks : List SharedKind) (p : ℕ) (k : SharedKind) → p < length ks → k ≡ get_or ks p k → kind_tree k ≡ kind_at (map kind_tree ks) p
 kind_at-shared [] p k lt e = absurd (omega arith)
 kind_at-shared (j ∷ ks) zero k lt e = ap kind_tree e
@@ -82,30 +84,37 @@ none-own ks q n bs j cs e o =
 
 -- the same, by what the code knows
 
+-- a place in the code's list of kinds is one in the list of their trees
 pub mapped : (kinds : List SharedKind) (p : ℕ) → p < length kinds → p < length (map kind_tree kinds)
 mapped kinds p lt = let l = length-trees kinds in omega arith
 
+-- of an option that is none, the case of none holds
 pub when-none : {A : Type 0} (o : Option A) (P : Type 0) (Q : A → Type 0) → o ≡ None → MatchOption o P Q → P
 when-none o P Q e h = subst (λ r. MatchOption r P Q) e h
 
+-- of an option that is a value, the case of the value holds
 pub when-some : {A : Type 0} (o : Option A) (a : A) (P : Type 0) (Q : A → Type 0) → o ≡ Some a → MatchOption o P Q → Q a
 when-some o a P Q e h = subst (λ r. MatchOption r P Q) e h
 
+-- a part whose node is a type is this type
 pub shown-is : (n : SigNode) (q : Sig) (t : Ty) (k : SharedKind) → n ≡ node.Typ t k → sig_of n ≡ q → q ≡ Sig.Typ t (kind_tree k)
 shown-is n q t k en eq = sym eq ∙ ap sig_of en
 
+-- a part that is the variable at a place shows the hidden type there
 pub own-found : (kinds : List SharedKind) (p : ℕ) (own : SharedKind) (q : Sig) → p < length kinds → own ≡ get_or kinds p own → q ≡ shown_at (kind_tree own) (length kinds - 1 - p) → (p < length kinds) × IsOwn (map kind_tree kinds) p q
 own-found kinds p own q lt eo e =
     let l = length-trees kinds in
     let lt' : p < length (map kind_tree kinds) = omega arith in
     (lt, is-own (map kind_tree kinds) p q (kind_tree own) lt' (kind_at-shared kinds p own lt eo) (e ∙ ap (λ m. shown_at (kind_tree own) (m - 1 - p)) (sym l)))
 
+-- a part that is not the variable at a place shows none of the hidden types up to it
 pub own-passed : (kinds : List SharedKind) (p : ℕ) (own : SharedKind) (q : Sig) → p < length kinds → own ≡ get_or kinds p own → (q ≡ shown_at (kind_tree own) (length kinds - 1 - p) → ⊥) → ((r : ℕ) → r < p → IsOwn (map kind_tree kinds) r q → ⊥) → (r : ℕ) → r < p + 1 → IsOwn (map kind_tree kinds) r q → ⊥
 own-passed kinds p own q lt eo n before =
     let l = length-trees kinds in
     let lt' : p < length (map kind_tree kinds) = omega arith in
     below_more (λ r. IsOwn (map kind_tree kinds) r q → ⊥) p before (λ o. n (own-shows (map kind_tree kinds) p q (kind_tree own) lt' (kind_at-shared kinds p own lt eo) o ∙ ap (λ m. shown_at (kind_tree own) (m - 1 - p)) l))
 
+-- a part that shows none of the hidden types at all places shows none
 pub none-found : (kinds : List SharedKind) (q : Sig) (p : ℕ) → length kinds ≤ p → ((r : ℕ) → r < p → IsOwn (map kind_tree kinds) r q → ⊥) → NotOwn (map kind_tree kinds) q
 none-found kinds q p le h =
     let l = length-trees kinds in
@@ -141,6 +150,7 @@ map-take zero kinds = refl
 map-take (suc p) [] = refl
 map-take (suc p) (k ∷ kinds) = ap (◌∷◌ (kind_tree k)) (map-take p kinds)
 
+-- the signature with the hidden type at a place fixed hides the others
 pub fixed-found : (x : Abs) (s : Sig) (ks : List Kind) (kinds front from later : List SharedKind) (p : ℕ) (u : Ty) (n : Sig) (left : List Kind) (y : Abs) → p < length (kinds_of x)
     → map kind_tree kinds ≡ ks → ks ≡ kinds_of x → s ≡ body_of x → front ≡ take p kinds → from ≡ drop p kinds → later ≡ drop (p + 1) kinds
     → PutFirst (map kind_tree from) s (shift (length kinds - 1) 0 u) n
@@ -162,6 +172,7 @@ given-by ctx (Abs.Ex ks s) p q names u k y lt l o ek f nx hu =
     let v = f ctx nx (subst (Normal ctx u) ek hu) in
     subst₂ (λ j z. Refined ctx (Abs.Ex ks s) names u j z) (sym ek) (sym v.1) (Refined.refined (before ks p) (after ks p) (split-at ks p lt) (subst (Leads s names) o l) v.2)
 
+-- a path to a part that shows a hidden type fixes it with a type of its kind
 pub refined-by : (ctx : List Kind) (x : Abs) (s : Sig) (ks : List Kind) (p : ℕ) (q : Sig) (names : List Name) (u : Ty) (k j : Kind) (y : Abs) → s ≡ body_of x → ks ≡ kinds_of x → p < length ks → Leads s names q → IsOwn ks p q → j ≡ kind_at ks p → k ≡ j → Fixed x p u y → NormalAbs ctx x → Normal ctx u k → Refined ctx x names u k y
 refined-by ctx x s ks p q names u k j y es eks lt l o ej ek f nx hu =
     given-by ctx x p q names u k y (subst (λ ls. p < length ls) eks lt) (subst (λ t. Leads t names q) es l) (subst (λ ls. IsOwn ls p q) eks o) (ek ∙ (ej ∙ ap (λ ls. kind_at ls p) eks)) f nx hu
@@ -169,12 +180,14 @@ refined-by ctx x s ks p q names u k j y es eks lt l o ej ek f nx hu =
 leaves : (x : Abs) (names : List Name) (u : Ty) (k : Kind) (l : Name) → LeavesAt (λ m. m) (body_of x) names l → WhereRefuses x names u k (NoPart l)
 leaves (Abs.Ex ks s) names u k l h = WhereRefuses.leaves h
 
+-- a path that leaves the structures is refused, at the name
 pub leaves-refuses : (x : Abs) (s : Sig) (names : List Name) (u : Ty) (k : Kind) (l m : Name) → s ≡ body_of x → LeavesAt (λ n. n) s names l → m ≡ l → WhereRefuses x names u k (NoPart m)
 leaves-refuses x s names u k l m es h e = subst (λ n. WhereRefuses x names u k (NoPart n)) (sym e) (leaves x names u k l (subst (λ t. LeavesAt (λ n. n) t names l) es h))
 
 not_own : (x : Abs) (q : Sig) (names : List Name) (u : Ty) (k : Kind) → Leads (body_of x) names q → NotOwn (kinds_of x) q → WhereRefuses x names u k (NotAbstract (map Item.Part names))
 not_own (Abs.Ex ks s) q names u k l n = WhereRefuses.not_own l n
 
+-- a path to a part that shows no hidden type is refused
 pub not_own-refuses : (x : Abs) (s : Sig) (ks : List Kind) (q : Sig) (names : List Name) (u : Ty) (k : Kind) (path : SigPath) → s ≡ body_of x → ks ≡ kinds_of x → Leads s names q → NotOwn ks q → path ≡ map Item.Part names → WhereRefuses x names u k (NotAbstract path)
 not_own-refuses x s ks q names u k path es eks l n e =
     subst (λ p. WhereRefuses x names u k (NotAbstract p)) (sym e) (not_own x q names u k (subst (λ t. Leads t names q) es l) (subst (λ ls. NotOwn ls q) eks n))
@@ -182,6 +195,7 @@ not_own-refuses x s ks q names u k path es eks l n e =
 other-kind : (x : Abs) (p : ℕ) (q : Sig) (names : List Name) (u : Ty) (k : Kind) → p < length (kinds_of x) → Leads (body_of x) names q → IsOwn (kinds_of x) p q → k ≢ kind_at (kinds_of x) p → WhereRefuses x names u k (KindDiffer k (kind_at (kinds_of x) p))
 other-kind (Abs.Ex ks s) p q names u k lt l o n = WhereRefuses.kind (before ks p) (after ks p) (split-at ks p lt) (subst (Leads s names) o l) n
 
+-- a hidden type fixed with a type of another kind is refused
 pub kind-refuses : (x : Abs) (s : Sig) (ks : List Kind) (p : ℕ) (q : Sig) (names : List Name) (u : Ty) (k j k' j' : Kind) → s ≡ body_of x → ks ≡ kinds_of x → p < length ks → Leads s names q → IsOwn ks p q → j ≡ kind_at ks p → (k ≡ j → ⊥) → k' ≡ k → j' ≡ j → WhereRefuses x names u k (KindDiffer k' j')
 kind-refuses x s ks p q names u k j k' j' es eks lt l o ej n ek' ej' =
     let e : j ≡ kind_at (kinds_of x) p = ej ∙ ap (λ ls. kind_at ls p) eks in

@@ -1,4 +1,5 @@
 -- Two rows of fields in rising order, merged by walking them side by side.
+-- Main results: left-done, right-done, sequence-given.
 use Rattle.std.proofs.Common.{◌≡◌, ℕ, ◌+◌, ◌<◌, ◌≤◌, List, [], ◌∷◌, ◌++◌, length, get_or, drop, take, map, Bool, true, false, cond, IsTrue, refl, sym, ap, ap₂, ◌∙◌, subst, subst₂, arith, append_assoc, append-nil, drop_of_length-le, take-append-drop}
 use Rattle.omega_kinds.specs.Name.{Name}
 use Rattle.omega_kinds.specs.LabelOrder.{name_before, name_cmp}
@@ -174,30 +175,37 @@ Walking left right done i j = (i ≤ length left) × (j ≤ length right) × Wal
 opened : (left right done : SigPairs) (i j : ℕ) (x y : Name × Sig) → i < length left → j < length right → x ≡ get_or left i x → y ≡ get_or right j y → Walking left right done i j → Walked left right done (x ∷ drop (i + 1) left) (y ∷ drop (j + 1) right)
 opened left right done i j x y li lj ex ey w = subst₂ (λ (xs ys : SigPairs). Walked left right done xs ys) (left-more left i x li ex) (left-more right j y lj ey) w.2
 
+-- the left field at hand may follow those that are done
 pub left-follows : (left right done : SigPairs) (i j : ℕ) (x y : Name × Sig) → i < length left → j < length right → x ≡ get_or left i x → y ≡ get_or right j y → Walking left right done i j → MayFollow done x.0
 left-follows left right done i j x y li lj ex ey w = may-follow done x (drop (i + 1) left) (opened left right done i j x y li lj ex ey w).0
 
+-- so may the right field at hand
 pub right-follows : (left right done : SigPairs) (i j : ℕ) (x y : Name × Sig) → i < length left → j < length right → x ≡ get_or left i x → y ≡ get_or right j y → Walking left right done i j → MayFollow done y.0
 right-follows left right done i j x y li lj ex ey w = may-follow done y (drop (j + 1) right) (opened left right done i j x y li lj ex ey w).1
 
+-- the left field is taken if its name comes first
 pub left-taken : (left right done now : SigPairs) (i j : ℕ) (x y : Name × Sig) → i < length left → j < length right → x ≡ get_or left i x → y ≡ get_or right j y → Less ≡ name_cmp x.0 y.0 → now ≡ done ++ x ∷ [] → Walking left right done i j → Walking left right now (i + 1) j
 left-taken left right done now i j x y li lj ex ey h e w =
     let v = walk-left left right done x y (drop (i + 1) left) (drop (j + 1) right) (less-before x.0 y.0 h) (opened left right done i j x y li lj ex ey w) in
     (omega (arith, li), w.1, subst₂ (λ (ds ys : SigPairs). Walked left right ds (drop (i + 1) left) ys) (sym e) (sym (left-more right j y lj ey)) v)
 
+-- the right field is taken if its name comes first
 pub right-taken : (left right done now : SigPairs) (i j : ℕ) (x y : Name × Sig) → i < length left → j < length right → x ≡ get_or left i x → y ≡ get_or right j y → Greater ≡ name_cmp x.0 y.0 → now ≡ done ++ y ∷ [] → Walking left right done i j → Walking left right now i (j + 1)
 right-taken left right done now i j x y li lj ex ey h e w =
     let v = walk-right left right done x y (drop (i + 1) left) (drop (j + 1) right) (greater-after x.0 y.0 h) (opened left right done i j x y li lj ex ey w) in
     (w.0, omega (arith, lj), subst₂ (λ (ds xs : SigPairs). Walked left right ds xs (drop (j + 1) right)) (sym e) (sym (left-more left i x li ex)) v)
 
+-- the left field is left out if both have one name
 pub left-skipped : (left right done : SigPairs) (i j : ℕ) (x y : Name × Sig) → i < length left → j < length right → x ≡ get_or left i x → y ≡ get_or right j y → Equal ≡ name_cmp x.0 y.0 → Walking left right done i j → Walking left right done (i + 1) j
 left-skipped left right done i j x y li lj ex ey h w =
     let v = walk-same left right done x y (drop (i + 1) left) (drop (j + 1) right) (equal-same x.0 y.0 h) (opened left right done i j x y li lj ex ey w) in
     (omega (arith, li), w.1, subst (λ (ys : SigPairs). Walked left right done (drop (i + 1) left) ys) (sym (left-more right j y lj ey)) v)
 
+-- when the left fields are used up, the rest of the right ones completes the merged fields
 pub left-done : (left right done some all : SigPairs) (i j : ℕ) → length left ≤ i → Walking left right done i j → some ≡ done ++ drop i left → all ≡ some ++ drop j right → AreApart (sig_row left) (sig_row right) → sig_row all ≡ merge (sig_row left) (sig_row right)
 left-done left right done some all i j le w es ea a = ap sig_row (ea ∙ ap (λ zs. zs ++ drop j right) es) ∙ walk-ends_left left right done (drop i left) (drop j right) (drop_of_length-le left le) w.2 a
 
+-- when the right fields are used up, the rest of the left ones completes the merged fields
 pub right-done : (left right done some all : SigPairs) (i j : ℕ) → length right ≤ j → Walking left right done i j → some ≡ done ++ drop i left → all ≡ some ++ drop j right → AreApart (sig_row left) (sig_row right) → sig_row all ≡ merge (sig_row left) (sig_row right)
 right-done left right done some all i j le w es ea a = ap sig_row (ea ∙ ap (λ zs. zs ++ drop j right) es) ∙ walk-ends left right done (drop i left) (drop j right) (drop_of_length-le right le) w.2 a
 
@@ -214,6 +222,7 @@ apart-renamed : (r : ℕ → ℕ) (fs gs : SigRow) → AreApart fs gs → AreApa
 apart-renamed r SigRow.End gs a = tt
 apart-renamed r (SigRow.More l s fs) gs a = (a.0, apart-renamed r fs gs a.1)
 
+-- declarations one after the other hide the types of both and have the merged fields
 pub sequence-given : (x y z : Abs) (later : List SharedKind) (s t raised : Sig) (fields : SigPairs) (kinds : List Kind) (body : Sig)
     → map kind_tree later ≡ kinds_of y → s ≡ body_of x → raised ≡ rename_sig (bump (length later) 0) s → t ≡ body_of y
     → ((fs gs : SigRow) → raised ≡ Sig.Str fs → t ≡ Sig.Str gs → AreApart fs gs → sig_row fields ≡ merge fs gs)

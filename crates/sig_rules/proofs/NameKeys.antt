@@ -1,4 +1,5 @@
 -- A name on its way into a set of names, and a name looked for in one.
+-- Main results: key-put.
 use Rattle.std.proofs.Common.{◌≡◌, ◌↔◌, List, [], ◌∷◌, Bool, true, false, ◌||◌, cond, IsTrue, refl, sym, ap, ◌∙◌, subst}
 use Rattle.std.specs.BTreeMap.{is_at}
 use Rattle.std.specs.BTreeSet.{insert_key}
@@ -27,6 +28,7 @@ differs l m n = go (same_name l m) (same_name-true l m)
 past : (l m : Name) (ms : List Name) → (l ≡ m → ⊥) → with_name l (m ∷ ms) ≡ cond (name_before l m) (l ∷ m ∷ ms) (m ∷ with_name l ms)
 past l m ms n = ap (λ c. cond c (m ∷ ms) (cond (name_before l m) (l ∷ m ∷ ms) (m ∷ with_name l ms))) (differs l m n)
 
+-- a name put into a sorted list of names is put into the set
 pub key-put : (names : List Name) (l : Name) → insert_key name_cmp names l ≡ with_name l names
 key-put [] l = refl
 key-put (m ∷ ms) l = go (key-put ms l) (name_cmp l m) refl

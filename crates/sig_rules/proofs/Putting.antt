@@ -1,4 +1,5 @@
 -- A type put in for one hidden type: by putting types in for it and, for those after it, their own variables.
+-- Main results: put-first-by, raise-both.
 use Rattle.std.proofs.Common.{◌≡◌, ℕ, zero, suc, ◌+◌, ◌-◌, ◌<◌, List, [], ◌∷◌, ◌++◌, length, map, drop, get_or, refl, sym, ap, ap₂, ◌∙◌, subst, subst₂, arith, append_assoc, length-drop}
 use Rattle.std.proofs.Math.Path.{fun_ext}
 use Rattle.omega_kinds.specs.Kind.{Kind}
@@ -34,6 +35,7 @@ eta-rename r Kind.Star t = refl
 eta-rename r (Kind.Arrow k l) t =
     ap (Ty.Lam k) (eta-rename (lift r) l (Ty.Apply (rename suc t) (eta k (Ty.Var zero))) ∙ ap (eta l) (ap₂ Ty.Apply (rename-weaken r t) (eta-rename (lift r) k (Ty.Var zero))))
 
+-- the eta-long variable 0, raised, is the eta-long variable of the greater index
 pub eta-raised : (index : ℕ) (k : Kind) → shift index 0 (eta k (Ty.Var 0)) ≡ eta k (Ty.Var index)
 eta-raised index k = let e : index + 0 ≡ index = omega arith in eta-rename (bump index 0) k (Ty.Var 0) ∙ ap (λ i. eta k (Ty.Var i)) e
 
@@ -43,6 +45,7 @@ lifts-bump : (ks : List Kind) (by from : ℕ) → lifts ks (bump by from) ≡ bu
 lifts-bump [] by from = let e : from ≡ 0 + from = omega arith in ap (bump by) e
 lifts-bump (k ∷ ks) by from = let e : length ks + suc from ≡ length (k ∷ ks) + from = omega arith in lifts-bump ks by (suc from) ∙ ap (bump by) e
 
+-- going past binders is the shift by how many they are
 pub past-bump : (ks : List Kind) → past ks ≡ bump (length ks) 0
 past-bump ks = fun_ext (past-length ks)
 
@@ -55,6 +58,7 @@ past-both ks js i =
     let b = past-length ks i in
     omega arith
 
+-- raising past binders and then past others is the shift by how many they are together
 pub raise-both : (ks js : List Kind) (t : Ty) → raise js (raise ks t) ≡ shift (length ks + length js) 0 t
 raise-both ks js t = rename-rename (past js) (past ks) t ∙ ap (λ r. rename r t) (fun_ext (past-both ks js))
 
@@ -124,6 +128,7 @@ put-first ks s n t x ts rest ex first ek et f ctx js k e m h =
 
 -- the same, by what the code knows
 
+-- the type for the first hidden type and the variables for the others, put in, fix the first
 pub put-first-by : (kinds : List SharedKind) (s n : Sig) (t raised : Ty) (x : Abs) (ts items : List Ty) → 0 < length kinds
     → x ≡ Abs.Ex (map kind_tree kinds) (rename_sig (bump (length kinds - 1) (length kinds)) s)
     → raised ≡ t → ts ≡ raised ∷ vars (map kind_tree (drop 1 kinds)) → items ≡ ts
@@ -143,6 +148,7 @@ own-index later i n e =
     let d = length-drop (i + 1) later in
     omega arith
 
+-- one more variable of the hidden types after the first is put in
 pub own-added : (later : List SharedKind) (i n : ℕ) (k : SharedKind) (first t : Ty) (done now : List Ty) → i < length later → k ≡ get_or later i k → t ≡ eta (kind_tree k) (Ty.Var (n - 1)) → now ≡ done ++ t ∷ []
     → (done ++ vars (map kind_tree (drop i later)) ≡ first ∷ vars (map kind_tree later)) × (n + i ≡ length later)
     → (now ++ vars (map kind_tree (drop (i + 1) later)) ≡ first ∷ vars (map kind_tree later)) × (n - 1 + (i + 1) ≡ length later)

@@ -1,4 +1,5 @@
 -- A number that falls at each call that hereditary substitution makes of itself: it counts them.
+-- Main results: body-falls.
 use Rattle.std.proofs.Common.{◌≡◌, ℕ, zero, suc, ◌+◌, ◌<◌, ◌≤◌, ap, ap₂, sym, ◌∙◌, ◌*◌, arith}
 use Rattle.omega_kinds.specs.Kind.{Kind}
 use Rattle.omega_types.specs.Ty.{Ty, Row}
@@ -147,6 +148,7 @@ apply-falls k i arg body f t a p e g h =
     let o : calls k i arg body ≡ calls k i arg (Ty.Apply f t) = ap (calls k i arg) e in
     omega (arith, n, m, o)
 
+-- entering an operator's body with its argument leaves fewer calls than the application
 pub body-falls : (p : Part) (operator arg b : Ty) (kind from to entered j : Kind) → p ≡ whole operator kind (args kind) → operator ≡ Ty.Lam j b → kind ≡ Kind.Arrow from to → entered ≡ from → 4 * calls entered 0 (shift 0 0 arg) b + 1 < 4 * operator_calls p arg
 body-falls p operator arg b kind from to entered j e f g h =
     let n = calls-body j from to (args (Kind.Arrow from to)) arg b in

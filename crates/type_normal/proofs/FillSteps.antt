@@ -1,4 +1,5 @@
 -- What hereditary substitution does at each form of type, with indexes counted as the code counts them.
+-- Main results: fill-same, fill-above, row-put_in.
 use Rattle.std.proofs.Common.{◌≡◌, ℕ, zero, suc, ◌+◌, ◌-◌, ◌<◌, ◌≤◌, [], ◌∷◌, refl, sym, ap, ap₂, ◌∙◌, arith}
 use Rattle.omega_kinds.specs.Kind.{Kind}
 use Rattle.omega_types.specs.Ty.{Ty, Row}
@@ -29,12 +30,15 @@ slot-same (suc i) (suc j) h = ap raised (slot-same i j (omega arith))
 
 -- variables
 
+-- at the index of the substitution stands the argument
 pub fill-same : (k : Kind) (a : Ty) (i j : ℕ) → j ≡ i → fill_part k (args k) a (slot i j) ≡ whole a k (args k)
 fill-same k a i j h = ap (fill_part k (args k) a) (slot-same i j h)
 
+-- a greater index is one less
 pub fill-above : (k : Kind) (a : Ty) (i j : ℕ) → i < j → fill_part k (args k) a (slot i j) ≡ stuck (Ty.Var (j - 1))
 fill-above k a i j h = ap (fill_part k (args k) a) (slot-above i j h)
 
+-- the argument, as the code has it, is what stands at the index
 pub filled-same : (k j : Kind) (t a : Ty) (i n : ℕ) → n ≡ i → j ≡ k → t ≡ a → whole t j (args j) ≡ fill_part k (args k) a (slot i n)
 filled-same k j t a i n e f g = ap₂ (λ u l. whole u l (args l)) g f ∙ sym (fill-same k a i n e)
 
@@ -66,9 +70,11 @@ put_in-under k at depth arg b = ap₂ (λ i a. tree (put_in k (args k) i a b)) (
     next : (n : ℕ) → suc n ≡ n + 1
     next n = omega arith
 
+-- an argument raised past no binders is the argument
 pub put_in-outermost : (k : Kind) (i : ℕ) (arg b : Ty) → tree (put_in k (args k) i (shift 0 0 arg) b) ≡ tree (put_in k (args k) i arg b)
 put_in-outermost k i arg b = ap (λ a. tree (put_in k (args k) i a b)) (shift-zero 0 arg)
 
+-- hereditary substitution in a list of fields is that in their row
 pub row-put_in : (k : Kind) (i : ℕ) (a : Ty) (xs : Pairs) → row (map_parts (hsubst k i a) xs) ≡ put_in_row k (args k) i a (row xs)
 row-put_in k i a [] = refl
 row-put_in k i a (x ∷ xs) = ap (Row.More x.0 (hsubst k i a x.1)) (row-put_in k i a xs)

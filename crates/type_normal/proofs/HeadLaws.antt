@@ -1,4 +1,5 @@
 -- What types put in for variables give: the normal form of the substitution, and a renaming where each is a variable.
+-- Main results: ty-renamed, good-under, good-puts.
 use Rattle.std.specs.Prelude.{ℕ, zero, suc, ◌≡◌, List, [], ◌∷◌, length}
 use Rattle.std.proofs.Common.{arith}
 use Rattle.std.proofs.Math.Path.{refl, sym, ◌∙◌, ap, ap₂, subst, fun_ext}
@@ -31,6 +32,7 @@ use Rattle.type_normal.proofs.HeadSteps.{sinks-sunk}
 abbrev pub renaming : (ℕ → ℕ) → ℕ → Head
 renaming r i = stands (Ty.Var (r i))
 
+-- a renaming as a change of variables, below a binder
 pub under-renaming : (r : ℕ → ℕ) → under_head (renaming r) ≡ renaming (lift r)
 under-renaming r = fun_ext go
   where
@@ -38,6 +40,7 @@ under-renaming r = fun_ext go
     go zero = refl
     go (suc i) = refl
 
+-- a renaming as a change of variables, below a list of binders
 pub sinks-renaming : (ks : List Kind) (r : ℕ → ℕ) → sinks ks (renaming r) ≡ renaming (lifts ks r)
 sinks-renaming [] r = refl
 sinks-renaming (k ∷ ks) r = ap (sinks ks) (under-renaming r) ∙ sinks-renaming ks (lift r)
@@ -66,6 +69,7 @@ pub sunk-renaming : (depth : ℕ) (r : ℕ → ℕ) → sunk depth (renaming r) 
 sunk-renaming zero r = refl
 sunk-renaming (suc depth) r = ap under_head (sunk-renaming depth r) ∙ under-renaming (lifted depth r)
 
+-- a change of variables that renames them is the renaming
 pub ty-renamed : (depth : ℕ) (r : ℕ → ℕ) (t : Ty) → ty_in (sunk depth (renaming r)) t ≡ rename (lifted depth r) t
 ty-renamed depth r t = ap (λ h. ty_in h t) (sunk-renaming depth r) ∙ ap tree (head-renamed (lifted depth r) t)
 
@@ -83,10 +87,12 @@ good-raised : {other : List Kind} {s : Ty} {p : Head} {k : Kind} (l : Kind) → 
 good-raised {other} l (g_stands n c) = g_stands (neutral-rename suc (maps-suc l other) n) (conv-rename suc (maps-suc l other) c)
 good-raised {other} l (g_came n c) = g_came (normal-rename suc (maps-suc l other) n) (conv-rename suc (maps-suc l other) c)
 
+-- a change that gives normal types of the right kinds does so below a binder
 pub good-under : {ctx other : List Kind} {s : ℕ → Ty} {h : ℕ → Head} (l : Kind) → Good ctx other s h → Good (l ∷ ctx) (l ∷ other) (under s) (under_head h)
 good-under l g _ _ here = g_stands (n_var here) (c_refl (k_var here))
 good-under l g _ _ (there {k = k} {i = i} x) = good-raised l (g i k x)
 
+-- so it does below a list of binders
 pub good-sinks : {ctx other : List Kind} {s : ℕ → Ty} {h : ℕ → Head} (ks : List Kind) → Good ctx other s h → Good (extend ctx ks) (extend other ks) (unders ks s) (sinks ks h)
 good-sinks [] g = g
 good-sinks (k ∷ ks) g = good-sinks ks (good-under k g)
@@ -133,12 +139,14 @@ good-front : {ctx other : List Kind} {s : ℕ → Ty} {h : ℕ → Head} {t : Ty
 good-front n g _ _ here = g_came n.0 n.1
 good-front n g _ _ (there {k = k} {i = i} x) = g i k x
 
+-- normal types put in before such a change give one
 pub good-puts : {ctx other : List Kind} {s : ℕ → Ty} {h : ℕ → Head} {ts : List Ty} {ks : List Kind} → NormalForms other ts ks ts → Good ctx other s h → Good (extend ctx ks) other (puts ts s) (put_heads ts h)
 good-puts {ts = []} {ks = []} n g = g
 good-puts {ts = []} {ks = k ∷ ks} n g = elim n [ ]
 good-puts {ts = t ∷ ts} {ks = []} n g = elim n [ ]
 good-puts {ts = t ∷ ts} {ks = k ∷ ks} (NormalForms.next n ns) g = good-puts ns (good-front n g)
 
+-- the change that leaves each variable is one
 pub good-vars : (ctx : List Kind) → Good ctx ctx Ty.Var (λ i. stands (Ty.Var i))
 good-vars ctx i k x = g_stands (n_var x) (c_refl (k_var x))
 

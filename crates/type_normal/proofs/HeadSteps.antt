@@ -1,4 +1,5 @@
 -- What types put in for variables do at each form of type, with indexes counted as the code counts them.
+-- Main results: sunk-below, put-outside, put-inside.
 use Rattle.std.proofs.Common.{◌≡◌, ℕ, zero, suc, ◌+◌, ◌-◌, ◌<◌, ◌≤◌, List, [], ◌∷◌, length, get_or, refl, sym, ap, ap₂, ◌∙◌, arith}
 use Rattle.omega_kinds.specs.Kind.{Kind}
 use Rattle.omega_types.specs.Ty.{Ty, Row}
@@ -12,6 +13,7 @@ use Rattle.type_normal.specs.Inner.Heads.{Head, stands, came, tree, raised, appl
 
 -- an index that is bound inside stays
 
+-- below binders, the change of those outside leaves the binders' variables
 pub sunk-below : (depth : ℕ) (h : ℕ → Head) (i : ℕ) → i < depth → sunk depth h i ≡ stands (Ty.Var i)
 sunk-below zero h i lt = absurd (omega (arith, lt))
 sunk-below (suc depth) h zero lt = refl
@@ -27,6 +29,7 @@ sunk-still (suc depth) h all (suc i) = ap raised (sunk-still depth h all i)
 abbrev pub Keeps : ℕ → (ℕ → Head) → Type 0
 Keeps n h = (i : ℕ) → i < n → h i ≡ stands (Ty.Var i)
 
+-- a change that leaves the first indexes leaves one more below a binder
 pub under-keeps : (n : ℕ) (h : ℕ → Head) → Keeps n h → Keeps (suc n) (under_head h)
 under-keeps n h k zero lt = refl
 under-keeps n h k (suc i) lt = ap raised (k i (omega arith))
@@ -66,6 +69,7 @@ pub sinks-sunk : (ks : List Kind) (depth : ℕ) (h : ℕ → Head) → sinks ks 
 sinks-sunk [] depth h = ap (λ n. sunk n h) (omega arith)
 sinks-sunk (k ∷ ks) depth h = sinks-sunk ks (suc depth) h ∙ ap (λ n. sunk n h) (omega arith)
 
+-- a change of variables in a list of fields is that in their row
 pub row-changed : (h : ℕ → Head) (xs : Pairs) → row (map_parts (ty_in h) xs) ≡ row_in h (row xs)
 row-changed h [] = refl
 row-changed h (x ∷ xs) = ap (Row.More x.0 (ty_in h x.1)) (row-changed h xs)
@@ -111,11 +115,13 @@ put_heads-inside (t ∷ ts) h i (suc j) d e = put_heads-inside ts (front_head t 
 var-above : (depth n i : ℕ) → i ≡ depth + n → stands (shift depth 0 (Ty.Var n)) ≡ stands (Ty.Var i)
 var-above depth n i e = ap (λ m. stands (Ty.Var m)) (sym e)
 
+-- an index beyond the types put in is less by how many they are
 pub put-outside : (ts : List Ty) (depth index : ℕ) → depth ≤ index → length ts ≤ index - depth → stands (Ty.Var (index - length ts)) ≡ sunk depth (putting ts) index
 put-outside ts depth index le out =
     let j = index - depth - length ts in
     sym (sunk-above depth (putting ts) index (index - depth) (omega arith) ∙ (ap (shifted depth) (put_heads-outside ts (λ i. stands (Ty.Var i)) (index - depth) j (omega arith)) ∙ var-above depth j (index - length ts) (omega arith)))
 
+-- an index of the types put in becomes its type, raised past the binders on the way
 pub put-inside : (ts : List Ty) (depth index at : ℕ) (d : Ty) → depth ≤ index → index - depth < length ts → at ≡ length ts - 1 - (index - depth) → came (shift depth 0 (get_or ts at d)) ≡ sunk depth (putting ts) index
 put-inside ts depth index at d le within e =
     sym (sunk-above depth (putting ts) index (index - depth) (omega arith) ∙ ap (shifted depth) (put_heads-inside ts (λ i. stands (Ty.Var i)) (index - depth) at d (omega arith)))

@@ -1,4 +1,5 @@
 -- What lowering and new indexes do, with indexes counted as the code counts them, and that raising undoes lowering.
+-- Main results: walk-lowers, walk-moves, raised-back.
 use Rattle.std.proofs.Common.{◌≡◌, ℕ, zero, suc, ◌+◌, ◌-◌, ◌<◌, ◌≤◌, List, [], ◌∷◌, Option, Some, None, get_or, length, refl, ap, ◌∙◌, arith}
 use Rattle.std.proofs.Math.Decide.{dec_lt}
 use Rattle.omega_types.specs.Ty.{Ty}
@@ -42,23 +43,29 @@ lifts-nothing r depth t p = walked-closed (λ d i. Ty.Var (lifted d r i)) depth 
 
 -- lowering
 
+-- the walk that lowers indexes is the lowering
 pub walk-lowers : (by from : ℕ) (t : Ty) → walked_ty (λ d i. Ty.Var (lifted d (λ j. j - by) i)) from t ≡ lower_from by from t
 walk-lowers by from t = walk-lifts (λ i. i - by) from t
 
+-- it leaves a type without indexes at or above its place
 pub lowers-nothing : (by from : ℕ) (t : Ty) → bound_of t ≤ from → walked_ty (λ d i. Ty.Var (lifted d (λ j. j - by) i)) from t ≡ t
 lowers-nothing by from t p = lifts-nothing (λ i. i - by) from t p
 
+-- lowering leaves an index below its place
 pub lower-var_below : (by depth i : ℕ) → i < depth → Ty.Var (lifted depth (λ j. j - by) i) ≡ Ty.Var i
 lower-var_below by depth i h = ap Ty.Var (lifted-below depth (λ j. j - by) i h)
 
+-- an index at or above its place is lowered
 pub lower-var_above : (by depth i : ℕ) → depth ≤ i → Ty.Var (lifted depth (λ j. j - by) i) ≡ Ty.Var (depth + (i - depth - by))
 lower-var_above by depth i h = ap Ty.Var (lifted-above depth (λ j. j - by) i h)
 
 -- new indexes
 
+-- the walk that gives variables new indexes is the renumbering
 pub walk-moves : (ps : List (Option ℕ)) (depth : ℕ) (t : Ty) → walked_ty (λ d i. Ty.Var (lifted d (moved ps) i)) depth t ≡ renumbered ps depth t
 walk-moves ps depth t = walk-lifts (moved ps) depth t
 
+-- it leaves a type without indexes at or above its place
 pub moves-nothing : (ps : List (Option ℕ)) (depth : ℕ) (t : Ty) → bound_of t ≤ depth → walked_ty (λ d i. Ty.Var (lifted d (moved ps) i)) depth t ≡ t
 moves-nothing ps depth t p = lifts-nothing (moved ps) depth t p
 
@@ -82,6 +89,7 @@ place-at [] i o lt e = absurd (omega (arith, lt))
 place-at (p ∷ ps) zero o lt e = e
 place-at (p ∷ ps) (suc i) o lt e = place-at ps i o (omega (arith, lt)) e
 
+-- an index past the list of new ones has none
 pub place-past : (ps : List (Option ℕ)) (i : ℕ) → length ps ≤ i → None ≡ place_in ps i
 place-past [] i le = refl
 place-past (p ∷ ps) zero le = absurd (omega (arith, le))
@@ -98,6 +106,7 @@ at-least n i P h p = go (dec_lt i n)
     go (yes e) = absurd (h e p)
     go (no e) = omega arith
 
+-- a type that does not mention the innermost variables, lowered and raised, is itself
 pub raised-back : (by : ℕ) (t : Ty) → ((i : ℕ) → i < by → Mentions i t → ⊥) → shift by 0 (lower by t) ≡ t
 raised-back by t h = rename-rename (bump by 0) (λ i. i - by) t ∙ (rename-agree (λ i. by + (i - by)) (λ i. i) t (λ i m. back by i (at-least by i (Mentions i t) (h i) m)) ∙ rename-id t)
   where

@@ -1,4 +1,5 @@
 -- What the normaliser does at a variable.
+-- Main results: row-normal.
 use Rattle.std.proofs.Common.{◌≡◌, ℕ, zero, suc, List, [], ◌∷◌, ◌<◌, length, take, get_or, slice_get, unwrap_or, refl, sym, ap}
 use Rattle.omega_kinds.specs.Kind.{Kind}
 use Rattle.omega_kinds.specs.declared.label.Label.{Label}
@@ -18,6 +19,7 @@ kind_at-get (k ∷ ctx) (suc i) = kind_at-get ctx i
 pub weakened : (t : Ty) → rename suc t ≡ shift 1 0 t
 weakened t = sym (shift-suc t)
 
+-- the normal forms of a list of fields are those of their row
 pub row-normal : (ctx : List Kind) (xs : Pairs) → row (map_parts (normal ctx) xs) ≡ normal_row ctx (row xs)
 row-normal ctx [] = refl
 row-normal ctx (x ∷ xs) = ap (Row.More x.0 (normal ctx x.1)) (row-normal ctx xs)
