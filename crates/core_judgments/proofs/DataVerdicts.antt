@@ -1,4 +1,5 @@
 -- Each rule of recursive types has exactly one conclusion or exactly one refusal.
+-- Main results: one_mu, one_roll, one_unroll.
 use Rattle.std.specs.Prelude.{List, ◌≡◌, ◌≢◌, ◌⊎◌}
 use Rattle.std.proofs.Common.{inl, inr}
 use Rattle.std.proofs.Math.Path.{refl, sym, subst, ap, ◌∙◌}
@@ -35,6 +36,7 @@ mu-kind MuGives.mu = refl
 mu-refused : {t : Ty} {k : Kind} {why : DataWhy} → MuRefuses t k why → (k ≢ Kind.Star) × (why ≡ KindDiffer k Kind.Star)
 mu-refused (MuRefuses.body_kind n) = (n, refl)
 
+-- the rule of recursive types has exactly one conclusion or one refusal
 pub one_mu : OneMu
 one_mu t k =
     equal (λ k (o : Ty × Kind). MuGives t k o.0 o.1) (MuRefuses t) (KindDiffer k Kind.Star) (Kind-discrete k Kind.Star) (λ i. holds (Ty.Mu t, Kind.Star) MuGives.mu mu-only (λ r q. (mu-refused q).0 refl))
@@ -67,6 +69,7 @@ module _ {ctx : List Kind} where
   roll-refused (RollRefuses.no_data m) = absurd m
   roll-refused (RollRefuses.value_type {u = u} n m) = (u, n, m, refl)
 
+-- so has that of rolled values
 pub one_roll : OneRoll
 one_roll ctx v e t k h =
     equal (λ k (o : Ty × Term). RollGives ctx v e t k o.0 o.1) (RollRefuses ctx v t) (KindDiffer k Kind.Star) (Kind-discrete k Kind.Star) (λ i. go (mu-or-not t) (subst (HasKind ctx t) i h))
@@ -93,6 +96,7 @@ unroll-mu (UnrollGives.unroll n) m = m
 unroll-refused : {t : Ty} {why : DataWhy} → UnrollRefuses t why → IsNoMu t × (why ≡ NotData t)
 unroll-refused (UnrollRefuses.no_data n) = (n, refl)
 
+-- so has that of unrolled values
 pub one_unroll : OneUnroll
 one_unroll ctx t e h = go (mu-or-not t)
   where

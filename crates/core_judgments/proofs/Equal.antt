@@ -1,8 +1,10 @@
 -- A rule with a premise that two things are equal: without it there is one refusal, and no conclusion.
+-- Main results: equal.
 use Rattle.std.specs.Prelude.{◌≡◌, ◌≢◌}
 use Rattle.std.proofs.Math.Path.{sym, subst}
 use Rattle.sig_definitions.specs.Verdict.{Verdict, refuses}
 
+-- a rule with a premise that two things are equal has one outcome if it does where they are, and one refusal else
 pub equal : {X A R : Type 0} {x c : X} (Gives : X → A → Type 0) (Refuses : X → R → Type 0) (why : R)
     → Dec (x ≡ c)
     → (x ≡ c → Verdict (Gives c) (Refuses c))

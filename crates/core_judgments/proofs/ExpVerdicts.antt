@@ -1,4 +1,5 @@
 -- Each rule of expressions has exactly one conclusion or exactly one refusal.
+-- Main results: one_call, one_instance, one_get, one_record.
 use Rattle.std.specs.Prelude.{ℤ, Bool, List, [], ◌∷◌, ◌≡◌, ◌≢◌, ◌⊎◌}
 use Rattle.std.proofs.Common.{inl, inr}
 use Rattle.std.proofs.Math.Path.{refl, sym, subst, ap, ◌∙◌}
@@ -33,6 +34,7 @@ literal-bool _ LiteralGives.bool = refl
 literal-text : {bytes : Name} (o : Ty × Term) → LiteralGives (Literal.Text bytes) o.0 o.1 → o ≡ (Ty.Text, Term.Text bytes)
 literal-text _ LiteralGives.text = refl
 
+-- the rule of literals has exactly one conclusion
 pub one_literal : OneLiteral
 one_literal (Literal.Int z) = holds (Ty.Int, Term.Int z) LiteralGives.int literal-int (λ r q. q)
 one_literal (Literal.Bool b) = holds (Ty.Bool, Term.Bool b) LiteralGives.bool literal-bool (λ r q. q)
@@ -61,6 +63,7 @@ function-kind FunctionGives.function = refl
 function-same : {t : Ty} {k : Kind} {why : CoreWhy} → FunctionRefuses t k why → (k ≢ Kind.Star) × (why ≡ KindDiffer k Kind.Star)
 function-same (FunctionRefuses.param_kind n) = (n, refl)
 
+-- the rule of functions has exactly one conclusion or one refusal
 pub one_function : OneFunction
 one_function t k u e =
     equal (λ k (o : Ty × Term). FunctionGives t k u e o.0 o.1) (FunctionRefuses t) (KindDiffer k Kind.Star) (Kind-discrete k Kind.Star) (λ i. holds (Ty.Arrow t u, Term.Lam t e) FunctionGives.function function-only (λ r q. (function-same q).0 refl))
@@ -69,6 +72,7 @@ one_function t k u e =
 type_function-only : {k : Kind} {t : Ty} {e : Term} (o : Ty × Term) → TypeFunctionGives k t e o.0 o.1 → o ≡ (Ty.All k t, Term.TyLam k e)
 type_function-only _ TypeFunctionGives.type_function = refl
 
+-- the rule of type functions has exactly one conclusion
 pub one_type_function : OneTypeFunction
 one_type_function k t e = holds (Ty.All k t, Term.TyLam k e) TypeFunctionGives.type_function type_function-only (λ r q. q)
 
@@ -91,6 +95,7 @@ call-no_function : {f v : Ty} {why : CoreWhy} → IsNoArrow f → CallRefuses f 
 call-no_function n (CallRefuses.no_function m) = refl
 call-no_function n (CallRefuses.arg_type m) = absurd n
 
+-- the rule of calls has exactly one conclusion or one refusal
 pub one_call : OneCall
 one_call f d v e = go (arrow-or-not f)
   where
@@ -120,6 +125,7 @@ instance-not_all : {f t : Ty} {k : Kind} {why : CoreWhy} → IsNoAll f → Insta
 instance-not_all n (InstanceRefuses.not_polymorphic m) = refl
 instance-not_all n (InstanceRefuses.arg_kind m) = absurd n
 
+-- so has that of instances
 pub one_instance : OneInstance
 one_instance ctx f e t j h g = go (all-or-not f)
   where
@@ -151,6 +157,7 @@ get-no_record : {t : Ty} {l : Name} {why : CoreWhy} → IsNoRecord t → GetRefu
 get-no_record n (GetRefuses.no_record m) = refl
 get-no_record n (GetRefuses.no_field m) = absurd n
 
+-- so has that of selections
 pub one_get : OneGet
 one_get t e l = go (record-or-not t)
   where
@@ -185,6 +192,7 @@ if-branches : {t u : Ty} {why : CoreWhy} → IfRefuses Ty.Bool t u why → why �
 if-branches (IfRefuses.test_type n) = absurd (n refl)
 if-branches (IfRefuses.branches n) = refl
 
+-- so has that of conditionals
 pub one_if : OneIf
 one_if s d t e u f =
     equal (λ s (o : Ty × Term). IfGives s d t e u f o.0 o.1) (λ s. IfRefuses s t u) (Differ s Ty.Bool) (dec_ty s Ty.Bool)
@@ -211,6 +219,7 @@ operation-right : {u : Ty} {why : CoreWhy} → OperationRefuses Ty.Int u why →
 operation-right (OperationRefuses.left_type n) = absurd (n refl)
 operation-right (OperationRefuses.right_type n) = refl
 
+-- so has that of operations
 pub one_operation : OneOperation
 one_operation op t d u e =
     equal (λ t (o : Ty × Term). OperationGives op t d u e o.0 o.1) (λ t. OperationRefuses t u) (Differ t Ty.Int) (dec_ty t Ty.Int)
@@ -245,6 +254,7 @@ fix-body (FixRefuses.param_kind m) = absurd (m refl)
 fix-body (FixRefuses.result_kind m) = absurd (m refl)
 fix-body (FixRefuses.body_type m) = refl
 
+-- so has that of recursive functions
 pub one_fix : OneFix
 one_fix t k u j v e =
     equal (λ k (o : Ty × Term). FixGives t k u j v e o.0 o.1) (λ k. FixRefuses t k u j v) (KindDiffer k Kind.Star) (Kind-discrete k Kind.Star)
@@ -272,6 +282,7 @@ record-later : {before : List Name} {l : Name} {t : Ty} {e : Term} {rest : List 
 record-later h (RecordRefuses.name_again m) = absurd (m h)
 record-later h (RecordRefuses.later_field m r) = r
 
+-- so has that of records
 pub one_record : OneRecord
 one_record before [] = holds (Row.End, TermRow.End) RecordGives.no_fields record-end (λ r q. record-end-never q)
 one_record before (field l t e ∷ rest) = go (new_dec l before) (one_record (l ∷ before) rest)

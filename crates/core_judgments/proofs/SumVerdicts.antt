@@ -1,4 +1,5 @@
 -- Each rule of sums and of cases has exactly one conclusion or exactly one refusal.
+-- Main results: one_sum, one_label, one_injection, one_case.
 use Rattle.std.specs.Prelude.{List, [], ◌∷◌, ◌≡◌, ◌≢◌, ◌⊎◌}
 use Rattle.std.proofs.Common.{inl, inr}
 use Rattle.std.proofs.Math.Path.{refl, sym, subst, ap, ◌∙◌}
@@ -38,6 +39,7 @@ no_sum-same (SumRefuses.no_sum n) = refl
 no_sum-never : {t : Ty} {row : Row} → SumGives t row → IsNoSum t → ⊥
 no_sum-never SumGives.sum n = n
 
+-- the rule of sum types that are taken apart has exactly one conclusion or one refusal
 pub one_sum : OneSum
 one_sum t = go (sum-or-not t)
   where
@@ -61,6 +63,7 @@ label-no_sum : {t : Ty} {l : Name} {why : CoreWhy} → IsNoSum t → LabelRefuse
 label-no_sum n (LabelRefuses.no_sum m) = refl
 label-no_sum n (LabelRefuses.no_label m) = absurd n
 
+-- so has that of labels
 pub one_label : OneLabel
 one_label t l = go (sum-or-not t)
   where
@@ -101,6 +104,7 @@ injection-refused (InjectionRefuses.no_sum m) = absurd m
 injection-refused (InjectionRefuses.no_label m) = inl (m, refl)
 injection-refused (InjectionRefuses.value_type {t = t} h m) = inr (t, h, m, refl)
 
+-- so has that of injections
 pub one_injection : OneInjection
 one_injection l v e t k =
     equal (λ k (o : Ty × Term). InjectionGives l v e t k o.0 o.1) (InjectionRefuses l v t) (KindDiffer k Kind.Star) (Kind-discrete k Kind.Star) (λ i. go (sum-or-not t))
@@ -199,6 +203,7 @@ branch-at (field m t d ∷ rest) l = go (dec_label l (Label.Name m)) (branch-at 
     go (no n) (one e h only) = one e (HasBranch.there n h) (λ d g. only d (other l d n g))
     go (no n) (none never) = none (λ e h. never e (other l e n h))
 
+-- a part of a row is the first one or one of the others
 pub part-cases : {m k : Label} {u t : Ty} {rest : Row} → HasPart (Row.More m u rest) k t → (k ≡ m) ⊎ HasPart rest k t
 part-cases HasPart.here = inl refl
 part-cases (HasPart.there n h) = inr h
@@ -284,6 +289,7 @@ case-no_sum n (CaseRefuses.result_kind m) = absurd n
 case-no_sum n (CaseRefuses.branch r) = absurd n
 case-no_sum n (CaseRefuses.no_branch g w) = absurd n
 
+-- the rule of cases has exactly one conclusion or one refusal
 pub one_case : OneCase
 one_case w e t k branches = go (sum-or-not w)
   where

@@ -1,4 +1,5 @@
 -- Each rule of types has exactly one conclusion or exactly one refusal.
+-- Main results: one_arrow, one_applied, one_record_type.
 use Rattle.std.specs.Prelude.{List, [], ◌∷◌, ◌≡◌, ◌≢◌}
 use Rattle.std.proofs.Math.Path.{refl, subst, ap, ◌∙◌}
 use Rattle.omega_kinds.specs.Kind.{Kind, Kind-discrete}
@@ -26,6 +27,7 @@ base-bool _ BaseGives.bool = refl
 base-text : (o : Ty × Kind) → BaseGives Base.Text o.0 o.1 → o ≡ (Ty.Text, Kind.Star)
 base-text _ BaseGives.text = refl
 
+-- the rule of base types has exactly one conclusion
 pub one_base : OneBase
 one_base Base.Int = holds (Ty.Int, Kind.Star) BaseGives.int base-int (λ r q. q)
 one_base Base.Bool = holds (Ty.Bool, Kind.Star) BaseGives.bool base-bool (λ r q. q)
@@ -49,6 +51,7 @@ arrow-to (ArrowRefuses.to_kind n) = refl
 arrow-kinds : {t u v : Ty} {k j l : Kind} → ArrowGives t k u j v l → (k ≡ Kind.Star) × (j ≡ Kind.Star)
 arrow-kinds ArrowGives.arrow = (refl, refl)
 
+-- the rule of function types has exactly one conclusion or one refusal
 pub one_arrow : OneArrow
 one_arrow t k u j =
     equal (λ k (o : Ty × Kind). ArrowGives t k u j o.0 o.1) (λ k. ArrowRefuses t k u j) (KindDiffer k Kind.Star) (Kind-discrete k Kind.Star)
@@ -67,12 +70,14 @@ all-same (AllRefuses.body_kind n) = refl
 all-kinds : {k j l : Kind} {t v : Ty} → AllGives k t j v l → j ≡ Kind.Star
 all-kinds AllGives.all = refl
 
+-- so has that of universally quantified types
 pub one_all : OneAll
 one_all k t j = equal (λ j (o : Ty × Kind). AllGives k t j o.0 o.1) (AllRefuses k t) (KindDiffer j Kind.Star) (Kind-discrete j Kind.Star) (λ e. holds (Ty.All k t, Kind.Star) AllGives.all all-only (λ r q. all-never q)) AllRefuses.body_kind (λ n q h. all-same h) (λ o g. all-kinds g)
 
 operator-only : {k j : Kind} {t : Ty} (o : Ty × Kind) → OperatorGives k t j o.0 o.1 → o ≡ (Ty.Lam k t, Kind.Arrow k j)
 operator-only _ OperatorGives.operator = refl
 
+-- the rule of type functions has exactly one conclusion
 pub one_operator : OneOperator
 one_operator k t j = holds (Ty.Lam k t, Kind.Arrow k j) OperatorGives.operator operator-only (λ r q. q)
 
@@ -94,6 +99,7 @@ no_operator-same AppliedRefuses.no_operator = refl
 no_operator-never : {ctx : List Kind} {t u v : Ty} {l i : Kind} → AppliedGives ctx t Kind.Star u l v i → ⊥
 no_operator-never g = elim g [ ]
 
+-- the rule of applications has exactly one conclusion or one refusal
 pub one_applied : OneApplied
 one_applied ctx t Kind.Star u l h g = refuses NotOperator AppliedRefuses.no_operator (λ q r. no_operator-same r) (λ o r. no_operator-never r)
 one_applied ctx t (Kind.Arrow k j) u l h g =
@@ -129,6 +135,7 @@ record-later h (RecordTypeRefuses.name_again m) = absurd (m h)
 record-later h (RecordTypeRefuses.field_kind m d) = absurd (d refl)
 record-later h (RecordTypeRefuses.later_field m r) = r
 
+-- so has that of record types
 pub one_record_type : OneRecordType
 one_record_type before [] = holds Row.End RecordTypeGives.no_fields record-end (λ r q. record-end-never q)
 one_record_type before (field l t k ∷ rest) = go (new_dec l before) (Kind-discrete k Kind.Star) (one_record_type (l ∷ before) rest)

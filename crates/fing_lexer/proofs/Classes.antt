@@ -1,4 +1,5 @@
 -- The longest token at a front: names, keywords and numbers.
+-- Main results: if_true, if_false.
 use Rattle.std.proofs.Common.{◌≡◌, ℕ, zero, suc, ◌+◌, ◌<◌, ◌≤◌, ◌&&◌, Bool, true, false, cond, refl, ◌∙◌, ap, List, [], ◌∷◌, length, take, one-add, arith, ℤ, pos, neg_ℤ}
 use Rattle.std.specs.Prelude.{Some, None, nat_eq, if◌then◌else◌}
 use Rattle.std.specs.Char.{is_ascii_digit}
@@ -27,10 +28,12 @@ none_pass p (x ∷ xs) (suc k) h w = go (p x) refl (λ q. none_pass p xs k q (om
     go true e ih h = let q : list_all p (take k xs) ≡ false = ih (omega arith) in rw (e, q) refl
     go false e ih h = rw e refl
 
+-- the choice at a test that holds is the first
 pub if_true : {A : Type 0} (c : Bool) (x y : A) → c ≡ true → (if c then x else y) ≡ x
 if_true true x y e = refl
 if_true false x y e = absurd (cc)
 
+-- the choice at a test that fails is the second
 pub if_false : {A : Type 0} (c : Bool) (x y : A) → c ≡ false → (if c then x else y) ≡ y
 if_false true x y e = absurd (cc)
 if_false false x y e = refl
@@ -127,14 +130,17 @@ pub letter_not_skipped : (b : ℕ) (bs : List ℕ) → is_name_start b ≡ true 
 unfolding skipped
 letter_not_skipped b bs l = if_false (is_blank b) _ _ (not_blank b l) ∙ if_false (nat_eq b 45) _ _ (not_dash b l)
 
+-- nothing is skipped before a digit
 pub digit_not_skipped : (b : ℕ) (bs : List ℕ) → is_ascii_digit b ≡ true → skipped (b ∷ bs) ≡ 0
 unfolding skipped
 digit_not_skipped b bs l = if_false (is_blank b) _ _ (not_blank_digit b l) ∙ if_false (nat_eq b 45) _ _ (not_dash_digit b l)
 
+-- nothing is skipped before a tilde
 pub tilde_not_skipped : (bs : List ℕ) → skipped (126 ∷ bs) ≡ 0
 unfolding skipped
 tilde_not_skipped bs = refl
 
+-- nothing is skipped before a quotation mark
 pub quote_not_skipped : (bs : List ℕ) → skipped (34 ∷ bs) ≡ 0
 unfolding skipped
 quote_not_skipped bs = refl

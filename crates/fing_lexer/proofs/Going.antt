@@ -1,4 +1,5 @@
 -- How the tokens of a text go on.
+-- Main results: on_found, at_end, on_deep, on_wide.
 use Rattle.std.proofs.Common.{◌≡◌, ℕ, zero, suc, ◌+◌, ◌<◌, ◌≤◌, Bool, true, false, refl, sym, ◌∙◌, ap, subst, List, [], ◌∷◌, ◌++◌, length, drop, append_assoc, append-nil, length-drop, drop-drop, le-leb, arith}
 use Rattle.std.specs.Prelude.{not, nat_le, nat_eq, if◌then◌else◌}
 use Rattle.std.proofs.lemmas.List.Sums.{prefix_len-le-length}
@@ -34,9 +35,11 @@ onward bytes at n nest m ts add f g s e = record {
       (g.whole (prepend add o) (go f n add m o s e (subst (λ z. Lexes (at + n) m z o) (sym (drop-drop n at bytes ∙ ap (λ k. drop k bytes) (omega arith))) h) refl));
 }
 
+-- the tokens go on behind what is skipped
 pub on_skip : (bytes : List ℕ) (at n : ℕ) (nest : Nest) (ts : List Token) → GoesOn bytes at nest ts → Stands (drop at bytes) (Skip n) → GoesOn bytes (at + n) nest ts
 on_skip bytes at n nest ts g s = subst (λ z. GoesOn bytes (at + n) nest z) (append-nil ts) (onward bytes at n nest nest ts [] (Skip n) g s refl)
 
+-- the tokens go on behind one that is found, with it as the last one, if it is not too deep
 pub on_found : (bytes : List ℕ) (at n : ℕ) (nest : Nest) (ts : List Token) (l : What) → GoesOn bytes at nest ts → Stands (drop at bytes) (Found n l) → is_in_range l ≡ true
     → total (counted nest l) ≤ 1000 → GoesOn bytes (at + n) (opened (counted nest l) l) (ts ++ token_at at n l ∷ [])
 on_found bytes at n nest ts l g s r d =
@@ -44,6 +47,7 @@ on_found bytes at n nest ts l g s r d =
     (ap (λ b. if b then (if nat_le (total (counted nest l)) 1000 then Go n (token_at at n l ∷ []) (opened (counted nest l) l) else Done (Bad (TooDeep at))) else Done (Bad (Wide at))) r
     ∙ ap (λ b. if b then Go n (token_at at n l ∷ []) (opened (counted nest l) l) else Done (Bad (TooDeep at))) (le-leb _ _ d))
 
+-- at the end of the bytes the tokens are those of the text
 pub at_end : (bytes : List ℕ) (at : ℕ) (nest : Nest) (ts : List Token) → GoesOn bytes at nest ts → length bytes ≤ at → TokensOf bytes ts
 at_end bytes at nest ts g h = subst (λ z. Lexes 0 whole_file bytes (Good z)) (append-nil ts) (g.whole (Good []) (done End (nothing bytes at h) refl))
   where
@@ -53,17 +57,21 @@ at_end bytes at nest ts g h = subst (λ z. Lexes 0 whole_file bytes (Good z)) (a
     nothing (b ∷ bs) zero h = absurd (omega arith)
     nothing (b ∷ bs) (suc n) h = nothing bs n (omega arith)
 
+-- a byte that begins no token is refused at its place
 pub on_no_byte : (bytes : List ℕ) (at : ℕ) (nest : Nest) (ts : List Token) → GoesOn bytes at nest ts → Stands (drop at bytes) NoByte → RefusalOf bytes (BadByte at)
 on_no_byte bytes at nest ts g s = g.whole (Bad (BadByte at)) (done NoByte s refl)
 
+-- a quotation mark that begins no text is refused at its place
 pub on_no_text : (bytes : List ℕ) (at : ℕ) (nest : Nest) (ts : List Token) → GoesOn bytes at nest ts → Stands (drop at bytes) NoText → RefusalOf bytes (BadText at)
 on_no_text bytes at nest ts g s = g.whole (Bad (BadText at)) (done NoText s refl)
 
+-- a number that is out of range is refused at its place
 pub on_wide : (bytes : List ℕ) (at : ℕ) (nest : Nest) (ts : List Token) → GoesOn bytes at nest ts → IsWide (drop at bytes) → RefusalOf bytes (Wide at)
 on_wide bytes at nest ts g w =
     g.whole (Bad (Wide at)) (done (Found w.size w.number) w.stands
     (ap (λ b. if b then (if nat_le (total (counted nest w.number)) 1000 then Go w.size (token_at at w.size w.number ∷ []) (opened (counted nest w.number) w.number) else Done (Bad (TooDeep at))) else Done (Bad (Wide at))) w.wide))
 
+-- a token that is too deep is refused at its place
 pub on_deep : (bytes : List ℕ) (at n : ℕ) (nest : Nest) (ts : List Token) (l : What) → GoesOn bytes at nest ts → Stands (drop at bytes) (Found n l) → is_in_range l ≡ true
     → 1000 < total (counted nest l) → RefusalOf bytes (TooDeep at)
 on_deep bytes at n nest ts l g s r d =
@@ -97,15 +105,19 @@ skipped-le (b ∷ bs) = first (is_blank b)
     first true = omega arith
     first false = second (nat_eq b 45)
 
+-- what is skipped ends within the bytes
 pub skip_within : (bytes : List ℕ) (at n : ℕ) → at ≤ length bytes → Stands (drop at bytes) (Skip n) → at + n ≤ length bytes
 skip_within bytes at n h s = omega (arith, skipped-le (drop at bytes), s.1, length-drop at bytes)
 
+-- a token that is found ends within the bytes
 pub found_within : (bytes : List ℕ) (at n : ℕ) (l : What) → at ≤ length bytes → Stands (drop at bytes) (Found n l) → at + n ≤ length bytes
 found_within bytes at n l h s = omega (arith, s.1.within, length-drop at bytes)
 
+-- a token is not empty
 pub positive : (bytes : List ℕ) (n : ℕ) (l : What) → Stands bytes (Found n l) → 0 < n
 positive bytes zero l s = absurd (some_none s.1.is no_empty)
 positive bytes (suc n) l s = omega arith
 
+-- brackets that are opened are no deeper than was counted
 pub shallow : (nest : Nest) (l : What) → total (counted nest l) ≤ 1000 → total (opened (counted nest l) l) ≤ 1000
 shallow nest l d = subst (λ k. k ≤ 1000) (sym (opened-total (counted nest l) l)) d

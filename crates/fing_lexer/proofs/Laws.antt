@@ -1,4 +1,5 @@
 -- Each text has one outcome: its tokens, or one refusal.
+-- Main results: has_one_outcome.
 use Rattle.std.proofs.Common.{◌≡◌, ℕ, zero, suc, ◌+◌, ◌<◌, ◌≤◌, Bool, true, false, refl, sym, ◌∙◌, ap, ap₂, subst, subst₂, List, [], ◌∷◌, length, take, drop, length-drop, arith, inl, inr, ◌⊎◌}
 use Rattle.std.specs.Prelude.{Option, Some, None, nat_le, if◌then◌else◌}
 use Rattle.fing_lexer.specs.declared.token.Token.{Token}
@@ -8,6 +9,7 @@ use Rattle.fing_lexer.specs.Tokens.{skipped, Longest, BeginsNone, begins_with, F
 use Rattle.fing_lexer.specs.declared.token.What.{What}
 use Rattle.fing_lexer.specs.declared.lexer.LexRefusal.TheVariants.{Wide, TooDeep}
 
+-- no bytes are no token
 pub no_empty : lexeme [] ≡ None
 unfolding lexeme
 no_empty = refl
@@ -16,6 +18,7 @@ skip_none : skipped [] ≡ 0
 unfolding skipped
 skip_none = refl
 
+-- an option is not both a value and none
 pub some_none : {A : Type 0} {a : A} {o : Option A} → o ≡ Some a → o ≡ None → ⊥
 some_none e h = cc
 
@@ -110,6 +113,7 @@ stands_some (b ∷ bs) = by_skip (skipped (b ∷ bs)) refl
 done_is : {o p : Outcome} → Done o ≡ Done p → o ≡ p
 done_is e = cc
 
+-- a step does not both end and go on
 pub not_both : {o : Outcome} {n : ℕ} {add : List Token} {nest : Nest} → Done o ≡ Go n add nest → ⊥
 not_both e = cc
 
@@ -161,6 +165,7 @@ some_outcome (suc fuel) at nest bytes h = by_front (stands_some bytes) (λ i m b
     by_front : (f : Front) × Stands bytes f → ((i : ℕ) (m : Nest) (b : List ℕ) → length b < fuel → (o : Outcome) × Lexes i m b o) → (o : Outcome) × Lexes at nest bytes o
     by_front q rec = by_step q.0 q.1 (step at nest q.0) refl (λ n add m e. rec (at + n) m (drop n bytes) (omega (arith, shorter bytes q.0 n add at nest m q.1 e)))
 
+-- a text has its tokens or one refusal, and not both
 pub has_one_outcome : (bytes : List ℕ) → OneOutcome bytes
 has_one_outcome bytes =
     let r : (o : Outcome) × Lexes 0 whole_file bytes o = some_outcome (suc (length bytes)) 0 whole_file bytes (omega arith) in

@@ -1,4 +1,5 @@
 -- The spans of tokens are in order, and each token is what the bytes of its span are.
+-- Main results: sliced.
 use Rattle.std.proofs.Common.{◌≡◌, ℕ, ◌+◌, ◌≤◌, Bool, true, false, refl, sym, ◌∙◌, ap, subst, subst₂, List, [], ◌∷◌, ◌++◌, length, take, drop, length-drop, arith}
 use Rattle.std.specs.Prelude.{nat_le, if◌then◌else◌}
 use Rattle.fing_lexer.specs.declared.token.What.{What}
@@ -79,5 +80,6 @@ walk whole {at} {nest} {bytes} {o} b h (go f n add m rest s e k p) ts q = by res
         subst (Sliced whole at) lists (on.sliced us (ih us refl))
     by (Bad r) p ih = absurd (let bad : Bad r ≡ Good ts = sym p ∙ q in cc)
 
+-- the spans of a text's tokens are in order, and each token is what the bytes of its span are
 pub sliced : (bytes : List ℕ) (ts : List Token) → TokensOf bytes ts → Sliced bytes 0 ts
 sliced bytes ts h = walk bytes refl (omega arith) h ts refl

@@ -1,4 +1,5 @@
 -- Texts: where one ends, and that no longer prefix is one.
+-- Main results: text_stands, no_text_stands, on_quote.
 use Rattle.std.proofs.Common.{◌≡◌, ℕ, zero, suc, ◌+◌, ◌<◌, ◌≤◌, Bool, true, false, refl, sym, ◌∙◌, ap, subst, subst₂, List, [], ◌∷◌, ◌++◌, length, take, drop, get_or, append_assoc, append-nil, ◌-◌, ◌⊎◌, inl, inr, eqb-true, eq-eqb, arith}
 use Rattle.std.proofs.lemmas.List.{get_or-drop}
 use Rattle.std.specs.Prelude.{Option, Some, None, nat_eq, if◌then◌else◌}
@@ -151,6 +152,7 @@ at_first bytes = record { place = omega arith; same = by (ending bytes) }
 ended : (bytes : List ℕ) (e : End) → ending bytes ≡ e → EndsText bytes e
 ended bytes e q = subst (λ z. EndsText bytes z) q (ends bytes)
 
+-- a text ends at the quotation mark that is read, with the bytes before it
 pub on_quote : (bytes rest : List ℕ) (at : ℕ) (front : List ℕ) → Reads bytes rest at front → 0 < length rest → get_or rest 0 0 ≡ 34 → EndsText bytes (Some (at + 1, front))
 on_quote bytes rest at front r h e = ended bytes (Some (at + 1, front)) (r.same ∙ ap (behind at front) (by rest h e) ∙ ap (λ z. Some (at + 1, z)) (append-nil front))
   where
@@ -171,6 +173,7 @@ first p = p.0
 abbrev second : ℕ × ℕ → ℕ
 second p = p.1
 
+-- the first byte behind a place is the one at the place
 pub first_at : (bytes : List ℕ) (at : ℕ) → get_or (drop at bytes) 0 0 ≡ get_or bytes at 0
 first_at bytes at = get_or-drop at bytes 0 0 ∙ ap (λ k. get_or bytes k 0) (omega arith)
 
@@ -255,6 +258,7 @@ no_bytes : lexeme [] ≡ None
 unfolding lexeme
 no_bytes = refl
 
+-- a quotation mark and the bytes behind it, up to where the text ends, are the text
 pub text_stands : (bytes : List ℕ) (n : ℕ) (text : List ℕ) → 0 < length bytes → get_or bytes 0 0 ≡ 34 → EndsText (drop 1 bytes) (Some (n, text)) → Stands bytes (Found (1 + n) (what.Text text))
 text_stands [] n text h q e = absurd (omega arith)
 text_stands (b ∷ bs) n text h q e = subst (λ z. Stands (z ∷ bs) (Found (1 + n) (what.Text text))) (sym q) (subst (λ k. Stands (34 ∷ bs) (Found k (what.Text text))) (omega arith) (quote_not_skipped bs, found))
@@ -266,6 +270,7 @@ text_stands (b ∷ bs) n text h q e = subst (λ z. Stands (z ∷ bs) (Found (1 +
     found : Longest (34 ∷ bs) (suc n) (what.Text text)
     found = record { within = omega (arith, e.within); is = quote_lexeme (take n bs) ∙ ap (option_map what.Text) e.is; longest = longest }
 
+-- a quotation mark behind which no text ends begins none
 pub no_text_stands : (bytes : List ℕ) → 0 < length bytes → get_or bytes 0 0 ≡ 34 → EndsText (drop 1 bytes) None → Stands bytes NoText
 no_text_stands [] h q e = absurd (omega arith)
 no_text_stands (b ∷ bs) h q e = subst (λ z. Stands (z ∷ bs) NoText) (sym q) (quote_not_skipped bs, refl, none)

@@ -1,4 +1,5 @@
 -- What is compiled and what is verified is replied, and a source whose bytes are known is answered by its one reply.
+-- Main results: completes, is_compiled, outcome_told, emission, well_replied, ill_replied.
 use Rattle.std.proofs.Common.{◌≡◌, ◌⊎◌, inl, inr, ℕ, ◌+◌, ◌≤◌, Bool, true, false, List, [], ◌∷◌, ◌++◌, length, Option, Some, None, Ok, Err, Result, arith, refl, sym, ap, subst, ◌∙◌}
 use Rattle.std.specs.Prelude.{IfErr, IfOk, MatchOption, MatchResult, codes}
 use Rattle.std.specs.Io.KnownBytes.{Consumes, IsAtEnd}
@@ -64,9 +65,11 @@ few_sliced : (bytes : List ℕ) (at : ℕ) (ts : List Token) → at ≤ length b
 few_sliced bytes at [] h s = omega (arith, h)
 few_sliced bytes at (t ∷ ts) h s = omega (arith, s.0, s.1, few_sliced bytes t.span.to ts s.2 s.4)
 
+-- bytes within the limit have few enough tokens
 pub few_tokens : (bytes : List ℕ) (ts : List Token) → length bytes ≤ limit → TokensOf bytes ts → length ts ≤ 1048576
 few_tokens bytes ts h t = omega (arith, h, few_sliced bytes 0 ts (omega arith) (sliced bytes ts t))
 
+-- a refusal of the tokens is a refusal of the source
 pub lexed_refused : (form : Form) (bytes : List ℕ) (r : LexRefusal) → (r ≡ lex.Mem) ⊎ RefusalOf bytes r → IsRefused form bytes (untokened r)
 lexed_refused form bytes lex.Mem h l = absurd l
 lexed_refused form bytes (lex.BadByte at) (inr q) l = (BytesRefusal.lexical (lex.BadByte at), BytesRefused.no_tokens q, refl)
@@ -78,6 +81,7 @@ lexed_refused form bytes (lex.BadText at) (inl e) l = absurd (cc)
 lexed_refused form bytes (lex.Wide at) (inl e) l = absurd (cc)
 lexed_refused form bytes (lex.TooDeep at) (inl e) l = absurd (cc)
 
+-- a refusal of the grammar is a refusal of the source
 pub parsed_refused : (form : Form) (bytes : List ℕ) (ts : List Token) (r : ParseRefusal) → TokensOf bytes ts → TokensRefuse (class_of form) ts r → IsRefused form bytes (unparsed r)
 parsed_refused form bytes ts (parse.Syntax at) t h l = (BytesRefusal.syntactic at, BytesRefused.no_phrase t h.0 h.1, refl)
 parsed_refused form bytes ts parse.Mem t h l = absurd l
@@ -92,9 +96,11 @@ pub meaning_refused : (P : PlainRefusal → Type 0) (form : Form) (bytes : List 
     → ((r : PlainRefusal) → P r → ProgramRefused program r) → Says e P → IsRefused form bytes (InProgram e)
 meaning_refused P form bytes program e p f h l = line_refuses (e ≡ want_of_memory) P form bytes program (plain_refusal e) p f h l
 
+-- a refusal of the program's meaning is a refusal of the source
 pub program_refused : (bytes : List ℕ) (program : Program) (e : Refusal) → Spells one_program bytes program → Says e (MeansNothing program) → IsRefused one_program bytes (InProgram e)
 program_refused bytes program e p h = meaning_refused (MeansNothing program) one_program bytes program e p (λ r q. q.refused) h
 
+-- a program that means something is compiled to its signature and its whole term, as they were confirmed
 pub is_compiled : (bytes : List ℕ) (program : Program) (n : ℕ) (o : Elaborated) (j : Judgment) → Spells one_program bytes program → n ≡ bind_count program → Means program o → (j.term ≡ o.whole) × (j.ty ≡ enc_abs o.sig)
     → IsCompiled bytes (record { bindings = n; effect = o.effect; sig = o.sig; checked = j })
 is_compiled bytes program n o j p b m h = record {
@@ -111,6 +117,7 @@ pub told : (Tells : Telling) (bytes : List ℕ) (c : Compiled) (s : Status) (tex
     → (let m = meaning_of c h.program h.types h.term in Tells m (reply_of m s text)) → ProgramReplies one_program Tells bytes (answered s c.checked.ty c.checked.term text)
 told Tells bytes c s text h t = rw h.ty (ProgramReplies.meant h.means t)
 
+-- the end of a compiled term within the budget is the reply of `run`
 pub outcome_told : (bytes : List ℕ) (budget : ℕ) (c : Compiled) (end : End) → IsCompiled bytes c → Ends c.checked.term budget end → ProgramReplies one_program (TellsOutcome budget) bytes (answered (ending_status end) c.checked.ty c.checked.term (ending_text budget end))
 outcome_told bytes budget c (ending.Value shown steps) h t = rw t.2 (told (TellsOutcome budget) bytes c status.Ok (value_text t.0) h (TellsOutcome.value t.1))
 outcome_told bytes budget c (ending.Fault fault steps) h t = told (TellsOutcome budget) bytes c status.Faulted (fault_line (fault_of fault)) h (TellsOutcome.fault t)
@@ -133,10 +140,12 @@ of_command : (c : CommandLine) (form : Form) (simplify : Bool) (bytes : List ℕ
 of_command c form simplify bytes f (Ok j) h r = f (omega_reply j.ty j.term) (term_told form simplify bytes j h)
 of_command c form simplify bytes f (Err why) h r = λ l. f (refused (refusal_line why)) (ProgramReplies.refuses (r l))
 
+-- a confirmed term, or a refusal, is what `emit` writes
 pub emission : (simplify : Bool) (bytes : List ℕ) (made : Result Judgment Refused) → IfOk made (IsConfirmed one_program simplify bytes) → IfErr made (IsRefused one_program bytes)
     → IsEmission (command.Emit simplify) bytes made
 emission simplify bytes = of_command (command.Emit simplify) one_program simplify bytes (λ r p. p)
 
+-- a confirmed term, or a refusal, is what `link` writes
 pub link_emission : (bytes : List ℕ) (made : Result Judgment Refused) → IfOk made (IsConfirmed separate_units false bytes) → IfErr made (IsRefused separate_units bytes)
     → IsEmission command.Link bytes made
 link_emission bytes = of_command command.Link separate_units false bytes (λ r p. p)
@@ -185,6 +194,7 @@ wrote_reply c bytes s text j sink confirmed (Err e) answer i p q w m =
       confirmed = q;
     })
 
+-- the status of each end of a term is one of replies
 pub of_ending : (end : End) → IsOfReply (ending_status end)
 of_ending (ending.Value shown steps) = tt
 of_ending (ending.Fault fault steps) = tt
@@ -192,6 +202,7 @@ of_ending ending.Spent = tt
 
 -- ---- what is not read is replied
 
+-- a text that `verify` cannot read is refused with the verdict
 pub unread_replied : (bytes : List ℕ) (e : ReadRefusal) → RefusedAs bytes e → HasVerdict (unread e) → VerifyReplies bytes (refused (verdict_line (unread e)))
 unread_replied bytes read.NotOmega r l = VerifyReplies.no_text IsNotOmega r
 unread_replied bytes read.Version r l = VerifyReplies.no_text IsVersion r
@@ -199,10 +210,12 @@ unread_replied bytes read.Wide r l = VerifyReplies.no_text IsWide r
 unread_replied bytes read.TooDeep r l = VerifyReplies.no_text IsTooDeep r
 unread_replied bytes read.Mem r l = absurd l
 
+-- a text whose term has its type is accepted by `verify`
 pub well_replied : (bytes : List ℕ) (t : Ty) (e : Term) (j : Judgment) → ReadAs bytes (Ok (t, e)) → j.term ≡ e → j.ty ≡ t → HasType [] [] e t → VerifyReplies bytes (accepted j.ty j.term (codes "well typed\n"))
 well_replied bytes t e j r p q h =
     subst (λ (u : Ty). VerifyReplies bytes (accepted u j.term (codes "well typed\n"))) (sym q) (subst (λ (d : Term). VerifyReplies bytes (accepted t d (codes "well typed\n"))) (sym p) (VerifyReplies.well_typed r.1 r.0 h))
 
+-- a text whose term does not have its type is refused by `verify`
 pub ill_replied : (bytes : List ℕ) (t : Ty) (e : Term) → ReadAs bytes (Ok (t, e)) → (HasType [] [] e t → ⊥) → VerifyReplies bytes (refused (codes "refused IllTyped\n"))
 ill_replied bytes t e r n = VerifyReplies.ill_typed r.1 r.0 n
 
@@ -223,6 +236,7 @@ takes_handed (command.Run budget) source bytes read h t = whole_read source.old.
 takes_handed command.Verify source bytes read h t = whole_read source.old.bytes source.new.bytes bytes read h.0 t.lost.taken t.last
 takes_handed command.Link source bytes read h t = whole_read source.old.bytes source.new.bytes bytes read h.0 t.lost.taken t.last
 
+-- what is answered to the bytes of a source completes the command
 pub completes : (words : List (List ℕ)) (source : Change Told) (out : Output) (a : CommandLine) (read : List ℕ) (answer : Status) → IsCommandLine words a → Takes a source read → AnswersBytes a read out answer → Completes words source out answer
 completes words source out a read answer p t e c bytes q handed silent =
     let same = one_line words a c p q in

@@ -1,4 +1,5 @@
 -- Each command has a reply to each string of bytes.
+-- Main results: each_replied.
 use Rattle.std.proofs.Common.{◌≡◌, ◌⊎◌, inl, inr, ℕ, List, [], Bool, true, false, Option, Some, None, refl}
 use Rattle.std.specs.Prelude.{codes}
 use Rattle.omega_kinds.specs.Kind.{Kind}
@@ -107,5 +108,6 @@ replied command.Verify bytes = of_text bytes (text_answered bytes)
 replied (command.Gen size) bytes = program_replied one_program (TellsCounts most_steps) (each_counts most_steps) bytes
 replied command.Link bytes = program_replied separate_units (TellsTerm false) (each_term false) bytes
 
+-- a command has exactly one reply to each string of bytes
 pub each_replied : EachReplied
 each_replied c bytes = let r = replied c bytes in (r.0, record { replies = r.1; only = λ other p. one_reply c bytes r.0 other r.1 p })

@@ -1,4 +1,5 @@
 -- What `emit` and `link` write is a text of the type and the term that are confirmed, and `verify` finds it well typed.
+-- Main results: emitted_is_verified, hands_out.
 use Rattle.std.proofs.Common.{◌≡◌, ◌≤◌, ℕ, List, [], ◌∷◌, Bool, true, false, Option, Some, None, arith, refl, sym, ap, subst, ◌∙◌}
 use Rattle.std.specs.Prelude.{◌^◌}
 use Rattle.omega_types.specs.Ty.{Ty}
@@ -120,6 +121,7 @@ written-emitted simplify (ProgramReplies.refuses h) same =
     let p : status.Refused ≡ status.Ok = ap (λ (r : Reply). r.status) same in
     absurd (cc)
 
+-- what `emit` and `link` write is found well typed by `verify`
 pub emitted_is_verified : EmittedIsVerified
 emitted_is_verified = (λ simplify bytes text t e told. written-emitted simplify told refl, λ bytes text t e told. written-emitted false told refl)
 
@@ -157,6 +159,7 @@ command-handed (command.Run budget) bytes out t w low = absurd t
 command-handed command.Verify bytes out t w low = absurd t
 command-handed (command.Gen size) bytes out t w low = absurd t
 
+-- an answer of `emit` or `link` hands out the text of a term that is not too high
 pub hands_out : (words : List (List ℕ)) (source : Change Told) (out : Output) (answer : Status) → Answers words source out answer → IsLow out.confirmed.new → HandsOut words out answer
 hands_out words source out answer a low c line t same =
     let done : IsReplied words source out status.Ok = subst (Answers words source out) same a in

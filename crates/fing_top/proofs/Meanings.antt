@@ -1,4 +1,5 @@
 -- In each form each string of bytes has exactly one meaning or exactly one refusal.
+-- Main results: mean_or_refused.
 use Rattle.std.proofs.Common.{◌≡◌, ◌⊎◌, inl, inr, ℕ, List, [], refl, sym, ap, ap₂, subst, ◌∙◌}
 use Rattle.omega_terms.specs.Term.{Term}
 use Rattle.fing_lexer.specs.declared.lexer.LexRefusal.{LexRefusal}
@@ -88,17 +89,20 @@ one_program_refusal {bs} {r} {s} p q = go (each-program bs)
 with_program : Program → Module × Term → Meaning
 with_program bs (made f x ts e, whole) = record { program = bs; effect = f; sig = x; types = ts; term = e; whole = whole }
 
+-- bytes have at most one meaning in a form
 pub one_meant : {form : Form} {bytes : List ℕ} {m n : Meaning} → BytesMean form bytes m → BytesMean form bytes n → m ≡ n
 unfolding with_program
 one_meant {form} {bytes} {m} {n} p q =
     let same = spells_one p.spelled q.spelled in
     ap₂ with_program same (one_derived p.derived (subst (λ (bs : Program). ProgramMeans bs (module_of n) n.whole) (sym same) q.derived))
 
+-- bytes that have a meaning have no refusal
 pub not_both : {form : Form} {bytes : List ℕ} {m : Meaning} {r : BytesRefusal} → BytesMean form bytes m → BytesRefused form bytes r → ⊥
 not_both p (BytesRefused.no_meaning q u) = not_derived p.derived (refusal_of (spells_one p.spelled q) u)
 not_both p (BytesRefused.no_phrase t f n) = no_phrase p.spelled t n
 not_both {form} {bytes} p (BytesRefused.no_tokens {why = why} w) = no_tokens bytes p.spelled.tokens why p.spelled.lexed w
 
+-- bytes have at most one refusal in a form
 pub one_refused : {form : Form} {bytes : List ℕ} {r s : BytesRefusal} → BytesRefused form bytes r → BytesRefused form bytes s → r ≡ s
 one_refused (BytesRefused.no_meaning p a) (BytesRefused.no_meaning q b) = ap BytesRefusal.of_program (one_program_refusal a (refusal_of (spells_one p q) b))
 one_refused (BytesRefused.no_meaning p a) (BytesRefused.no_phrase ts f n) = absurd (no_phrase p ts n)
@@ -135,5 +139,6 @@ of_outcome : (form : Form) (bytes : List ℕ) (o : Outcome) → Lexes 0 whole_fi
 of_outcome form bytes (Good ts) h = of_tokens form bytes ts h (one_answer (class_of form) (start_of form) ts)
 of_outcome form bytes (Bad why) h = refused (BytesRefusal.lexical why) (BytesRefused.no_tokens h)
 
+-- each string of bytes has one meaning and no refusal, or one refusal and no meaning
 pub mean_or_refused : MeanOrRefused
 mean_or_refused form bytes = let one = has_one_outcome bytes in of_outcome form bytes one.outcome one.holds

@@ -1,4 +1,5 @@
 -- A command has at most one reply to bytes.
+-- Main results: one_reply.
 use Rattle.std.proofs.Common.{◌≡◌, ℕ, Bool, false, List, [], refl, sym, ap, ap₂, subst, ◌∙◌}
 use Rattle.std.specs.Prelude.{codes}
 use Rattle.omega_types.specs.Ty.{Ty}
@@ -106,6 +107,7 @@ verify_one bytes r s (VerifyReplies.no_text why w) (VerifyReplies.well_typed {t 
 verify_one bytes r s (VerifyReplies.no_text why w) (VerifyReplies.ill_typed {t = t} {e = e} q d n) = absurd (unrefused bytes t e q d why w)
 verify_one bytes r s (VerifyReplies.no_text why w) (VerifyReplies.no_text other v) = ap (λ (x : Refused). refused (text_line x)) (exclusive bytes other why v w)
 
+-- a command has at most one reply to bytes
 pub one_reply : OneReply
 one_reply command.Check bytes reply other p q = program_one one_program TellsSignature one_signature bytes reply other p q
 one_reply (command.Emit simplify) bytes reply other p q = program_one one_program (TellsTerm simplify) (one_term simplify) bytes reply other p q

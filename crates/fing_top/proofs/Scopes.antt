@@ -1,5 +1,6 @@
 -- A signature of normal types has its variables in scope, where neither it nor its encoding is too high for their levels, and
 -- so have a type and a term that were confirmed.
+-- Main results: compiled-normal, confirmed-type, confirmed-term.
 use Rattle.std.proofs.Common.{◌≡◌, ℕ, ◌+◌, ◌^◌, ◌≤◌, List, [], ◌∷◌, length, arith, refl, sym, subst, ◌∙◌}
 use Rattle.omega_kinds.specs.Kind.{Kind}
 use Rattle.omega_kinds.specs.declared.effect.Effect.{Effect}
@@ -70,6 +71,7 @@ mutual
 means-normal : (program : Program) (f : Effect) (x : Abs) (ts : List Ty) (e whole : Term) → ProgramMeans program (made f x ts e) whole → NormalAbs [] x
 means-normal program f (Abs.Ex ks s) ts e whole (ProgramMeans.program b p) = (binds_ok [] [] program (made f (Abs.Ex ks s) ts e) tt tt b).0.1
 
+-- the signature of a compiled program is normal
 pub compiled-normal : (bytes : List ℕ) (c : Compiled) → IsCompiled bytes c → NormalAbs [] c.sig
 compiled-normal bytes c h = means-normal h.program c.effect c.sig h.types h.term c.checked.term h.means.derived
 
@@ -79,8 +81,10 @@ closed-signature x t low high k same a b c d =
     let e : height (enc_abs x) ≤ high = subst (λ (u : Ty). height u ≤ high) same c in
     abs-scope [] x 0 refl (omega (arith, d, e)) (omega (arith, a, b)) k
 
+-- a confirmed type that is not too high has its variables in scope
 pub confirmed-type : (j : Judgment) (t : Ty) (high : ℕ) → t ≡ j.ty → Derived j → height t ≤ high → high ≤ 4096 → TyInScope 0 t
 confirmed-type j t high same typed a b = closed-type (type-kind (good-none []) (subst (λ (u : Ty). HasType [] [] j.term u) (sym same) typed)) (omega (arith, a, b))
 
+-- a confirmed term that is not too high has its variables in scope
 pub confirmed-term : (j : Judgment) (e : Term) (high : ℕ) → e ≡ j.term → Derived j → term_height e ≤ high → high ≤ 4096 → TermInScope 0 0 e
 confirmed-term j e high same typed a b = closed-term (subst (λ (d : Term). HasType [] [] d j.ty) (sym same) typed) (omega (arith, a, b))

@@ -1,4 +1,5 @@
 -- Separate units that are elaborated apart and linked.
+-- Main results: is_linked, kinded_link, typed_link, no_foreign.
 use Rattle.std.proofs.Common.{◌≡◌, ◌∙◌, ℕ, suc, ◌+◌, ◌<◌, ◌≤◌, ◌^◌, false, Option, Some, None, List, [], ◌∷◌, ◌++◌, length, take, drop, get_or, map, arith, refl, sym, ap, subst, add-one, drop-cons}
 use Rattle.std.specs.Prelude.{MatchOption}
 use Rattle.std.proofs.Math.Seq.{take-suc}
@@ -40,6 +41,7 @@ use Rattle.fing_top.specs.Meaning.{separate_units, Spells}
 
 -- ---- one unit after the other
 
+-- interfaces of units that were elaborated make a good environment
 pub good_scope : (under : List Interface) → DerivedUnder under → OkEnv (env_of under)
 good_scope under d = (derived-under-is-good under d).1
 
@@ -89,9 +91,11 @@ one_more units n u ms under next h is before same x =
     subst (λ (us : List UnitTree). UnitsMean [] us (ms ++ unit_of next ∷ [])) (sym (taken_next n units u h is))
     (subst (λ (v : UnitModule). UnitsMean [] (take n units ++ u ∷ []) (ms ++ v ∷ [])) (sym unit) (one-more u m before means))
 
+-- the units of a list with one more are those of the list and it
 pub more_made : (done after : List CodeUnit) (next : CodeUnit) → after ≡ done ++ next ∷ [] → units_of after ≡ units_of done ++ unit_of next ∷ []
 more_made done after next e = ap units_of e ∙ map-append unit_of done (next ∷ [])
 
+-- the interfaces of units with one more are those of the units and its own
 pub more_under : (ms : List UnitModule) (under after : List Interface) (u : UnitModule) → under ≡ map interface_of ms → after ≡ under ++ interface_of u ∷ [] → after ≡ map interface_of (ms ++ u ∷ [])
 more_under ms under after u same e = e ∙ ap (λ (k : List Interface). k ++ interface_of u ∷ []) same ∙ sym (map-append interface_of ms (u ∷ []))
 
@@ -116,6 +120,7 @@ stops units n u ms under e h is before same s =
 
 -- ---- the link
 
+-- units that were elaborated one after the other are good
 pub fits : {us : List UnitTree} {ms : List UnitModule} → UnitsMean [] us ms → OkUnits ms
 fits {us} {ms} h = (linked-is-derived us ms h).fits
 
@@ -126,12 +131,15 @@ none_differs {us} {ms} h = go (linked-is-derived us ms h).links
     go : {m : Module} → Links ms m → (n : ℕ) → Differs ms n → ⊥
     go (links own gives) = own
 
+-- what units that were elaborated one after the other link to has distinct names and normal types
 pub kinded_link : {us : List UnitTree} {ms : List UnitModule} (m : Module) → UnitsMean [] us ms → Links ms m → KindedModule [] m
 kinded_link {us} {ms} m h k = kinded [] m (link-is-good ms m (fits h) k)
 
+-- the term of linked units has the type of their signature
 pub typed_link : {us : List UnitTree} {ms : List UnitModule} (f : Effect) (x : Abs) (ts : List Ty) (d e : Term) → UnitsMean [] us ms → Links ms (made f x ts d) → Packed [] (made f x ts d) e → HasType [] [] e (enc_abs x)
 typed_link {us} {ms} f x ts d e h k p = whole_is_typed (program_of us) f x ts d e (linked-means us ms (made f x ts d) e h k p)
 
+-- linked units are confirmed with their term and the encoding of their signature
 pub is_linked : {us : List UnitTree} {ms : List UnitModule} (bytes : List ℕ) (f : Effect) (x : Abs) (ts : List Ty) (d e : Term) (j : Judgment)
     → Spells separate_units bytes (program_of us) → UnitsMean [] us ms → Links ms (made f x ts d) → Packed [] (made f x ts d) e → (j.term ≡ e) × (j.ty ≡ enc_abs x)
     → IsConfirmed separate_units false bytes j
@@ -157,9 +165,11 @@ same_length : {under : List Interface} {us : List UnitTree} {ms : List UnitModul
 same_length UnitsMean.none = refl
 same_length (UnitsMean.next p rest) = ap suc (same_length rest)
 
+-- as many units are made as there are trees
 pub few_made : (units : List UnitTree) (done : List CodeUnit) → length units < 2 ^ 32 → UnitsMean [] units (units_of done) → length done < 2 ^ 32
 few_made units done h m = omega (arith, h, same_length m, length-map done unit_of)
 
+-- units that were elaborated one after the other have no foreign one
 pub no_foreign : {us : List UnitTree} {ms : List UnitModule} → UnitsMean [] us ms → (n : ℕ) → Foreign ms n → ⊥
 no_foreign h n f = none_differs h n f.0
 

@@ -1,4 +1,5 @@
 -- The terms that are emitted for a program's whole term.
+-- Main results: typed_simplified, is_simplified.
 use Rattle.std.proofs.Common.{◌≡◌, ℕ, true, false, List, [], refl, sym, subst}
 use Rattle.omega_terms.specs.Term.{Term}
 use Rattle.omega_terms.specs.Typing.{HasType, GoodVars}
@@ -17,6 +18,7 @@ use Rattle.fing_top.specs.Meaning.{one_program, Spells}
 no_vars : GoodVars [] []
 no_vars n t at = elim at [ ]
 
+-- a simplified term has the type of the term
 pub typed_simplified : {e d : Term} {t : Ty} → e ≡ simplified d → HasType [] [] d t → HasType [] [] e t
 typed_simplified {e} {d} {t} same h = subst (λ (x : Term). HasType [] [] x t) (sym same) (kept no_vars h)
 
@@ -24,6 +26,7 @@ typed_simplified {e} {d} {t} same h = subst (λ (x : Term). HasType [] [] x t) (
 pub of_compiled : (bytes : List ℕ) (c : Compiled) → IsCompiled bytes c → IsConfirmed one_program false bytes c.checked
 of_compiled bytes c h = record { meaning = meaning_of c h.program h.types h.term; means = h.means; term = refl; ty = h.ty }
 
+-- the simplified whole term of a program is confirmed with the encoding of its signature
 pub is_simplified : (bytes : List ℕ) (program : Program) (o : Elaborated) (e : Term) (j : Judgment) → Spells one_program bytes program → Means program o → e ≡ simplified o.whole → (j.term ≡ e) × (j.ty ≡ enc_abs o.sig)
     → IsConfirmed one_program true bytes j
 is_simplified bytes program o e j p m s h = record {

@@ -1,4 +1,5 @@
 -- Renaming and substitution keep likeness.
+-- Main results: same_terms, first_like, two_like.
 use Rattle.std.proofs.Common.{◌≡◌, ℕ, zero, suc, refl, ap, ◌∙◌, subst}
 use Rattle.omega_kinds.specs.declared.label.Label.{Label}
 use Rattle.omega_types.specs.Ty.{Ty, Row, lift}
@@ -93,6 +94,7 @@ sub_field : {f : TermRow} {l : Label} {e : Term} (s : ℕ → Ty) (w : ℕ → T
 sub_field s w HasField.here = HasField.here
 sub_field s w (HasField.there d x) = HasField.there d (sub_field s w x)
 
+-- a substitution in the parts of a term is that in the term
 pub sub_parts : (s : ℕ → Ty) (w : ℕ → Term) (e : Term) (row : Row) → sub_fields s w (parts_of e row) ≡ parts_of (sub_term s w e) row
 sub_parts s w e Row.End = refl
 sub_parts s w e (Row.More l t row) = ap (TermRow.More l (Term.Get (sub_term s w e) l)) (sub_parts s w e row)
@@ -112,13 +114,16 @@ like_up f (suc i) n = ren_like same_index suc (f i n)
 like_under : {w v : ℕ → Term} → LikeTerms w v → LikeTerms (under_type w) (under_type v)
 like_under f i n = ren_like suc same_index (f i n)
 
+-- the identity puts in like terms
 pub same_terms : LikeTerms Term.Var Term.Var
 same_terms i n = Like.var
 
+-- terms that are alike, put in for the first variable, are like terms for all
 pub first_like : {e d : Term} → ((n : ℕ) → Like n e d) → LikeTerms (first_term e Term.Var) (first_term d Term.Var)
 first_like f zero n = f n
 first_like f (suc i) n = Like.var
 
+-- so are two such pairs, put in for the first two variables
 pub two_like : {e d f g : Term} → ((n : ℕ) → Like n e d) → ((n : ℕ) → Like n f g) →
     LikeTerms (first_term e (first_term f Term.Var)) (first_term d (first_term g Term.Var))
 two_like f g zero n = f n

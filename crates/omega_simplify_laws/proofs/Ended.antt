@@ -1,4 +1,5 @@
 -- What a term and its simplified one come to.
+-- Main results: simplified_comes_too, term_comes_too.
 use Rattle.std.proofs.Common.{◌≡◌, ℕ, zero, suc, ◌<◌, ◌≤◌, subst, [], zero-le, suc-le-suc, arith}
 use Rattle.omega_types.specs.Ty.{Ty}
 use Rattle.omega_terms.specs.Term.{Term}
@@ -56,6 +57,7 @@ comes_too t h p (Ends.fault {x = z} q f) =
     let x = reached t h p q in
     (suc x.count, End.the_fault z, Ends.fault x.reaches (faults_too x.like f), suc-le-suc x.less, SameEnd.fault)
 
+-- where a term comes to an end, its simplified one comes to the same end in no more steps
 pub simplified_comes_too : SimplifiedComesToo
 simplified_comes_too e t n r h i = comes_too t h (start e).like i
 
@@ -108,5 +110,6 @@ found : (t : Ty) (n : ℕ) → Found t n
 found t zero e d k s h p r = within t zero (none_before t) (suc k) e d k s (omega arith) h p r
 found t (suc n) e d k s h p r = within t (suc n) (one_before t n (found t n)) (suc k) e d k s (omega arith) h p r
 
+-- where the simplified term comes to an end, the term comes to the same end
 pub term_comes_too : TermComesToo
 term_comes_too e t n s h i = let x = start e in found t n e (simplified e) x.weight s h x.like i

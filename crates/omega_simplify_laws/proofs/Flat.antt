@@ -1,4 +1,5 @@
 -- The flat functions, by their two forms.
+-- Main results: are_parts-yes, flat.
 use Rattle.std.proofs.Common.{◌≡◌, zero, refl, sym, subst, true, ◌&&◌}
 use Rattle.std.proofs.lemmas.Bool.{false≢true, and_parts}
 use Rattle.std.specs.Ordering.{is_eq}
@@ -29,6 +30,7 @@ is_part-yes l (Term.Get e m) h =
     λ i. Term.Get (is_argument-yes e p.0 i) (sym q i)
 is_part-yes l _ h = absurd (false≢true h)
 
+-- fields that pass the test are the parts of the argument, in order
 pub are_parts-yes : (r : Row) (f : TermRow) → are_parts r f ≡ true → f ≡ parts_of (Term.Var zero) r
 are_parts-yes Row.End TermRow.End h = refl
 are_parts-yes (Row.More l t r) (TermRow.More m e f) h =
@@ -40,6 +42,7 @@ are_parts-yes (Row.More l t r) (TermRow.More m e f) h =
     λ i. TermRow.More (sym same i) (part i) (rest i)
 are_parts-yes _ _ h = absurd (false≢true h)
 
+-- a function that passes the test gives its argument back, or a record of all its parts
 pub flat : (f : Term) → is_flat f ≡ true → Flat f
 flat (Term.Lam t (Term.Var zero)) h = Flat.whole
 flat (Term.Lam (Ty.Fields r) (Term.Fields f)) h = subst (λ x. Flat (Term.Lam (Ty.Fields r) (Term.Fields x))) (sym (are_parts-yes r f h)) Flat.parts

@@ -1,4 +1,5 @@
 -- The steps of a function that gives its argument back, until it is written out.
+-- Main results: given_step.
 use Rattle.std.proofs.Common.{ℕ, zero, suc, ◌+◌, ◌<◌, arith}
 use Rattle.omega_types.specs.Ty.{Ty}
 use Rattle.omega_terms.specs.Term.{Term}
@@ -59,6 +60,7 @@ lam_given (GivesBack.parts p) h v ty l = absurd (no_record h v (record_canon (ar
 no_fix : {i : ℕ} {t u : Ty} {e : Term} → GivesBack i (Term.Fix t u e) → ⊥
 no_fix g = elim g [ ]
 
+-- a step of a function that gives its argument back leaves one that does so in less
 pub given_step : {n : ℕ} {f c : Term} → GivesBack n f → IsTyped f → Step f c → GivesLess n c
 given_step (GivesBack.whole p) ty s = elim s [ ]
 given_step (GivesBack.parts p) ty s = elim s [ ]

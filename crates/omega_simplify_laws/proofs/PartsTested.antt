@@ -1,4 +1,5 @@
 -- Records in label order that are built of the parts of a variable, by their labels.
+-- Main results: parts_are_tested.
 use Rattle.std.proofs.Common.{◌≡◌, ◌≢◌, ◌⊎◌, zero, [], ◌∷◌, true, ◌&&◌, refl, sym, ◌∙◌, subst}
 use Rattle.std.proofs.Math.Logic.{inl, inr}
 use Rattle.std.proofs.lemmas.Bool.{and_from}
@@ -129,5 +130,6 @@ tested (x ∷ xs) (y ∷ ys) r s o h =
     first_tested x xs y (term_row ys) e (o y.0 y.1 HasField.here)
     (tested xs ys (rises_on x xs r) (rises_on y ys s) (later_own y ys s o) (later_same x xs y ys r s h e))
 
+-- the test accepts exactly a record of the argument's parts at their labels, which are those of the row
 pub parts_are_tested : PartsAreTested
 parts_are_tested xs fs r s = (λ h. own_parts (row xs) (term_row fs) (are_parts-yes (row xs) (term_row fs) h), λ p. tested xs fs r s p.0 p.1)

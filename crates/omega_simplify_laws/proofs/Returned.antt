@@ -1,4 +1,5 @@
 -- A call of a flat function on a value comes back to that very value.
+-- Main results: flat_calls_come_back.
 use Rattle.std.proofs.Common.{◌≡◌, ℕ, zero, suc, sym, ap, ◌∙◌, subst}
 use Rattle.omega_kinds.specs.declared.label.Label.{Label}
 use Rattle.omega_types.specs.Ty.{Ty, Row}
@@ -43,5 +44,6 @@ comes_back {v = v} (Flat.parts {r = r}) h i =
     let q = subst (λ x. Reaches (Term.Fields (parts_of (Term.Fields w.row) r)) p.0 x) (sym w.is) (record_reaches p.1) in
     (suc p.0, Reaches.step (Step.call_lam i) (subst (λ x. Reaches x p.0 v) (sym e) q))
 
+-- a call of a flat function on a value comes back to this value
 pub flat_calls_come_back : FlatCallsComeBack
 flat_calls_come_back f v t h e i = comes_back (flat f e) (t, h) i

@@ -1,4 +1,5 @@
 -- The example, step by step.
+-- Main results: sealed_row.
 use Rattle.std.proofs.Common.{◌≡◌, ◌≢◌, refl, subst, codes}
 use Rattle.omega_kinds.specs.declared.label.Label.{Label}
 use Rattle.std.specs.Fmt.{digits}
@@ -58,6 +59,7 @@ sealed_text : value_text value ≡ codes "M = {t = type, x = 5}\n"
 unfolding ◌then◌ digits
 sealed_text = refl
 
+-- the example loses its coercion, comes to the same value in 6 steps instead of 11, and shows it alike
 pub sealed_row : SealedRow
 sealed_row = record {
   goes = refl;

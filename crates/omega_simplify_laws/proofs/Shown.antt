@@ -1,4 +1,5 @@
 -- A value is shown as what it is like, and has the same value text.
+-- Main results: text_like.
 use Rattle.std.proofs.Common.{◌≡◌, ℕ, List, [], refl, ap, codes}
 use Rattle.omega_kinds.specs.Text.{◌then◌}
 use Rattle.omega_kinds.specs.declared.label.Label.{Label}
@@ -67,6 +68,7 @@ lines_like AreValues.end AreLike.end = refl
 lines_like (AreValues.more {l = l} v w) (AreLike.more p q k) =
     λ i. label_text l then codes " = " then shown_like v p i then codes "\n" then lines_like w q i
 
+-- a value and what it is like have the same value text
 pub text_like : {v d : Term} {n : ℕ} → IsValue v → Like n v d → value_text v ≡ value_text d
 text_like IsValue.int Like.int = refl
 text_like IsValue.bool Like.bool = refl

@@ -1,4 +1,5 @@
 -- What typing says of the terms that steps look at.
+-- Main results: rebuilt, arg_typed.
 use Rattle.std.proofs.Common.{◌≡◌, ◌≢◌, ℕ, refl, sym, []}
 use Rattle.omega_kinds.specs.Kind.{Kind}
 use Rattle.omega_kinds.specs.declared.label.Label.{Label}
@@ -76,51 +77,67 @@ roll_own (Own.roll c h) = (_, h)
 unroll_own : {e : Term} {t : Ty} → Own [] [] (Term.Unroll e) t → IsTyped e
 unroll_own (Own.unroll h) = (_, h)
 
+-- the function of a typed call is typed
 pub call_function_typed : {f a : Term} → IsTyped (Term.Call f a) → IsTyped f
 call_function_typed h = call_function_own (own_of h).1
 
+-- the argument of a typed call is typed
 pub call_arg_typed : {f a : Term} → IsTyped (Term.Call f a) → IsTyped a
 call_arg_typed h = call_arg_own (own_of h).1
 
+-- what is instantiated in a typed instance is typed
 pub inst_typed : {e : Term} {a : Ty} → IsTyped (Term.Inst e a) → IsTyped e
 inst_typed h = inst_own (own_of h).1
 
+-- the fields of a typed record are typed
 pub fields_typed : {f : TermRow} → IsTyped (Term.Fields f) → AreTyped f
 fields_typed h = fields_own (own_of h).1
 
+-- the record of a typed selection is typed
 pub get_typed : {e : Term} {l : Label} → IsTyped (Term.Get e l) → IsTyped e
 get_typed h = get_own (own_of h).1
 
+-- what is inside a typed package is typed
 pub pack_typed : {e : Term} {a u : Ty} → IsTyped (Term.Pack a e u) → IsTyped e
 pack_typed h = pack_own (own_of h).1
 
+-- the package that a typed term opens is typed
 pub unpack_typed : {p e : Term} → IsTyped (Term.Unpack p e) → IsTyped p
 unpack_typed h = unpack_own (own_of h).1
 
+-- the test of a typed conditional is typed
 pub if_typed : {a b c : Term} → IsTyped (Term.If a b c) → IsTyped a
 if_typed h = if_own (own_of h).1
 
+-- the left operand of a typed operation is typed
 pub arith_left_typed : {o : Op} {a b : Term} → IsTyped (Term.Arith o a b) → IsTyped a
 arith_left_typed h = arith_left_own (own_of h).1
 
+-- the right operand of a typed operation is typed
 pub arith_right_typed : {o : Op} {a b : Term} → IsTyped (Term.Arith o a b) → IsTyped b
 arith_right_typed h = arith_right_own (own_of h).1
 
+-- the value of a typed injection is typed
 pub inj_typed : {l : Label} {e : Term} {u : Ty} → IsTyped (Term.Inj l e u) → IsTyped e
 inj_typed h = inj_own (own_of h).1
 
+-- what a typed case takes apart is typed
 pub case_typed : {e : Term} {u : Ty} {f : TermRow} → IsTyped (Term.Case e u f) → IsTyped e
 case_typed h = case_own (own_of h).1
 
+-- the value of a typed rolled term is typed
 pub roll_typed : {e : Term} {u : Ty} → IsTyped (Term.Roll e u) → IsTyped e
 roll_typed h = roll_own (own_of h).1
 
+-- what a typed term unrolls is typed
 pub unroll_typed : {e : Term} → IsTyped (Term.Unroll e) → IsTyped e
 unroll_typed h = unroll_own (own_of h).1
 
+-- the first of typed fields is typed
 pub here_typed : {l : Label} {e : Term} {f : TermRow} → AreTyped (TermRow.More l e f) → IsTyped e
 here_typed (r, FieldsHave.more h d i) = (_, h)
 
+-- the fields after the first of typed ones are typed
 pub there_typed : {l : Label} {e : Term} {f : TermRow} → AreTyped (TermRow.More l e f) → AreTyped f
 there_typed (r, FieldsHave.more h d i) = (_, i)
 
@@ -132,6 +149,7 @@ lam_arg (Own.lam k h) c i = HasType.conv i (c_sym (arrow_parts _ _ _ _ _ c).0)
 call_arg : {s t : Ty} {b v : Term} → Own [] [] (Term.Call (Term.Lam s b) v) t → HasType [] [] v s
 call_arg (Own.call h i) = let r = invert (good-none []) h in lam_arg r.own r.to i
 
+-- the argument of a typed call of a function has the type that the function writes
 pub arg_typed : {s : Ty} {b v : Term} → IsTyped (Term.Call (Term.Lam s b) v) → HasType [] [] v s
 arg_typed h = call_arg (own_of h).1
 
@@ -171,5 +189,6 @@ own_record (Own.fields h) c v (Like.fields {g = g} p) =
 canon_record : {r : Row} {n : ℕ} {v d : Term} → Canon Form.a_record v → HasType [] [] v (Ty.Fields r) → Like n v d → Rebuilt r d
 canon_record (Canon.fields vs) h p = let i = invert (good-none []) h in own_record i.own i.to vs p
 
+-- what a value of a record type is like is a record of exactly the labels of the type, in their order
 pub rebuilt : {r : Row} {n : ℕ} {v d : Term} → HasType [] [] v (Ty.Fields r) → IsValue v → Like n v d → Rebuilt r d
 rebuilt h i p = canon_record (record_canon h i) h p

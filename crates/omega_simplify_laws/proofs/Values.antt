@@ -1,4 +1,5 @@
 -- Terms that values are like.
+-- Main results: field_value, field_like.
 use Rattle.std.proofs.Common.{ℕ, arith}
 use Rattle.omega_kinds.specs.declared.label.Label.{Label}
 use Rattle.omega_terms.specs.Term.{Term, TermRow}
@@ -41,6 +42,7 @@ mutual
   all_at_any k AreValues.end AreLike.end = AreLike.end
   all_at_any k (AreValues.more v w) (AreLike.more p q l) = AreLike.more (at_any 0 v p) (all_at_any 0 w q) (omega arith)
 
+-- the field of a label among values is a value
 pub field_value : {f : TermRow} {l : Label} {e : Term} → AreValues f → HasField f l e → IsValue e
 field_value AreValues.end x = elim x [ ]
 field_value (AreValues.more v w) HasField.here = v
@@ -53,6 +55,7 @@ pub record LikeField (g : TermRow) (l : Label) (e : Term) : Type 0 where
   pub at : HasField g l term
   pub like : Like weight e term
 
+-- the field of a label among fields is like that among fields which these are like
 pub field_like : {n : ℕ} {f g : TermRow} {l : Label} {e : Term} → AreLike n f g → HasField f l e → LikeField g l e
 field_like AreLike.end x = elim x [ ]
 field_like (AreLike.more {i = i} {d = d} p q k) HasField.here = record { term = d; weight = i; at = HasField.here; like = p }

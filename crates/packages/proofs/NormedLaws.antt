@@ -1,4 +1,5 @@
 -- What the code makes of a signature is its norm, and normal.
+-- Main results: norm-value, norm-good.
 use Rattle.std.specs.Prelude.{ℕ, List, [], ◌∷◌, ◌≡◌}
 use Rattle.std.proofs.Math.Path.{sym, subst, fun_ext}
 use Rattle.omega_kinds.specs.Kind.{Kind}
@@ -70,8 +71,10 @@ mutual
 
 -- what is given is good again
 
+-- what the code makes of a signature that may stand on the right is its norm
 pub norm-value : (x y : Abs) → y ≡ normed_abs x → (ctx : List Kind) → OkRight ctx x → Norm ctx x y
 norm-value x y e ctx ok = subst (Norm ctx x) (sym e) (abs-normed x ok.0 ok.1).0
 
+-- this norm may stand on the right
 pub norm-good : (x y : Abs) → y ≡ normed_abs x → (ctx : List Kind) → OkRight ctx x → OkRight ctx y
 norm-good x y e ctx ok = let q = abs-normed x ok.0 ok.1 in subst (OkRight ctx) (sym e) (norm_abs-explicit q.0 ok.0, q.1)

@@ -1,4 +1,5 @@
 -- What the calls of packages give is the conclusion of their rules, or their refusal.
+-- Main results: type-shared.
 use Rattle.std.specs.Prelude.{List, [], ◌≡◌}
 use Rattle.std.proofs.Math.Path.{refl, sym, subst, ◌∙◌}
 use Rattle.omega_kinds.specs.Kind.{Kind}
@@ -28,6 +29,7 @@ type-normal x y t h e ctx ok = let q = h ctx ok in subst (λ u. Normal ctx u Kin
 pub type-given : (x y : Abs) (t : Ty) → ((ctx : List Kind) → OkRight ctx x → Norm ctx x y) → t ≡ enc_abs y → (ctx : List Kind) → OkRight ctx x → PackTypeGives ctx x t
 type-given x y t h e ctx ok = subst (PackTypeGives ctx x) (sym e) (PackTypeGives.pack_type (h ctx ok))
 
+-- the encoding of the norm is the package type of a signature
 pub type-shared : (x y : Abs) (t : Ty) → ((ctx : List Kind) → OkRight ctx x → Norm ctx x y) → t ≡ enc_abs y → (ctx : List Kind) → OkRight ctx x → IsSharedType ctx x t
 type-shared x y t h e ctx ok = one_shared_type ctx x t ok (type-given x y t h e ctx ok)
 

@@ -1,4 +1,5 @@
 -- The steps of the code's loops and calls.
+-- Main results: abs-ordered, impure-normed, pure-normed.
 use Rattle.std.specs.Prelude.{ℕ, zero, suc, ◌+◌, ◌-◌, ◌<◌, ◌≤◌, ◌≡◌, ◌↔◌, List, [], ◌∷◌, ◌++◌, length, map, drop, set, slice_get, Option, Some, None, Bool, true, false, ◌||◌, IsTrue}
 use Rattle.std.proofs.Common.{get_or, arith}
 use Rattle.std.proofs.Math.Path.{refl, sym, ap, ap₂, ◌∙◌, subst}
@@ -30,6 +31,7 @@ use Rattle.packages.proofs.TurnLaws.{untaken-within}
 next-index : (i : ℕ) → i + 1 ≡ suc i
 next-index i = omega arith
 
+-- the fields of a structure, brought to norm one by one, are the row in norm
 pub row-normed : (xs : SigPairs) → sig_row (map_sigs normed_sig xs) ≡ normed_row (sig_row xs)
 row-normed [] = refl
 row-normed (x ∷ xs) = ap (SigRow.More x.0 (normed_sig x.1)) (row-normed xs)
@@ -53,6 +55,7 @@ barred-at ps i n s place lt ep =
     ap (λ l. barred l n s) (drop-cons ps i place lt ∙ ap (λ m. get_or ps i place ∷ drop m ps) (sym (next-index i)))
     ∙ ap (λ o. blocks o n s || barred (drop (i + 1) ps) (suc n) s) (sym ep)
 
+-- a signature whose variables are all below an index mentions no variable that is not taken from there on
 pub barred-none : (ps : Places) (i n bound : ℕ) (s : Sig) (whole : Bool) → bound ≡ bound_sig s → bound ≤ n → barred (drop i ps) n s ≡ whole → false ≡ whole
 barred-none ps i n bound s whole eb le e = sym (barred-beyond (drop i ps) n s (omega (arith, eb, le))) ∙ e
 
@@ -91,6 +94,7 @@ blocks-not o j i s e = sym (ap (λ p. blocks p i s) e)
 
 -- the fields of a structure
 
+-- what is found first in the fields from a place on is in the one there, or else in those after it
 pub first-at : (ps : Places) (depth : ℕ) (xs : SigPairs) (i : ℕ) (x : Name × Sig) → i < length xs → x ≡ get_or xs i x → first_row ps depth (sig_row (drop i xs)) ≡ or_first (first ps depth x.1) (first_row ps depth (sig_row (drop (i + 1) xs)))
 first-at ps depth xs i x lt e = ap (first_row ps depth) (row-at xs i x lt) ∙ ap (λ y. or_first (first ps depth y.1) (first_row ps depth (sig_row (drop (i + 1) xs)))) (sym e)
 
@@ -113,6 +117,7 @@ first-end ps depth xs i whole le e = sym (ap (λ l. first_row ps depth (sig_row 
 
 -- what is found is not taken yet
 
+-- a variable that is found untaken is untaken
 pub untaken-is : (ps : Places) (o : Option ℕ) (i : ℕ) → if_untaken ps o ≡ Some i → is_untaken ps i ≡ true
 untaken-is ps None i e = absurd (cc)
 untaken-is ps (Some j) i e = go (is_untaken ps j) refl
@@ -152,6 +157,7 @@ kind-get [] n d lt = absurd (omega (arith, lt))
 kind-get (k ∷ items) zero d lt = refl
 kind-get (k ∷ items) (suc n) d lt = kind-get items n d (omega (arith, lt))
 
+-- the kind of a variable that is taken is pushed at the end of the new kinds
 pub push-taken : (ks old new : List Kind) (items : List SharedKind) (index : ℕ) (kind shared : SharedKind) → map kind_tree items ≡ ks → index < length ks → kind ≡ get_or items (length items - 1 - index) kind → kind_tree shared ≡ kind_tree kind → new ≡ old ++ (kind_tree shared ∷ []) → new ≡ old ++ (kind_at ks (own ks index) ∷ [])
 push-taken ks old new items index kind shared ei lt ek es en = en ∙ ap (λ k. old ++ (k ∷ [])) taken
   where
@@ -193,10 +199,12 @@ turn-end ks taken s ps (suc left) whole z e = absurd (omega (arith, z))
 
 -- what is in order
 
+-- a signature that hides types, its variables brought in order by turns, is its norm
 pub abs-ordered : (x y : Abs) (s t u : Sig) (ks js : List Kind) (ps qs : Places) → s ≡ body_of x → ks ≡ kinds_of x → t ≡ normed_sig s → (js, ps) ≡ turns ks t (length ks) [] (untaken ks) → qs ≡ ps → u ≡ rename_sig (moved qs) t → y ≡ Abs.Ex js u → y ≡ normed_abs x
 abs-ordered (Abs.Ex is r) y s t u ks js ps qs es ek et eo eq eu ey =
     ey ∙ (ap₂ Abs.Ex (ap (λ o. o.0) eo) (eu ∙ (ap (λ p. rename_sig (moved p) t) eq ∙ ap (λ o. rename_sig (moved o.1) t) eo)) ∙ ap₂ in_order ek (et ∙ ap normed_sig es))
 
+-- an impure functor, its variables brought in order by turns, is the functor in order
 pub functor-ordered : (ks js : List Kind) (t u f : Sig) (y z : Abs) (ps qs : Places) → (js, ps) ≡ turns ks t (length ks) [] (untaken ks) → qs ≡ ps → u ≡ rename_sig (moved qs) t → z ≡ rename_abs (moved qs) y → f ≡ Sig.Fun Impure js u z → f ≡ functor_in_order ks t y
 functor-ordered ks js t u f y z ps qs eo eq eu ez ef =
     ef ∙ made (ap (λ o. o.0) eo) (eu ∙ (ap (λ p. rename_sig (moved p) t) eq ∙ ap (λ o. rename_sig (moved o.1) t) eo)) (ez ∙ (ap (λ p. rename_abs (moved p) y) eq ∙ ap (λ o. rename_abs (moved o.1) y) eo))
@@ -204,10 +212,12 @@ functor-ordered ks js t u f y z ps qs eo eq eu ez ef =
     made : {js is : List Kind} {u v : Sig} {z w : Abs} → js ≡ is → u ≡ v → z ≡ w → Path Sig (Sig.Fun Impure js u z) (Sig.Fun Impure is v w)
     made p q r i = Sig.Fun Impure (p i) (q i) (r i)
 
+-- an impure functor's norm is that of its parameter and its result, brought in order
 pub impure-normed : (e : Effect) (ks : List Kind) (s t sig f : Sig) (x y : Abs) → sig ≡ Sig.Fun e ks s x → e ≡ Impure → t ≡ normed_sig s → y ≡ normed_abs x → f ≡ functor_in_order ks t y → f ≡ normed_sig sig
 impure-normed e ks s t sig f x y es ee et ey ef =
     ef ∙ (ap₂ (functor_in_order ks) et ey ∙ sym (ap normed_sig (es ∙ ap (λ o. Sig.Fun o ks s x) ee)))
 
+-- a pure functor's norm is that of its parameter and its result, its variables in their order
 pub pure-normed : (e : Effect) (ks : List Kind) (s t r u sig f : Sig) (x : Abs) → sig ≡ Sig.Fun e ks s x → e ≡ Pure → t ≡ normed_sig s → r ≡ body_of x → u ≡ normed_sig r → f ≡ Sig.Fun Pure ks t (Abs.Ex (kinds_of x) u) → f ≡ normed_sig sig
 pure-normed e ks s t r u sig f (Abs.Ex js b) es ee et er eu ef =
     ef ∙ (ap₂ (λ t u. Sig.Fun Pure ks t (Abs.Ex js u)) et (eu ∙ ap normed_sig er) ∙ sym (ap normed_sig (es ∙ ap (λ o. Sig.Fun o ks s (Abs.Ex js b)) ee)))
@@ -228,26 +238,31 @@ taken-get (Some j ∷ ps) zero h = refl
 taken-get (None ∷ ps) (suc i) h = taken-get ps i h
 taken-get (Some j ∷ ps) (suc i) h = taken-get ps i h
 
+-- a type that is a variable not yet taken is found
 pub type-found : (ps : Places) (found : Option ℕ) (i : ℕ) → found ≡ Some i → slice_get ps i ≡ Some None → Some i ≡ if_untaken ps found
 type-found ps found i e u = let t = untaken-get ps i u in sym (ap (if_untaken ps) e ∙ (let g : if_untaken ps (Some i) ≡ Some i = rw t refl in g))
 
+-- a type that is a variable taken already is not found
 pub type-taken : (ps : Places) (found : Option ℕ) (i : ℕ) → found ≡ Some i → (slice_get ps i ≡ Some None → ⊥) → None ≡ if_untaken ps found
 type-taken ps found i e h = let t = taken-get ps i h in sym (ap (if_untaken ps) e ∙ (let g : if_untaken ps (Some i) ≡ None = rw t refl in g))
 
 -- the functors on the way
 
+-- nothing is found through a pure functor whose parameter mentions a variable that is not taken
 pub first-barred : (ps : Places) (depth inner : ℕ) (e : Effect) (ks : List Kind) (s sig : Sig) (x : Abs) → sig ≡ Sig.Fun e ks s x → e ≡ Pure → inner ≡ length ks + depth → barred ps inner s ≡ true → None ≡ first ps depth sig
 first-barred ps depth inner e ks s sig x es ee ei b =
     let t : barred ps (length ks + depth) s ≡ true = subst (λ n. barred ps n s ≡ true) ei b in
     let g : first ps depth (Sig.Fun Pure ks s x) ≡ None = rw t refl in
     sym (ap (first ps depth) (es ∙ ap (λ o. Sig.Fun o ks s x) ee) ∙ g)
 
+-- through another pure functor is found what is found in its result
 pub first-through : (ps : Places) (depth inner : ℕ) (e : Effect) (ks : List Kind) (s body sig : Sig) (x : Abs) → sig ≡ Sig.Fun e ks s x → e ≡ Pure → inner ≡ length ks + depth → barred ps inner s ≡ false → body ≡ body_of x → first ps inner body ≡ first ps depth sig
 first-through ps depth inner e ks s body sig (Abs.Ex js r) es ee ei b eb =
     let t : barred ps (length ks + depth) s ≡ false = subst (λ n. barred ps n s ≡ false) ei b in
     let g : first ps depth (Sig.Fun Pure ks s (Abs.Ex js r)) ≡ first ps (length ks + depth) r = rw t refl in
     ap₂ (first ps) ei eb ∙ sym (ap (first ps depth) (es ∙ ap (λ o. Sig.Fun o ks s (Abs.Ex js r)) ee) ∙ g)
 
+-- nothing is found through an impure functor
 pub first-impure : (ps : Places) (depth : ℕ) (e : Effect) (ks : List Kind) (s sig : Sig) (x : Abs) → sig ≡ Sig.Fun e ks s x → e ≡ Impure → None ≡ first ps depth sig
 first-impure ps depth e ks s sig x es ee = sym (ap (first ps depth) (es ∙ ap (λ o. Sig.Fun o ks s x) ee))
 

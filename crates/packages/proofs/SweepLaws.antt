@@ -1,4 +1,5 @@
 -- A walk takes what turns would take one after the other.
+-- Main results: sweeps-str, sweeps-pure, swept-all.
 use Rattle.std.specs.Prelude.{ℕ, zero, suc, ◌+◌, ◌-◌, ◌<◌, ◌≤◌, ◌≡◌, ◌++◌, List, [], ◌∷◌, length, drop, set, Option, Some, None, Bool, true, false, ◌||◌, if◌then◌else◌}
 use Rattle.std.proofs.Common.{get_or, arith, Result, Ok, Err, OnOk}
 use Rattle.std.proofs.Math.Path.{refl, sym, ap, ap₂, ◌∙◌, subst}
@@ -114,26 +115,32 @@ way-open ks js depth p x elsewhere left taken ps h =
 
 -- what a walk does, form by form
 
+-- the walk through a type part takes what it takes of the type
 pub sweeps-typ : {ks : List Kind} (depth : ℕ) (u : Ty) {sig : Sig} {t : Ty} {k : Kind} {old new : Sweep} → sig ≡ Sig.Typ t k → u ≡ t → Sweeps ks (λ ps. first_type ps depth u) old new → Sweeps ks (λ ps. first ps depth sig) old new
 sweeps-typ {ks} depth u {t = t} {old = old} {new = new} e eu h =
     let here : Sweeps ks (λ ps. first_type ps depth t) old new = subst (λ t. Sweeps ks (λ ps. first_type ps depth t) old new) eu h in
     subst (λ s. Sweeps ks (λ ps. first ps depth s) old new) (sym e) (record { same = here.same })
 
+-- the walk through a structure takes what it takes of the fields
 pub sweeps-str : {ks : List Kind} (depth : ℕ) {sig : Sig} {fs : SigRow} {old new : Sweep} → sig ≡ Sig.Str fs → Sweeps ks (λ ps. first_row ps depth fs) old new → Sweeps ks (λ ps. first ps depth sig) old new
 sweeps-str {ks} depth {old = old} {new = new} e h = subst (λ s. Sweeps ks (λ ps. first ps depth s) old new) (sym e) (record { same = h.same })
 
 sweeps-nothing : {ks : List Kind} {here : Places → Option ℕ} {w : Sweep} → ((ps : Places) → here ps ≡ None) → Sweeps ks here w w
 sweeps-nothing {ks} {here} {w} h = record { same = λ elsewhere. turns-everywhere ks (both here elsewhere) elsewhere (λ ps. ap (λ o. or_first o (elsewhere ps)) (h ps)) w.left w.order.kinds w.order.places.items }
 
+-- the walk through a value takes nothing
 pub sweeps-val : {ks : List Kind} (depth : ℕ) {sig : Sig} {t : Ty} {w : Sweep} → sig ≡ Sig.Val t → Sweeps ks (λ ps. first ps depth sig) w w
 sweeps-val depth e = sweeps-nothing (λ ps. ap (first ps depth) e)
 
+-- the walk through a signature part takes nothing
 pub sweeps-meta : {ks : List Kind} (depth : ℕ) {sig : Sig} {x : Abs} {w : Sweep} → sig ≡ Sig.Meta x → Sweeps ks (λ ps. first ps depth sig) w w
 sweeps-meta depth e = sweeps-nothing (λ ps. ap (first ps depth) e)
 
+-- the walk through an impure functor takes nothing
 pub sweeps-impure : {ks js : List Kind} (depth : ℕ) {f : Effect} {sig p : Sig} {x : Abs} {w : Sweep} → sig ≡ Sig.Fun f js p x → f ≡ Impure → Sweeps ks (λ ps. first ps depth sig) w w
 sweeps-impure {js = js} depth {p = p} {x} e ef = sweeps-nothing (λ ps. ap (first ps depth) (e ∙ ap (λ g. Sig.Fun g js p x) ef))
 
+-- the walk through a pure functor takes what it takes of its result, if the parameter bars nothing
 pub sweeps-pure : {ks js : List Kind} (depth : ℕ) {inner : ℕ} {f : Effect} {sig p body : Sig} {x : Abs} {old new : Sweep} → sig ≡ Sig.Fun f js p x → f ≡ Pure → inner ≡ length js + depth → body ≡ body_of x
     → barred old.order.places.items inner p ≡ false → Sweeps ks (λ ps. first ps inner body) old new → Sweeps ks (λ ps. first ps depth sig) old new
 sweeps-pure {ks} {js} depth {inner} {f} {sig} {p} {body} {x = Abs.Ex is r} {old} {new} e ef ei eb h s =
@@ -144,6 +151,7 @@ sweeps-pure {ks} {js} depth {inner} {f} {sig} {p} {body} {x = Abs.Ex is r} {old}
 
 -- a type
 
+-- the walk through a type without an untaken root takes nothing
 pub sweeps-rootless : {ks : List Kind} (depth : ℕ) (t : Ty) {w : Sweep} → first_type w.order.places.items depth t ≡ None → Sweeps ks (λ ps. first_type ps depth t) w w
 sweeps-rootless {ks} depth t {w} e = record { same = λ elsewhere. passed ks (rooted depth t) elsewhere w.left w.order.kinds w.order.places.items e }
 
@@ -163,10 +171,12 @@ pub sweeps-next : {ks : List Kind} (depth : ℕ) (t : Ty) {index : ℕ} {old : S
     → taken.kinds ≡ old.order.kinds ++ kind_at ks (own ks index) ∷ [] → taken.places.items ≡ set old.order.places.items index (Some (old.left - 1)) → Sweeps ks (λ ps. first_type ps depth t) old (record { order = taken; left = old.left - 1 })
 sweeps-next depth t e n ek ep = sweeps-took depth t e (omega (arith, n)) ek ep
 
+-- what two answers say where a call succeeds, put together
 pub on-both : {T E A B C : Type 0} (r : Result T E) → OnOk r A → OnOk r B → (A → B → C) → OnOk r C
 on-both (Ok x) a b f = f a b
 on-both (Err e) a b f = tt
 
+-- a variable that is found is one of the binders
 pub took-within : (depth : ℕ) (t : Ty) (ps : Places) {index count : ℕ} → first_type ps depth t ≡ Some index → length ps ≡ count → index < count
 took-within depth t ps {index} e el = let h = untaken-within ps index (untaken-is ps (rooted depth t) index e) in omega (arith, h, el)
 
@@ -193,6 +203,7 @@ came-next {ks} {depth} {xs} {i} {old} {mid} {now} x lt e c s = record {
       ∙ s.same (both rest elsewhere));
 }
 
+-- a walk that has come to the end of the fields has taken what it takes of them
 pub came-last : {ks : List Kind} {depth : ℕ} {xs : SigPairs} {i : ℕ} {old now : Sweep} → length xs ≤ i → CameTo ks depth xs i old now → Sweeps ks (λ ps. first_row ps depth (sig_row xs)) old now
 came-last {ks} {depth} {xs} {i} {old} {now} le c = record {
   same = λ elsewhere.
@@ -216,6 +227,7 @@ no-turns : (ks : List Kind) (left : ℕ) (taken : List Kind) (ps : Places) → t
 no-turns ks zero taken ps = refl
 no-turns ks (suc left) taken ps = refl
 
+-- a walk through the whole signature takes all that the turns take
 pub swept-all : {ks : List Kind} (s : Sig) {old new : Sweep} → old.left ≡ length ks → old.order.kinds ≡ [] → old.order.places.items ≡ untaken ks → Sweeps ks (λ ps. first ps zero s) old new
     → (new.order.kinds, new.order.places.items) ≡ turns ks s (length ks) [] (untaken ks)
 swept-all {ks} s {old} {new} el ek ep h =

@@ -1,4 +1,5 @@
 -- The variables that are taken turn by turn are in the order of the definition.
+-- Main results: untaken-within.
 use Rattle.std.specs.Prelude.{ℕ, zero, suc, ◌+◌, ◌-◌, ◌<◌, ◌≤◌, ◌≡◌, ◌≢◌, ◌↔◌, List, [], ◌∷◌, ◌++◌, ◌⊎◌, length, map, set, Option, Some, None, Bool, true, false}
 use mathlib.Core.Logic.{inl, inr}
 use Rattle.std.proofs.Common.{arith, append_assoc, append-nil}
@@ -30,6 +31,7 @@ use Rattle.sig_laws.proofs.Formed.Shows.{Shows, rooted-shows, shows-rooted}
 
 -- places
 
+-- a variable that is untaken is one of the binders
 pub untaken-within : (ps : Places) (i : ℕ) → is_untaken ps i ≡ true → i < length ps
 untaken-within [] i e = absurd (cc)
 untaken-within (None ∷ ps) zero e = omega arith

@@ -229,7 +229,7 @@ stop_of A x = stop x
 stop_is : (A : Type 0) {x y : List Token} → stop_of A x ≡ stop_of A y → x ≡ y
 stop_is A e = cc
 
--- where a run stops, no phrases begin with the tokens up to that place
+-- where a run stops, the tokens taken begin a spelling, and others that begin so, with the same next one, stop there
 pub stopped : (f : ℕ) (ss : List Symbol) (ts left : List Token) → run f ss ts ≡ stop left → Stopped f ss ts left
 stopped zero ss ts left e = absurd (cc)
 stopped (suc f) [] ts left e = absurd (cc)

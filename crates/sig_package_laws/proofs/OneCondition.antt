@@ -1,4 +1,5 @@
 -- Each example of two package types has the other condition.
+-- Main results: flip_in_one_order, order_at_same_paths.
 use Rattle.std.specs.Prelude.{List, [], ◌∷◌, ◌≡◌}
 use Rattle.std.proofs.Common.{arith}
 use Rattle.std.proofs.Math.Path.{refl, sym, subst}
@@ -37,6 +38,7 @@ two-typs l s here = (_, _, refl)
 two-typs l s (there n here) = (_, _, refl)
 two-typs l s (there n (there m h)) = elim h [ ]
 
+-- in the first example the parameters of pure functors, of which there are none, hide their types in one order
 pub flip_in_one_order : FlipInOneOrder
 flip_in_one_order = EachAbs.ex tt (typs two-typs two-typs)
 
@@ -79,5 +81,6 @@ same-part (PartAt.result q) = PartAt.result q
 functor-roots : {t u v w : Ty} (p : SigPath) → RootsIn [] outer (functor t u) p → RootsIn [] outer (functor v w) p
 functor-roots p (i, lt, Rooted.at q c) = (i, lt, Rooted.at (same-part q) c)
 
+-- in the second example all signatures inside are rooted at the same paths
 pub order_at_same_paths : OrderAtSamePaths
 order_at_same_paths = EachAbs.ex (functor-roots, functor-roots) (EachSig.pure (roots other-a other-b, roots first-a first-b) (typs two-typs two-typs) (typs one-typ one-typ))

@@ -1,4 +1,5 @@
 -- The two functor signatures of the example match each other and have two package types.
+-- Main results: a_matches, b_matches, two_orders.
 use Rattle.std.specs.Prelude.{ℕ, zero, suc, ◌<◌, List, [], ◌∷◌, ◌≡◌, ◌≢◌}
 use mathlib.Core.Logic.{inl, inr}
 use Rattle.std.proofs.Common.{arith}
@@ -76,6 +77,7 @@ each-type t u p q x y zero lt = (p, by_numbers lt x (λ j le f ds ks z on. absur
 each-type t u p q x y (suc zero) lt = (q, by_numbers lt y (λ j le f ds ks z on. absurd (no-params on)))
 each-type t u p q x y (suc (suc i)) lt = absurd (omega (arith, lt))
 
+-- the name b is not the name a
 pub b-after-a : Path (List ℕ) (98 ∷ []) (97 ∷ []) → ⊥
 b-after-a e = let h : nth (98 ∷ []) 0 ≡ nth (97 ∷ []) 0 = ap (λ l. nth l 0) e in omega (arith, h)
 
@@ -135,9 +137,11 @@ second-normal = (normal-gives second).0
 order-normal : Normal inner in_order Kind.Star
 order-normal = (normal-gives at-order).0
 
+-- the signature with a first may stand on the right
 pub a_right : OkRight [] a_first
 a_right = (a_explicit, ((second-normal, (first-normal, tt)), (order-normal, tt)))
 
+-- the signature with b first may stand on the right
 pub b_right : OkRight [] b_first
 b_right = (b_explicit, ((first-normal, (second-normal, tt)), (order-normal, tt)))
 
@@ -173,6 +177,7 @@ b-matches-param =
 results : NormalAbsForm inner (abs_at_under two_stars (Ty.Var 0 ∷ (Ty.Var 1 ∷ [])) (Abs.Ex [] (result_part in_order))) (Abs.Ex [] (result_part out_of_order))
 results = ex (conv_sig-gives (well_formed-kinds (result-good out_of_order at-other)))
 
+-- the signature with a first matches the one with b first
 pub a_matches : (c : Term) × SubAbs [] a_first b_first c
 a_matches =
     let m = a-matches-param in
@@ -180,6 +185,7 @@ a_matches =
     let p = packed b_first _ _ b_explicit refl in
     (_, SubAbs.hidden (Match.at flips flip-form (conv_sig-gives (instance-kinds b_first _ b_explicit refl)) (Sub.fun m.1 results (SubResult.both_pure r.1))) (AbsPart.made p.1))
 
+-- the signature with b first matches the one with a first
 pub b_matches : (c : Term) × SubAbs [] b_first a_first c
 b_matches =
     let m = b-matches-param in
@@ -192,11 +198,14 @@ b_matches =
 own-norm : (ctx : List Kind) (t u : Ty) → NormSig ctx (functor t u) (functor t u)
 own-norm ctx t u = NormSig.pure (NormSig.str (NormRow.more NormSig.typ (NormRow.more NormSig.typ NormRow.end))) (NormSig.str (NormRow.more NormSig.typ NormRow.end))
 
+-- the norm of the signature with a first is this signature
 pub a_norm : (x : Abs) → Norm [] a_first x → x ≡ a_first
 a_norm x (Norm.ex {order = o} a w) = ap (λ s. Abs.Ex (reordered (binary ∷ []) o) (rename_sig (renumber (binary ∷ []) o) s)) (norm_unique a (own-norm outer (Ty.Var 1) (Ty.Var 0))) ∙ ap (λ l. Abs.Ex (reordered (binary ∷ []) l) (rename_sig (renumber (binary ∷ []) l) (functor (Ty.Var 1) (Ty.Var 0)))) (one-order o w)
 
+-- the norm of the signature with b first is this signature
 pub b_norm : (x : Abs) → Norm [] b_first x → x ≡ b_first
 b_norm x (Norm.ex {order = o} a w) = ap (λ s. Abs.Ex (reordered (binary ∷ []) o) (rename_sig (renumber (binary ∷ []) o) s)) (norm_unique a (own-norm outer (Ty.Var 0) (Ty.Var 1))) ∙ ap (λ l. Abs.Ex (reordered (binary ∷ []) l) (rename_sig (renumber (binary ∷ []) l) (functor (Ty.Var 0) (Ty.Var 1)))) (one-order o w)
 
+-- the two functor signatures of the example have different package types
 pub two_orders : (x y : Abs) → Norm [] a_first x → Norm [] b_first y → enc_abs x ≢ enc_abs y
 two_orders x y a b e = let p : a_first ≡ b_first = sym (a_norm x a) ∙ (enc_abs-injective x y e ∙ b_norm y b) in absurd (cc p)

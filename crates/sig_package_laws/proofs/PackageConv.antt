@@ -1,4 +1,5 @@
 -- Signatures of any types that match each other have convertible package types, and those of the examples do not.
+-- Main results: one_type.
 use Rattle.std.specs.Prelude.{[], List, ◌≡◌, ◌≢◌}
 use Rattle.std.proofs.Math.Path.{sym, ◌∙◌, ap, subst, subst₂}
 use Rattle.omega_kinds.specs.Kind.{Kind}
@@ -26,6 +27,7 @@ use Rattle.sig_package_laws.specs.PackageTypes.{TypesDiffer}
 use Rattle.sig_package_laws.proofs.NormConv.{norm_abs-conv, same_abs-conv}
 use Rattle.sig_package_laws.proofs.SamePackage.{same_package}
 
+-- signatures that match each other and are rooted alike have convertible package types
 pub one_type : {ctx : List Kind} {x y n m : Abs} → Explicit ctx x → Explicit ctx y → IsSubAbs ctx x y → IsSubAbs ctx y x → SameAbs ctx ctx x y → Norm ctx x n → Norm ctx y m → Conv ctx (enc_abs n) (enc_abs m) Kind.Star
 one_type {ctx} {m = m} v w a b same hx hy =
     let c = form-conv_abs (conv_abs-gives (explicit-kinds v)) in

@@ -1,4 +1,5 @@
 -- Matching both ways pairs the hidden types of two signatures.
+-- Main results: placed_abs.
 use Rattle.std.specs.Prelude.{ℕ, zero, ◌<◌, ◌≤◌, List, ◌≡◌, ◌⊎◌, length}
 use mathlib.Core.Logic.{inl, inr}
 use Rattle.std.proofs.Common.{arith}
@@ -135,6 +136,7 @@ pub placed_sig : {ctx other : List Kind} {t r : Sig} (f : ℕ → Ty) (m : ℕ �
 placed_sig {ctx} {other} {t} {r} f m c h n k g = form_sig-unique g
     (conv-form_sig (subst (ConvSig other (substitute_sig f t)) (substitute-vars_sig m t) (conv_sig-substitute f (λ i. Ty.Var (m i)) c k)) (normal_sig-form other (rename_sig m t) (normal_sig-rename m h t n)))
 
+-- the normal form of a signature under a substitution convertible to a renaming is the renamed signature
 pub placed_abs : {ctx other : List Kind} {x y : Abs} (f : ℕ → Ty) (m : ℕ → ℕ) → Convertible ctx other f (λ n. Ty.Var (m n)) → Maps ctx other m → NormalAbs ctx x → ConvAbs ctx x x → NormalAbsForm other (substitute_abs f x) y → y ≡ rename_abs m x
 placed_abs {ctx} {other} {x} {y} f m c h n k g = form_abs-unique g
     (conv-form_abs (subst (ConvAbs other (substitute_abs f x)) (substitute-vars_abs m x) (conv_abs-substitute f (λ i. Ty.Var (m i)) c k)) (normal_abs-form other (rename_abs m x) (normal_abs-rename m h x n)))

@@ -1,4 +1,5 @@
 -- Signatures whose hidden types are rooted at the same paths: the other way round, renamed, and their functors' parameters.
+-- Main results: same-aligned.
 use Rattle.std.specs.Prelude.{ℕ, zero, suc, ◌<◌, ◌≤◌, List, ◌≡◌, ◌≢◌, length}
 use Rattle.std.proofs.Common.{arith}
 use Rattle.std.proofs.Math.Path.{refl, sym, subst}
@@ -36,12 +37,14 @@ mutual
 
 -- own variables are rooted at the same paths in a renamed signature
 
+-- a renaming from outside that can be undone keeps what is rooted at a path
 pub own-renamed : (ctx other ks : List Kind) {s : Sig} (r q : ℕ → ℕ) → Undone ctx other r q → (i : ℕ) (p : SigPath) → i < length ks → Rooted (extend ctx ks) s (own ks i) p → Rooted (extend other ks) (rename_sig (lifts ks r) s) (own ks i) p
 own-renamed ctx other ks {s} r q u i p lt x = subst (λ n. Rooted (extend other ks) (rename_sig (lifts ks r) s) n p) (lifts-below ks r (own ks i) (own-below ks i lt)) (rooted-renamed (lifts ks r) (undone-lifts ks u).there x)
 
 pub own-renamed_back : (ctx other ks : List Kind) {s : Sig} (r q : ℕ → ℕ) → Undone ctx other r q → (i : ℕ) (p : SigPath) → i < length ks → Rooted (extend other ks) (rename_sig (lifts ks r) s) (own ks i) p → Rooted (extend ctx ks) s (own ks i) p
 own-renamed_back ctx other ks {s} r q u i p lt x = subst (λ z. Rooted (extend ctx ks) z (own ks i) p) (undone-sig (undone-lifts ks u) s) (own-renamed other ctx ks q r (turned u) i p lt x)
 
+-- a field found after a renaming comes from one before it
 pub field-renamed : (r : ℕ → ℕ) (fs : SigRow) {l : Name} {t : Sig} → HasField (rename_sig_row r fs) l t → (s : Sig) × HasField fs l s × (t ≡ rename_sig r s)
 field-renamed r SigRow.End h = elim h [ ]
 field-renamed r (SigRow.More m s rest) here = (s, here, refl)
@@ -82,6 +85,7 @@ mixed-aligned Pure Pure h = absurd (h refl)
 mixed-aligned Pure Impure h = Aligned.a_right
 mixed-aligned Impure d h = Aligned.a_left
 
+-- well formed signatures that are rooted alike are aligned
 pub same-aligned : {ctx other : List Kind} {s t : Sig} → SameSig ctx other s t → WellFormed ctx s → WellFormed other t → Aligned ctx other s t
 same-aligned EachSig.val w v = Aligned.a_val
 same-aligned EachSig.typ w v = Aligned.a_typ

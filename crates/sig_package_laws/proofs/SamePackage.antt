@@ -1,4 +1,5 @@
 -- Signatures that match each other and have the same rooted paths have one norm.
+-- Main results: rename-field.
 use Rattle.std.specs.Prelude.{ℕ, ◌<◌, List, [], ◌∷◌, ◌≡◌, ◌≢◌, ◌⊎◌, length}
 use mathlib.Core.Logic.{inl, inr}
 use Rattle.std.proofs.Common.{arith}
@@ -238,6 +239,7 @@ str-fields (Sub.str p) h = field-sub p h
 
 -- fields
 
+-- the field of a name, after a renaming in all fields
 pub rename-field : (r : ℕ → ℕ) {fs : SigRow} {l : Name} {s : Sig} → HasField fs l s → HasField (rename_sig_row r fs) l (rename_sig r s)
 rename-field r here = here
 rename-field r (there n h) = there n (rename-field r h)

@@ -1,4 +1,5 @@
 -- What premises determine: it exists, and there is only one.
+-- Main results: lift-one, packed-one.
 use Rattle.std.specs.Prelude.{ℕ, List, ◌≡◌}
 use Rattle.std.proofs.Math.Path.{refl, sym, subst}
 use Rattle.omega_kinds.specs.Kind.{Kind}
@@ -37,6 +38,7 @@ form_abs-one {ctx} {x} c = (normal_abs ctx x, conv_abs-gives c, λ m f. form_abs
 pub normal-conv_sig : (ctx : List Kind) (s : Sig) → NormalSig ctx s → ConvSig ctx s s
 normal-conv_sig ctx s n = form-conv_sig (normal_sig-form ctx s n)
 
+-- a normal signature is convertible to itself
 pub normal-conv_abs : (ctx : List Kind) (x : Abs) → NormalAbs ctx x → ConvAbs ctx x x
 normal-conv_abs ctx x n = form-conv_abs (normal_abs-form ctx x n)
 
@@ -59,6 +61,7 @@ lifted-conv ctx ks s (Abs.Ex bs r) n w =
     let c = conv_sig-substitute (lifting ks bs) (lifting ks bs) (substitutes-convertible (lifting_kinds ctx ks bs)) (normal-conv_sig (extend (extend ctx ks) bs) r w) in
     AlikeAbs.ex (AlikeSig.fun (normal-conv_sig C (rename_sig (lifts ks (past bs)) s) m) (AlikeAbs.ex c))
 
+-- a normal parameter and a normal result have exactly one lifted signature
 pub lift-one : (ctx ks : List Kind) (s : Sig) (y : Abs) → NormalAbs ctx (Abs.Ex ks s) → NormalAbs (extend ctx ks) y → One (Lift ctx ks s y)
 lift-one ctx ks s y n w = let f = form_abs-one (lifted-conv ctx ks s y n w) in (f.0, Lift.lift f.1, λ z l. f.2 z (lift-form l))
 
@@ -69,10 +72,12 @@ packed-pure (Packed.pure p) = p
 packed-impure : {ctx : List Kind} {x : Abs} {ts : List Ty} {e c : Term} → Packed ctx (made Impure x ts e) c → c ≡ e
 packed-impure Packed.impure = refl
 
+-- a module of normal types has exactly one packed term
 pub packed-kinded : (ctx : List Kind) (M : Module) → KindedModule ctx M → One (Packed ctx M)
 packed-kinded ctx (made Pure (Abs.Ex ks s) ts e) h = let p = packs-one e (enc s) (forms-kinds h.1) (distinct_abs-normal (Abs.Ex ks s) h.0.0 h.0.1) in (p.0, Packed.pure p.1, λ c q. p.2 c (packed-pure q))
 packed-kinded ctx (made Impure (Abs.Ex ks s) ts e) h = (e, subst (λ us. Packed ctx (made Impure (Abs.Ex ks s) us e) e) (sym h.1) Packed.impure, λ c q. packed-impure q)
 
+-- a good module has exactly one packed term
 pub packed-one : (ctx : List Kind) (M : Module) → OkModule ctx M → One (Packed ctx M)
 packed-one ctx M h = packed-kinded ctx M (kinded ctx M h)
 

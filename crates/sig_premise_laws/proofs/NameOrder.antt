@@ -1,4 +1,5 @@
 -- Names put in their order: they rise, those that rise already stay as they are, and all stay bound.
+-- Main results: in_order-rise, in_order-same.
 use Rattle.std.specs.Prelude.{List, [], ◌∷◌, ◌≡◌, ◌⊎◌, Bool, true, false, cond, IsTrue}
 use Rattle.std.proofs.Math.Path.{refl, sym, ap, ◌∙◌, subst}
 use Rattle.std.proofs.Math.Logic.{inl, inr}
@@ -16,6 +17,7 @@ pick : {A : Type 0} {x y : A} (P : A → Type 0) (b : Bool) → (b ≡ true → 
 pick P true f g = f refl
 pick P false f g = g refl
 
+-- a name before another one that is before names is before these names
 pub before-more : (l m : Name) (names : List Name) → IsTrue (name_before l m) → BeforeNames m names → BeforeNames l names
 before-more l m [] h i = tt
 before-more l m (n ∷ ns) h i = (name-transitive l m n h i.0, before-more l m ns h i.1)
@@ -34,6 +36,7 @@ rise-with_name l (m ∷ ms) h = pick NamesRise (same_name l m) (λ e. h) (λ e. 
     later e d (inr (inl q)) = absurd (false≢true (sym d ∙ q))
     later e d (inr (inr q)) = q
 
+-- names put in order rise
 pub in_order-rise : (names : List Name) → NamesRise (in_order names)
 in_order-rise [] = tt
 in_order-rise (l ∷ ls) = rise-with_name l (in_order ls) (in_order-rise ls)
@@ -49,10 +52,12 @@ first-put l (m ∷ ms) h =
     differ true f = absurd (name-irreflexive m (subst (λ x. IsTrue (name_before x m)) (f refl) h.0))
     differ false f = refl
 
+-- names that rise stay as they are when they are put in order
 pub in_order-same : (names : List Name) → NamesRise names → in_order names ≡ names
 in_order-same [] h = refl
 in_order-same (l ∷ ls) h = ap (with_name l) (in_order-same ls h.1) ∙ first-put l ls h.0
 
+-- names that are found are so when they are put in order
 pub bound-in_order : (g : Env) (names : List Name) → Bound g names → Bound g (in_order names)
 bound-in_order g [] b = tt
 bound-in_order g (l ∷ ls) b = bound-with g l (in_order ls) b.0 (bound-in_order g ls b.1)

@@ -1,4 +1,5 @@
 -- Instances of terms, packs and what is made of them exist and are determined.
+-- Main results: packs-one.
 use Rattle.omega_types.proofs.BinderPuts.{forms-kinds, vars-kinds, rename-ex_over, normal-ex_over}
 use Rattle.std.specs.Prelude.{ℕ, List, [], ◌∷◌, ◌≡◌}
 use Rattle.std.proofs.Math.Path.{refl, sym, subst, ap, ◌∙◌}
@@ -61,6 +62,7 @@ forms-view-more (NormalForms.next {n = n} {ns = ns} f fs) = (n, ns, f, fs, refl)
 forms-view-none : {ctx : List Kind} {ts : List Ty} → NormalForms ctx [] [] ts → ts ≡ []
 forms-view-none NormalForms.none = refl
 
+-- types have at most one list of normal forms
 pub forms-unique : {ctx : List Kind} {ts ns : List Ty} {ks : List Kind} → NormalForms ctx ts ks ns → (ms : List Ty) → NormalForms ctx ts ks ms → ms ≡ ns
 forms-unique {ctx} NormalForms.none ms g = forms-view-none g
 forms-unique {ctx} (NormalForms.next {n = n} {k = k} f fs) ms g =
@@ -84,6 +86,7 @@ packs-total {ctx} e (OfKinds.next {t = t} {ts = ts} {k = k} {ks = ks} h hs) v w 
     let r = packs-total e hs u (normal-kind n.0) in
     (Term.Pack t r.0 (Ty.Ex k (ex_over ks v)), Packs.next n r.1)
 
+-- types of the right kinds are packed into a term in exactly one way
 pub packs-one : {ctx : List Kind} {ts : List Ty} {ks : List Kind} (e : Term) (v : Ty) → OfKinds ctx ts ks → Normal ctx (ex_over ks v) Kind.Star → One (λ d. Packs ctx ts e (ex_over ks v) d)
 packs-one e v h n = let p = packs-total e h v (normal-kind n) in (p.0, p.1, λ c q. sym (packs-same p.1 q))
 

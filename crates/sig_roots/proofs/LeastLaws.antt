@@ -1,4 +1,5 @@
 -- The least free index at or above a number is found.
+-- Main results: open-none, none-open, least-closed_sig.
 use Rattle.std.specs.Prelude.{ℕ, suc, ◌+◌, ◌-◌, ◌<◌, ◌≤◌, ◌≡◌, ◌⊎◌, min, length, List, Option, Some, None, nat_le, true, false, Bool as Truth}
 use Rattle.std.proofs.Common.{arith}
 use Rattle.std.proofs.lemmas.Bool.Decides.{nat_tests}
@@ -107,6 +108,7 @@ mutual
       put x (inl m) = m_part m
       put x (inr m) = m_rest m
 
+-- an index past binders from a number on is the index from this number, past them
 pub past-from : (ks : List Kind) (from x : ℕ) → length ks + from + x ≡ past ks (from + x)
 past-from ks from x = let e = past-length ks (from + x) in omega (arith, e)
 
@@ -133,10 +135,12 @@ mutual
 
 -- a type is barred exactly where it or a later one has the property
 
+-- a variable that is open by the least mention has no mention at or below it
 pub open-none : (P : ℕ → Type 0) (own : ℕ) (bar : Option ℕ) → IsLeast P bar → is_open own bar ≡ true → NoneUpTo own P
 open-none P own None h e = λ x le p. h x p
 open-none P own (Some m) h e = let lt : own < m = grind (arith, nat_tests) in λ x le p. h.1 x (omega (arith, le, lt)) p
 
+-- a variable with no mention at or below it is open by the least mention
 pub none-open : (P : ℕ → Type 0) (own : ℕ) (bar : Option ℕ) → IsLeast P bar → NoneUpTo own P → is_open own bar ≡ true
 none-open P own None h n = refl
 none-open P own (Some m) h n = go (is_open own (Some m)) refl
@@ -147,6 +151,7 @@ none-open P own (Some m) h n = go (is_open own (Some m)) refl
 
 -- nothing is mentioned from the bound on
 
+-- a signature mentions nothing at or above its bound
 pub least-closed_sig : (s : Sig) (from : ℕ) → bound_sig s ≤ from → None ≡ least_sig from s
 least-closed_sig s from le = go (least_sig from s) (least-sig from s)
   where
@@ -154,6 +159,7 @@ least-closed_sig s from le = go (least_sig from s) (least-sig from s)
     go None h = refl
     go (Some m) h = absurd (let lt = sig_mention-below (from + m) s h.0 in omega (arith, lt, le))
 
+-- nor does one that hides types
 pub least-closed_abs : (x : Abs) (from : ℕ) → bound_abs x ≤ from → None ≡ least_abs from x
 least-closed_abs x from le = go (least_abs from x) (least-abs from x)
   where

@@ -1,4 +1,5 @@
 -- Lists of paths that are found, one part of the walk after the other.
+-- Main results: merged-twice, find-put, walk-after, start-get.
 use Rattle.std.specs.Prelude.{ℕ, zero, suc, ◌-◌, ◌<◌, ◌≡◌, List, [], ◌∷◌, ◌++◌, length, map, reverse, Option, Some, None, nat_eq, true, false, Bool as Truth, slice_get}
 use Rattle.std.proofs.Common.{arith, set, get_or, append_assoc}
 use Rattle.std.proofs.lemmas.Bool.Decides.{nat_tests}
@@ -24,14 +25,17 @@ pub merged-none : (f : ℕ → Option SigPath) (xs : Found) → ((own : ℕ) →
 merged-none f [] h = refl
 merged-none f (o ∷ xs) h = ap₂ ◌∷◌ (ap (or_else o) (h zero) ∙ or_else-none o) (merged-none (λ own. f (suc own)) xs (λ own. h (suc own)))
 
+-- paths merged by functions that agree are the same
 pub merged-same : (f g : ℕ → Option SigPath) (xs : Found) → ((own : ℕ) → f own ≡ g own) → merged f xs ≡ merged g xs
 merged-same f g [] h = refl
 merged-same f g (o ∷ xs) h = ap₂ ◌∷◌ (ap (or_else o) (h zero)) (merged-same (λ own. f (suc own)) (λ own. g (suc own)) xs (λ own. h (suc own)))
 
+-- paths merged twice have, of each variable, what was found before, else first, else second
 pub merged-twice : (f g : ℕ → Option SigPath) (xs : Found) → merged g (merged f xs) ≡ merged (λ own. or_else (f own) (g own)) xs
 merged-twice f g [] = refl
 merged-twice f g (o ∷ xs) = ap₂ ◌∷◌ (or_else-assoc o (f zero) (g zero)) (merged-twice (λ own. f (suc own)) (λ own. g (suc own)) xs)
 
+-- merging keeps how many variables there are
 pub length-merged : (f : ℕ → Option SigPath) (xs : Found) → length (merged f xs) ≡ length xs
 length-merged f [] = refl
 length-merged f (o ∷ xs) = ap suc (length-merged (λ own. f (suc own)) xs)
@@ -71,12 +75,14 @@ append-end : (steps : SigPath) → steps ++ [] ≡ steps
 append-end [] = refl
 append-end (a ∷ steps) = ap (◌∷◌ a) (append-end steps)
 
+-- a path that is put in for a variable without one is merged
 pub find-put : (steps : SigPath) (xs : Found) (own : ℕ) → slice_get xs own ≡ Some None → set xs own (Some steps) ≡ merged (λ other. behind steps (ends (Some own) other)) xs
 find-put steps xs own e =
     merged-put (λ other. behind steps (ends (Some own) other)) xs own steps e
     (ap (behind steps) (ends-same own) ∙ ap Some (append-end steps))
     (λ other n. behind-none steps (ends (Some own) other) (ends-other own other n))
 
+-- a variable that has a path keeps it, as if merged
 pub find-kept : (steps : SigPath) (xs : Found) (own : ℕ) → (slice_get xs own ≡ Some None → ⊥) → xs ≡ merged (λ other. behind steps (ends (Some own) other)) xs
 find-kept steps xs own n =
     sym (merged-kept (λ other. behind steps (ends (Some own) other)) xs own n (λ other m. behind-none steps (ends (Some own) other) (ends-other own other m)))
@@ -105,9 +111,11 @@ barred-after bar own a o = go (is_open own bar) refl
     go true e = rw e refl
     go false e = rw e refl
 
+-- a path found behind one more step, where it is not barred, is behind the steps with this one
 pub walk-after : (steps : SigPath) (a : Item) (bar : Option ℕ) (own : ℕ) (o : Option SigPath) → behind (steps ++ a ∷ []) (unless_barred bar own o) ≡ behind steps (unless_barred bar own (after a o))
 walk-after steps a bar own o = sym (ap (behind steps) (barred-after bar own a o) ∙ behind-after steps a (unless_barred bar own o))
 
+-- what is found here or there behind the same steps, where it is not barred
 pub walk-either : (steps : SigPath) (bar : Option ℕ) (own : ℕ) (a b : Option SigPath) → or_else (behind steps (unless_barred bar own a)) (behind steps (unless_barred bar own b)) ≡ behind steps (unless_barred bar own (or_else a b))
 walk-either steps bar own a b = sym (ap (behind steps) (barred-either bar own a b) ∙ behind-either steps (unless_barred bar own a) (unless_barred bar own b))
 
@@ -123,11 +131,13 @@ walk-none steps bar xs = sym (merged-none (λ own. behind steps (unless_barred b
 
 -- what is found in the end
 
+-- what is found of a variable when the walk begins with no paths
 pub start-get : {A : Type 0} (f : ℕ → Option SigPath) (ks : List A) (own : ℕ) (o : Option SigPath) → slice_get (merged f (map (λ k. None) ks)) own ≡ Some o → (own < length ks) × (f own ≡ o)
 start-get f [] own o e = absurd (cc)
 start-get f (k ∷ ks) zero o e = (omega arith, cc)
 start-get f (k ∷ ks) (suc own) o e = let q = start-get (λ own. f (suc own)) ks own o e in (omega (arith, q.0), q.1)
 
+-- what stands at a number in the reversed list is what stands at the place counted from the end
 pub reversed-get : (xs : Found) (number : ℕ) (o : Option SigPath) → slice_get (reverse xs) number ≡ Some o → (number < length xs) × (slice_get xs (length xs - suc number) ≡ Some o)
 reversed-get xs number o e =
     let l = length-reverse xs in

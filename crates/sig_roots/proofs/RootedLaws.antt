@@ -1,4 +1,5 @@
 -- A normal type is found to be a variable, applied to the variables of some binders, exactly where it is its eta-long form.
+-- Main results: rooted-is, rooted-found.
 use Rattle.std.specs.Prelude.{ℕ, zero, suc, ◌+◌, ◌-◌, ◌<◌, ◌≡◌, ◌∷◌, [], List, Option, Some, None}
 use Rattle.std.proofs.Common.{arith}
 use Rattle.std.proofs.lemmas.Bool.Decides.{nat_tests}
@@ -143,17 +144,21 @@ rooted-long {c} {k} count own h =
 
 -- the two together
 
+-- a normal type that is found to be a variable applied to those of binders is the eta-long form of it
 pub rooted-is : {c : List Kind} {k : Kind} (count own : ℕ) (t : Ty) → Normal c t k → rooted count t ≡ Some own → t ≡ normal c (spread (count + own) zero count)
 rooted-is {c} {k} count own t n e = sym (normal_of_normal c t k n) ∙ same-normal (rooted-conv count own t e (normal-kind n))
 
+-- the eta-long form of a variable, applied to those of binders, is found to be it
 pub rooted-found : {c : List Kind} {j : Kind} (count own : ℕ) (t : Ty) → HasKind c (spread (count + own) zero count) j → t ≡ normal c (spread (count + own) zero count) → rooted count t ≡ Some own
 rooted-found count own t h e = ap (rooted count) e ∙ rooted-long count own h
 
 -- the steps of the code
 
+-- an operator is applied to one more variable where its body is looked at
 pub lam-step : (t b : Ty) (k : Kind) (more count : ℕ) → t ≡ Ty.Lam k b → more ≡ count + 1 → rooted more b ≡ rooted count t
 lam-step t b k more count e g = ap (λ n. rooted n b) (g ∙ omega arith) ∙ sym (ap (rooted count) e)
 
+-- an application to the next variable is looked at in its operator
 pub apply-step : (t f a : Ty) (next left index : ℕ) (found : Option ℕ) → t ≡ Ty.Apply f a → 0 < left → found ≡ rooted zero a → found ≡ Some index → index ≡ next → spine (next + 1) (left - 1) f ≡ spine next left t
 apply-step t f a next zero index found e lt h g i = absurd (omega (arith, lt))
 apply-step t f a next (suc left) index found e lt h g i =

@@ -1,4 +1,5 @@
 -- What the walk finds for a hidden type is what the search for it finds.
+-- Main results: seek-root, spread-past.
 use Rattle.std.specs.Prelude.{ℕ, zero, ◌+◌, ◌<◌, ◌≡◌, List, [], ◌∷◌, length, Option, Some, None, nat_eq, true, false, Bool as Truth}
 use Rattle.std.proofs.Common.{arith}
 use Rattle.std.proofs.lemmas.Bool.Decides.{nat_tests}
@@ -76,6 +77,7 @@ barred-none bar own = go (is_open own bar) refl
 
 -- below a functor's variables
 
+-- a variable applied to those of more binders, in one row, is its application to those of the first, applied further
 pub spread-past : (ks : List Kind) (own depth : ℕ) → spread (length ks + depth + own) zero (length ks + depth) ≡ applied ks (spread (depth + own) zero depth)
 spread-past ks own depth = ap (λ i. spread i zero (length ks + depth)) (omega arith) ∙ sym (spread-applied ks (depth + own) depth)
 
@@ -166,6 +168,7 @@ seek-least ctx ks s number h n lt =
     plus : (x : ℕ) → zero + x ≡ x
     plus x = omega arith
 
+-- what the walk seeks for a hidden type is its least root path, or that it has none
 pub seek-root : (ctx ks : List Kind) (s : Sig) (number : ℕ) → WellFormed (extend ctx ks) s → NormalSig (extend ctx ks) s → number < length ks → IsRoot ctx ks s number (seek (own ks number) zero s)
 seek-root ctx ks s number h n lt = go (seek (own ks number) zero s) (sym (seek-least ctx ks s number h n lt))
   where

@@ -1,4 +1,5 @@
 -- The steps of the walk: what is found at each form of signature.
+-- Main results: roots-found, fields-step, result-step.
 use Rattle.std.specs.Prelude.{ℕ, suc, ◌+◌, ◌-◌, ◌<◌, ◌≤◌, ◌≡◌, List, [], ◌∷◌, ◌++◌, length, map, reverse, take, drop, Option, Some, None, nat_eq, true, false, Bool as Truth, slice_get}
 use Rattle.std.proofs.Common.{arith, get_or, drop-cons}
 use Rattle.std.proofs.lemmas.Bool.Decides.{nat_tests}
@@ -62,6 +63,7 @@ fields-gone steps inner bar depth xs i x before now whole lt ex ei h w =
 
 -- a type
 
+-- at a type that is a barred variable the walk finds nothing
 pub type-barred : (steps : SigPath) (bar : Option ℕ) (found : Option ℕ) (own : ℕ) (before now : Found) → found ≡ Some own → is_open own bar ≡ false → now ≡ before → now ≡ gone steps bar (λ other. ends found other) before
 type-barred steps bar found own before now e o h =
     h ∙ (walk-none steps bar before ∙ (gone-same-none ∙ ap (λ f. gone steps bar (λ other. ends f other) before) (sym e)))
@@ -76,6 +78,7 @@ type-barred steps bar found own before now e o h =
     gone-same-none : gone steps bar (λ other. None) before ≡ gone steps bar (λ other. ends (Some own) other) before
     gone-same-none = merged-same (λ other. behind steps (unless_barred bar other None)) (λ other. behind steps (unless_barred bar other (ends (Some own) other))) before (λ other. ap (behind steps) (each other (nat_eq own other) refl))
 
+-- at a type that is no variable of the binders the walk finds nothing
 pub type-none : (steps : SigPath) (bar : Option ℕ) (found : Option ℕ) (before now : Found) → found ≡ None → now ≡ before → now ≡ gone steps bar (λ other. ends found other) before
 type-none steps bar found before now e h = h ∙ (walk-none steps bar before ∙ ap (λ f. gone steps bar (λ other. ends f other) before) (sym e))
 
@@ -95,6 +98,7 @@ pushed steps before step a e i = ap (map item_of) e ∙ (map-append item_of step
 
 -- the steps of the code
 
+-- the walk goes through one more field, and what it will have found at the end stays the same
 pub fields-step : (start steps entered left now : List CodeItem) (step : CodeItem) (bar : Option ℕ) (depth : ℕ) (xs : SigPairs) (i : ℕ) (x : Name × Sig) (before found whole : Found)
     → steps ≡ start → entered ≡ steps ++ step ∷ [] → item_of step ≡ Item.Part x.0 → left ≡ entered → now ≡ take (length left - 1) left
     → i < length xs → x ≡ get_or xs i x
@@ -105,12 +109,14 @@ fields-step start steps entered left now step bar depth xs i x before found whol
     let inner : entered ≡ start ++ step ∷ [] = en ∙ ap (λ p. p ++ step ∷ []) es in
     (popped start left now step (el ∙ inner) er, fields-gone (map item_of start) (map item_of entered) bar depth xs i x before found whole lt ex (pushed start entered step (Item.Part x.0) inner ei) h w)
 
+-- when all fields are walked through, the walk has found what there is in the structure
 pub fields-end : (steps : SigPath) (bar : Option ℕ) (depth : ℕ) (xs fields : SigPairs) (i : ℕ) (before found : Found) → length xs ≤ i → xs ≡ fields
     → gone steps bar (λ own. seek_row own depth (sig_row (drop i xs))) found ≡ gone steps bar (λ own. seek_row own depth (sig_row xs)) before
     → found ≡ gone steps bar (λ own. seek_row own depth (sig_row fields)) before
 fields-end steps bar depth xs fields i before found le e h =
     walk-none steps bar found ∙ (sym (at_drop_all (λ ys. gone steps bar (λ own. seek_row own depth (sig_row ys)) found) xs i le) ∙ (h ∙ ap (λ ys. gone steps bar (λ own. seek_row own depth (sig_row ys)) before) e))
 
+-- the walk through a functor's result finds what there is behind it
 pub result-step : (start entered left now : List CodeItem) (step : CodeItem) (bar : Option ℕ) (depth : ℕ) (x : Abs) (body : Sig) (before found : Found)
     → entered ≡ start ++ step ∷ [] → item_of step ≡ Item.Res → left ≡ entered → now ≡ take (length left - 1) left → body ≡ body_of x
     → found ≡ gone (map item_of entered) bar (λ own. seek own depth body) before
@@ -124,9 +130,11 @@ behind-start : (o : Option SigPath) → behind [] o ≡ o
 behind-start None = refl
 behind-start (Some p) = refl
 
+-- as many paths are kept as there are hidden types
 pub found-length : (f : ℕ → Option SigPath) (ks : List Kind) (found : Found) → found ≡ merged f (map (λ k. None) ks) → length found ≡ length ks
 found-length f ks found e = ap length e ∙ (length-merged f (map (λ k. None) ks) ∙ length-map ks (λ k. None))
 
+-- what the walk has found of a signature that hides types are the least root paths of these
 pub roots-found : (x : Abs) (body : Sig) (found : Found) → body ≡ body_of x → found ≡ gone [] None (λ own. seek own 0 body) (map (λ k. None) (kinds_of x))
     → (ctx : List Kind) → WellFormedAbs ctx x → NormalAbs ctx x → AreRoots ctx x (reverse found)
 roots-found (Abs.Ex ks s) body found eb e ctx (WellFormedAbs.abs h) n = each
@@ -142,6 +150,7 @@ roots-found (Abs.Ex ks s) body found eb e ctx (WellFormedAbs.abs h) n = each
         let is : seek (own_of ks number) 0 s ≡ o = ap (seek (own_of ks number) 0) (sym eb) ∙ (sym (behind-start (seek (own_of ks number) 0 body)) ∙ p.1) in
         subst (IsRoot ctx ks s number) is (seek-root ctx ks s number h n lt)
 
+-- what the walk has found is, of each hidden type, what is sought in the body
 pub roots-value : (x : Abs) (body : Sig) (found : Found) → body ≡ body_of x → found ≡ gone [] None (λ own. seek own 0 body) (map (λ k. None) (kinds_of x)) → found ≡ merged (λ own. seek own 0 (body_of x)) (map (λ k. None) (kinds_of x))
 roots-value x body found eb e =
     e ∙ (merged-same (λ own. behind [] (unless_barred None own (seek own 0 body))) (λ own. seek own 0 body) (map (λ k. None) (kinds_of x)) (λ own. behind-start (seek own 0 body)) ∙ ap (λ s. merged (λ own. seek own 0 s) (map (λ k. None) (kinds_of x))) eb)

@@ -1,4 +1,5 @@
 -- The end of a structure in a good environment is good, and names in their order stay so.
+-- Main results: collected-ok.
 use Rattle.std.specs.Prelude.{List, [], ◌∷◌, ◌≡◌, ◌⊎◌, Bool, true, false, cond, Some, IsTrue}
 use Rattle.std.proofs.Math.Path.{refl, sym, ap, ◌∙◌}
 use Rattle.std.proofs.Math.Logic.{inl, inr}
@@ -40,6 +41,7 @@ before-with : (m l : Name) (names : List Name) → IsTrue (name_before m l) → 
 before-with m l [] h i = (h, tt)
 before-with m l (n ∷ ns) h i = pick (BeforeNames m) (same_name l n) (λ e. i) (λ e. pick (BeforeNames m) (name_before l n) (λ d. (h, i)) (λ d. (i.0, before-with m l ns h i.1)))
 
+-- names that rise do so with one more name put in its place
 pub rise-with_name : (l : Name) (names : List Name) → NamesRise names → NamesRise (with_name l names)
 rise-with_name l [] h = (tt, tt)
 rise-with_name l (m ∷ ms) h = pick NamesRise (same_name l m) (λ e. h) (λ e. pick NamesRise (name_before l m) (λ d. ((d, before-more l m ms d h.0), h)) (λ d. (before-with m l ms (later e d (total_order (Label.Name l) (Label.Name m))) h.0, rise-with_name l ms h.1)))
@@ -79,5 +81,6 @@ ended {g} h r (Collected.next {l = l} {s = s} {e = e} p c) =
     let q = ended h r.1 c in
     record { rising = (all-later l r.0 c, q.rising); formed = WellFormedRow.more w.0 q.formed; normal = (w.1, q.normal); terms = Instances.more (found-normal g l h p) q.terms }
 
+-- what is collected for rising names in a good environment is a good structure
 pub collected-ok : {g : Env} {names : List Name} {fs : SigRow} {es : TermRow} → OkEnv g → NamesRise names → Collected g names fs es → OkModule (kinds g) (made Pure (Abs.Ex [] (Sig.Str fs)) [] (Term.Fields es))
 collected-ok h r c = let q = ended h r c in ((abs (WellFormed.str q.rising q.formed), q.normal), NormalForms.none, Instance.fields q.terms)

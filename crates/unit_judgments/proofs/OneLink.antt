@@ -1,4 +1,5 @@
 -- Good modules have one link, which is good.
+-- Main results: link-one.
 use Rattle.std.specs.Prelude.{List, [], ◌∷◌, ◌≡◌}
 use Rattle.std.proofs.Math.Path.{refl, subst, ap, ◌∙◌}
 use Rattle.omega_kinds.specs.declared.effect.Effect.TheVariants.{Pure}
@@ -29,6 +30,7 @@ pub record OneLink (g : Env) (names : List Name) (ms : List Named) : Type 0 wher
   pub only : (m : Module) → LinkGives g names ms m → m ≡ whole
   pub ok : OkModule (kinds g) whole
 
+-- a link of a module and others is this module in a row with the link of the others
 pub link-view : {g : Env} {names : List Name} {x : Name} {M whole : Module} {ms : List Named} → LinkGives g names ((x, M) ∷ ms) whole → (rest : Module) × LinkGives (with_interface g x (sig_in M)) (with_name x names) ms rest × Seq (kinds g) M rest whole
 link-view (LinkGives.next {rest = rest} l q) = (rest, l, q)
 
@@ -63,9 +65,11 @@ one-next g names x (made f (Abs.Ex ks s) ts e) ms w r =
       ok = seq-ok (kinds g) ks f s ts e w rest q.1;
     }
 
+-- the names of modules are found and rise with one more interface
 pub names-under : (g : Env) (names : List Name) (x : Name) (M : Module) → Names g names → Names (with_interface g x (sig_in M)) (with_name x names)
 names-under g names x (made f (Abs.Ex ks s) ts e) n = (bound-bind g ks x s names n.0, rise-with_name x names n.1)
 
+-- good modules have exactly one link, which is good
 pub link-one : (ms : List Named) (g : Env) (names : List Name) → OkEnv g → Names g names → GoodNamed g ms → OneLink g names ms
 link-one [] g names h n w = one-end g names h n
 link-one (m ∷ ms) g names h n w = one-next g names m.0 m.1 ms w.0 (link-one ms (with_interface g m.0 (sig_in m.1)) (with_name m.0 names) (interface-ok g m.0 m.1 h w.0) (names-under g names m.0 m.1 n) w.1)

@@ -1,4 +1,5 @@
 -- A sequence of good modules is good, and so is the end of a structure.
+-- Main results: seq-ok.
 use Rattle.std.specs.Prelude.{ℕ, List, [], ◌∷◌, ◌++◌}
 use Rattle.std.proofs.Math.Path.{refl, sym, ◌∙◌, subst}
 use Rattle.omega_kinds.specs.Kind.{Kind}
@@ -120,6 +121,7 @@ joined-ok ctx ks js t h =
     let e = sym (extend-append ks js ctx) in
     (abs (subst (λ c. WellFormed c t) e (abs-body h.0)), subst (λ c. NormalSig c t) e h.1)
 
+-- a good binding before a good rest makes a good module
 pub seq-ok : (ctx ks : List Kind) (f : Effect) (s : Sig) (ts : List Ty) (e : Term) {rest whole : Module} → OkModule ctx (made f (Abs.Ex ks s) ts e) → OkModule (extend ctx ks) rest → Seq ctx (made f (Abs.Ex ks s) ts e) rest whole → OkModule ctx whole
 seq-ok ctx ks f s ts e a b (Seq.both_pure {js = js} {t = t} {n = n} x y i) =
     let w = well_formed-substitute (puts ts Ty.Var) (at-substitutes (forms-kinds a.1)) (abs-body a.0.0) in

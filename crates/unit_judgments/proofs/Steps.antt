@@ -1,4 +1,5 @@
 -- Linking in steps: the units at the front stand in an environment, those at the back are linked.
+-- Main results: front-next, linked-next.
 use Rattle.std.specs.Prelude.{ℕ, List, [], ◌∷◌, ◌++◌, ◌≡◌, map}
 use Rattle.std.proofs.Math.Path.{refl, sym, subst, ap, ◌∙◌}
 use Rattle.omega_kinds.specs.Kind.{Kind}
@@ -26,6 +27,7 @@ pub record LinkedFrom (front back : List UnitModule) (m : Module) : Type 0 where
 
 -- one more unit at the front
 
+-- the interfaces of units with one more are those of the units and its own
 pub interfaces-more : (front : List UnitModule) (u : UnitModule) → map interface_of (front ++ u ∷ []) ≡ map interface_of front ++ interface_of u ∷ []
 interfaces-more [] u = refl
 interfaces-more (w ∷ front) u = ap (λ is. interface_of w ∷ is) (interfaces-more front u)
@@ -34,14 +36,17 @@ names-more : (before : List Name) (front : List UnitModule) (u : UnitModule) →
 names-more before [] u = refl
 names-more before (w ∷ front) u = names-more (with_name (interface_of w).0 before) front u
 
+-- the environment of units with one more has its interface last
 pub env-next : (front : List UnitModule) (u : UnitModule) → env_of (map interface_of (front ++ u ∷ [])) ≡ with_interface (env_of (map interface_of front)) (interface_of u).0 (sig_in (what_of u))
 env-next front (UnitUnder under x m) = ap env_of (interfaces-more front (UnitUnder under x m)) ∙ env-more (map interface_of front) x (sig_in m)
 
+-- the names of units with one more have its name among them
 pub names-next : (front : List UnitModule) (u : UnitModule) → names_after [] (front ++ u ∷ []) ≡ with_name (interface_of u).0 (names_after [] front)
 names-next front u = names-more [] front u
 
 -- the environment and the names of the units at the front are good
 
+-- no units make a good environment
 pub front-start : OkEnv (env_of []) × Names (env_of []) (names_after [] [])
 front-start = (tt, (tt, tt))
 
@@ -49,6 +54,7 @@ front-start = (tt, (tt, tt))
 pub unit-good : (front : List UnitModule) (u : UnitModule) → under_of u ≡ map interface_of front → OkUnit u → OkModule (kinds (env_of (map interface_of front))) (what_of u)
 unit-good front (UnitUnder under x m) e w = subst (λ is. OkModule (kinds (env_of is)) m) e w
 
+-- units that make a good environment do so with a good one that stands under their interfaces
 pub front-next : (front : List UnitModule) (u : UnitModule) → under_of u ≡ map interface_of front → OkUnit u
     → OkEnv (env_of (map interface_of front)) × Names (env_of (map interface_of front)) (names_after [] front)
     → OkEnv (env_of (map interface_of (front ++ u ∷ []))) × Names (env_of (map interface_of (front ++ u ∷ []))) (names_after [] (front ++ u ∷ []))
@@ -73,12 +79,14 @@ linked-end us h c = record {
 under-unit : (g : Env) (x : Name) (M rest : Module) → OkModule (kinds (with_interface g x (sig_in M))) rest → OkModule (extend (kinds g) (hidden_in M)) rest
 under-unit g x (made f (Abs.Ex ks s) ts e) rest w = module-under g ks rest w
 
+-- what is linked behind a unit is a good rest under its interface
 pub rest-good : {back : List UnitModule} {rest : Module} (front : List UnitModule) (u : UnitModule) → LinkedFrom (front ++ u ∷ []) back rest → OkModule (extend (kinds (env_of (map interface_of front))) (hidden_in (what_of u))) rest
 rest-good {rest = rest} front u h = under-unit (env_of (map interface_of front)) (interface_of u).0 (what_of u) rest (subst (λ g. OkModule (kinds g) rest) (env-next front u) h.ok)
 
 sequence-ok : (ctx : List Kind) (M rest whole : Module) → OkModule ctx M → OkModule (extend ctx (hidden_in M)) rest → Seq ctx M rest whole → OkModule ctx whole
 sequence-ok ctx (made f (Abs.Ex ks s) ts e) rest whole a b q = seq-ok ctx ks f s ts e a b q
 
+-- a unit in a row with what is linked behind it is linked behind those before it
 pub linked-next : {rest whole : Module} (front : List UnitModule) (u : UnitModule) (back : List UnitModule) → under_of u ≡ map interface_of front → OkUnit u → LinkedFrom (front ++ u ∷ []) back rest → Seq (kinds (env_of (map interface_of front))) (what_of u) rest whole → LinkedFrom front (u ∷ back) whole
 linked-next {rest} {whole} front (UnitUnder under x m) back e w h q =
     let u = UnitUnder under x m in

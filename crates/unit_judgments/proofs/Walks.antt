@@ -1,4 +1,5 @@
 -- Which unit is foreign, by a walk; linking is exact, and looks at interfaces alone.
+-- Main results: link-is-exact, link-is-good, interfaces-suffice.
 use Rattle.std.specs.Prelude.{ℕ, zero, suc, List, [], ◌∷◌, ◌++◌, ◌≡◌, ◌≢◌, ◌<◌, ◌⊎◌, length, map}
 use Rattle.std.proofs.Common.{inl, inr, arith, append_assoc, append-nil}
 use Rattle.std.proofs.Math.Path.{refl, sym, subst, ap, ◌∙◌}
@@ -20,6 +21,7 @@ abbrev pub Own : List Interface → List UnitModule → Type 0
 Own before [] = Unit {0}
 Own before (u ∷ us) = (under_of u ≡ before) × Own (before ++ interface_of u ∷ []) us
 
+-- good units that stand under the interfaces of those before them are good modules to link
 pub own-good : (us : List UnitModule) (before : List Interface) → OkUnits us → Own before us → GoodNamed (env_of before) (map named us)
 own-good [] before w h = tt
 own-good (UnitUnder under x M ∷ us) before w h =
@@ -56,9 +58,11 @@ walked (w ∷ us) before (suc n) h =
     let r = walked us (before ++ interface_of w ∷ []) n h in
     (w ∷ r.0, r.1, r.2, ap (λ ys. w ∷ ys) r.3, ap suc r.4, λ q. r.5 (q ∙ sym (append_assoc before (interface_of w ∷ []) (map interface_of r.0))))
 
+-- a unit that differs is found by the walk
 pub walk-of : {us : List UnitModule} {n : ℕ} → Differs us n → Walk [] us n
 walk-of {us} (Differs.differs front u back e l d) = subst (Walk [] us) l (walk-at us front back u [] e d)
 
+-- what the walk finds is a unit that differs
 pub differs-of : {us : List UnitModule} {n : ℕ} → Walk [] us n → Differs us n
 differs-of {us} {n} h = let r = walked us [] n h in Differs.differs r.0 r.1 r.2 r.3 r.4 r.5
 
@@ -67,9 +71,11 @@ own-walk [] before n h w = w
 own-walk (u ∷ us) before zero h w = w h.0
 own-walk (u ∷ us) before (suc n) h w = own-walk us (before ++ interface_of u ∷ []) n h.1 w
 
+-- where each unit stands under the interfaces of those before it, none differs
 pub own-same : (us : List UnitModule) → Own [] us → (n : ℕ) → Differs us n → ⊥
 own-same us h n d = own-walk us [] n h (walk-of d)
 
+-- what units link to is the link of their modules
 pub links-gives : {us : List UnitModule} {m : Module} → Links us m → LinkGives [] [] (map named us) m
 links-gives (links d l) = l
 
@@ -78,6 +84,7 @@ links-same (links d l) = d
 
 -- the first unit that differs, or none
 
+-- whether two lists of interfaces are the same is decided
 pub interfaces_dec : (is js : List Interface) → Dec (is ≡ js)
 interfaces_dec = List-discrete interface_dec
   where
@@ -92,6 +99,7 @@ interfaces_dec = List-discrete interface_dec
 abbrev pub FirstWalk : List Interface → List UnitModule → Type 0
 FirstWalk before us = Own before us ⊎ ((n : ℕ) × Walk before us n × ((m : ℕ) → m < n → Walk before us m → ⊥))
 
+-- all units stand under the interfaces of those before them, or there is a first one that does not
 pub first-walk : (us : List UnitModule) (before : List Interface) → FirstWalk before us
 first-walk [] before = inl tt
 first-walk (u ∷ us) before = go (interfaces_dec (under_of u) before) (first-walk us (before ++ interface_of u ∷ []))
@@ -110,6 +118,7 @@ first-walk (u ∷ us) before = go (interfaces_dec (under_of u) before) (first-wa
 first-equal : (n m : ℕ) → (n < m → ⊥) → (m < n → ⊥) → n ≡ m
 first-equal n m f g = omega (arith, f, g)
 
+-- good units have exactly one link, or one first foreign unit
 pub link-is-exact : LinkIsExact
 link-is-exact us w = go (first-walk us [])
   where
@@ -125,6 +134,7 @@ link-is-exact us w = go (first-walk us [])
 
 -- the link is good
 
+-- what good units link to is good
 pub link-is-good : LinkIsGood
 link-is-good us m w k = go (first-walk us [])
   where
@@ -157,6 +167,7 @@ links-replaced front back u v r w m k = go (link-is-exact (front ++ v ∷ back) 
     go (holds n l only never) = (n, l)
     go (refuses n f only never) = absurd (links-same k n (foreign-replaced front back v u n (replaces-sym r) f).0)
 
+-- in the place of a unit another one of its interface links with the same others
 pub interfaces-suffice : InterfacesSuffice
 interfaces-suffice front back u v r a b = record {
   there = links-replaced front back u v r b;
