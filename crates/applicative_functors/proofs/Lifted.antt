@@ -1,4 +1,5 @@
 -- What the code puts together is the lifted signature of the definitions.
+-- Main results: is-lifted, functor-made.
 use Rattle.std.specs.Prelude.{ℕ, zero, suc, ◌+◌, ◌≤◌, List, [], ◌∷◌, ◌≡◌, length, map, take}
 use Rattle.std.proofs.Common.{arith}
 use Rattle.std.proofs.Math.Path.{refl, sym, ap, ap₂, subst, subst₂, ◌∙◌, fun_ext}
@@ -109,6 +110,7 @@ result-form ctx ks bs r target n at =
 
 -- the call that puts them in
 
+-- the body raised past the lifted types, with each hidden type put in as a lifted one applied, as the code has it
 pub put-given : (body raised : Abs) (ks hidden : List Kind) (outer count : List SharedKind) (types put : List Ty) (s : Sig)
     → map kind_tree outer ≡ ks → map kind_tree count ≡ hidden
     → raised ≡ rename_abs (bump (length count) (length outer)) body → types ≡ lifted_vars ks hidden → put ≡ types
@@ -135,6 +137,7 @@ whole ctx ks bs param r target np nb at =
     let put = result-form ctx ks bs r target nb (at C q (forms-normal f)) in
     Lift.lift (AlikeAbs.ex (AlikeSig.fun (normal_sig-form C (rename_sig (lifts ks (past bs)) param) n) (AlikeAbs.ex put)))
 
+-- what the code puts together is the lifted signature of the parameter and the body
 pub is-lifted : (ks hidden js : List Kind) (param target functor : Sig) (body y : Abs)
     → hidden ≡ kinds_of body
     → Put (rename_abs (bump (length hidden) (length ks)) body) (lifted_vars ks hidden) target
@@ -159,6 +162,7 @@ is-lifted ks hidden js param target functor (Abs.Ex bs r) y eh at ef ej ey ctx n
 pub witnesses-normal : (ks : List Kind) (types ts : List Ty) → ts ≡ lifted_types ks types → (ctx hidden : List Kind) → NormalForms (extend ctx ks) types hidden types → NormalForms ctx ts (lifted_kinds ks hidden) ts
 witnesses-normal ks types ts e ctx hidden f = subst (λ z. NormalForms ctx z (lifted_kinds ks hidden) z) (sym e) (types-forms (lifted-normal ks (forms-types f)))
 
+-- the lifted types, when all are made, are normal and have the lifted kinds
 pub witnesses-end : (ks : List Kind) (types ts : List Ty) (i : ℕ) → length types ≤ i → ts ≡ lifted_types ks (take i types) → (ctx hidden : List Kind) → NormalForms (extend ctx ks) types hidden types → NormalForms ctx ts (lifted_kinds ks hidden) ts
 witnesses-end ks types ts i le e = witnesses-normal ks types ts (e ∙ ap (lifted_types ks) (all types i le))
   where
@@ -170,6 +174,7 @@ witnesses-end ks types ts i le e = witnesses-normal ks types ts (e ∙ ap (lifte
 
 -- the functor
 
+-- an applicative functor of a pure body is made of the lifted signature, the lifted types and the function
 pub functor-made : (eff : Effect) (param y z : Abs) (ks : List Kind) (s source : Sig) (ts us types : List Ty) (e result function term : Term) (from : Ty)
     → ks ≡ kinds_of param → s ≡ body_of param → source ≡ body_of param
     → result ≡ one_field Label.App e → from ≡ enc s → function ≡ Term.Lam from result → term ≡ ty_lam_over ks function

@@ -1,4 +1,5 @@
 -- What the loops over kinds have built so far.
+-- Main results: scope-next.
 use Rattle.std.specs.Prelude.{ℕ, zero, suc, ◌+◌, ◌-◌, ◌<◌, ◌≤◌, List, [], ◌∷◌, ◌++◌, ◌≡◌, length, map, take, drop, reverse}
 use Rattle.std.proofs.Common.{get_or, arith, append_assoc}
 use Rattle.std.proofs.Math.Seq.{drop-cons}
@@ -51,6 +52,7 @@ extend-take ctx [] i d lt = absurd (omega (arith, lt))
 extend-take ctx (k ∷ items) zero d lt = refl
 extend-take ctx (k ∷ items) (suc i) d lt = extend-take (kind_tree k ∷ ctx) items i d (omega arith)
 
+-- the scope with one more kind is the context under one more binder
 pub scope-next : (ctx : List Kind) (items scope grown : List SharedKind) (i : ℕ) (kind shared : SharedKind) → i < length items → kind ≡ get_or items i kind → kind_tree shared ≡ kind_tree kind → grown ≡ scope ++ (shared ∷ []) → scope_of scope ≡ extend ctx (map kind_tree (take i items)) → scope_of grown ≡ extend ctx (map kind_tree (take (i + 1) items))
 scope-next ctx items scope grown i kind shared lt ek es eg e =
     ap scope_of eg ∙ (scope-push scope shared ∙ (ap₂ ◌∷◌ (es ∙ ap kind_tree ek) e ∙ (sym (extend-take ctx items i kind lt) ∙ ap (λ n. extend ctx (map kind_tree (take n items))) (sym (next-index i)))))

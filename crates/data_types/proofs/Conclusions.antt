@@ -1,4 +1,5 @@
 -- From the conditions of a rule to its conclusion, and from one that fails to the refusal.
+-- Main results: mu-given, roll-given, unroll-given.
 use Rattle.std.proofs.Common.{◌≡◌, ◌≢◌, List, ◌∷◌, zero, Option, Some, None, Result, IfErr, IfSome, IsErrAnd, refl, sym, ap, ◌∙◌, subst}
 use Rattle.std.proofs.lemmas.Result.{err_from_is_err_and}
 use Rattle.omega_kinds.specs.Kind.{Kind}
@@ -46,6 +47,7 @@ mu-node (node.Mu b) h = absurd (h b refl)
 mu-node (node.Lam k b) h = tt
 mu-node (node.Apply a b) h = tt
 
+-- a type whose outermost form is another is no recursive type
 pub no-mu : (n : TyNode) (s t : Ty) → ty_of n ≡ s → s ≡ t → ((b : TyHandle) → n ≡ node.Mu b → ⊥) → IsNoMu t
 no-mu n s t p q h = subst IsNoMu (p ∙ q) (mu-node n h)
 
@@ -63,26 +65,34 @@ at-mu {ctx} {t} e q n = subst (λ s. Normal ctx s Kind.Star) q (subst (Normal ct
 
 -- the rules
 
+-- a body of kind * gives the recursive type
 pub mu-given : (t u : Ty) (k j : Kind) → k ≡ Kind.Star → u ≡ Ty.Mu t → j ≡ Kind.Star → MuGives t k u j
 mu-given t u k j e iu ij = rw (e, iu, ij) MuGives.mu
 
+-- a body of another kind is refused
 pub mu-refused : (t : Ty) (k : Kind) (why : DataWhy) → (k ≢ Kind.Star) × (why ≡ KindDiffer k Kind.Star) → MuRefuses t k why
 mu-refused t k why h = rw (h.1) (MuRefuses.body_kind h.0)
 
+-- a rolled value whose type is of another kind than * is refused
 pub roll-kind : (ctx : List Kind) (v t : Ty) (k : Kind) (why : DataWhy) → (k ≢ Kind.Star) × (why ≡ KindDiffer k Kind.Star) → RollRefuses ctx v t k why
 roll-kind ctx v t k why h = rw (h.1) (RollRefuses.target_kind h.0)
 
+-- a value of the unfolded type gives the rolled value
 pub roll-given : (ctx : List Kind) (v t u w b : Ty) (k : Kind) (d x : Term) → k ≡ Kind.Star → t ≡ Ty.Mu b → u ≡ unfolded b → v ≡ u → w ≡ t → x ≡ Term.Roll d t → Normal ctx t k → RollGives ctx v d t k w x
 roll-given ctx v t u w b k d x e q iu iv iw ix n = rw (e, iw, ix, q, iv ∙ iu) (RollGives.roll (unfolds (at-mu e q n)))
 
+-- a rolled value whose type is no recursive one is refused
 pub roll-no_data : (ctx : List Kind) (v t : Ty) (k : Kind) (why : DataWhy) → k ≡ Kind.Star → IsNoMu t × (why ≡ NotData t) → RollRefuses ctx v t k why
 roll-no_data ctx v t k why e h = rw (e, h.1) (RollRefuses.no_data h.0)
 
+-- a value of another type than the unfolded one is refused
 pub roll-differs : (ctx : List Kind) (v t u b : Ty) (k : Kind) (why : DataWhy) → k ≡ Kind.Star → t ≡ Ty.Mu b → u ≡ unfolded b → (v ≢ u) × (why ≡ Differ v u) → Normal ctx t k → RollRefuses ctx v t k why
 roll-differs ctx v t u b k why e q iu h n = rw (e, h.1, q, iu) (RollRefuses.value_type (unfolds (at-mu e q n)) (λ p. h.0 (p ∙ sym iu)))
 
+-- a value of a recursive type gives the unrolled value of the unfolded type
 pub unroll-given : (ctx : List Kind) (t u b : Ty) (d x : Term) → t ≡ Ty.Mu b → u ≡ unfolded b → x ≡ Term.Unroll d → Normal ctx t Kind.Star → UnrollGives ctx t d u x
 unroll-given ctx t u b d x q iu ix n = rw (q, iu, ix) (UnrollGives.unroll (unfolds (at-mu refl q n)))
 
+-- an unrolled value of another type is refused
 pub unroll-no_data : (t : Ty) (why : DataWhy) → IsNoMu t × (why ≡ NotData t) → UnrollRefuses t why
 unroll-no_data t why h = rw (h.1) (UnrollRefuses.no_data h.0)

@@ -1,4 +1,5 @@
 -- The types that a refusal tells are normal in a context of as many type variables as it tells.
+-- Main results: refusals_are_good.
 use Rattle.std.specs.Prelude.{List, [], ◌∷◌, ◌≡◌, Bool, true, false}
 use Rattle.std.proofs.Common.{inl, inr}
 use Rattle.std.proofs.Math.Path.{refl, sym, subst}
@@ -481,5 +482,6 @@ refused-good : {g : Env} {a : Task} {r : Refusal} → OkEnv g → Holds g a → 
 refused-good h k (Refused.here {g = g} {a = a} {r = r} f) = fails-good (steps g a) r (steps-safe g a h k) f
 refused-good h k (Refused.inside {g = g} {h = i} {a = a} {b = b} e d) = let w = enters-good (steps g a) i b (steps-safe g a h k) e in refused-good w.0 w.1 d
 
+-- the types that a program's refusal tells are normal, where as many type variables are in scope as it tells
 pub refusals_are_good : RefusalsAreGood
 refusals_are_good bs r d = refused-good tt tt d

@@ -1,4 +1,5 @@
 -- The theorems, from the one on tasks.
+-- Main results: each-answered, answers-exact, each-program.
 use Rattle.std.specs.Prelude.{[], ◌≡◌, ◌⊎◌}
 use Rattle.std.proofs.Common.{inl, inr}
 use Rattle.std.proofs.Math.Path.{refl, sym, subst, ap, ◌∙◌}
@@ -19,6 +20,7 @@ use Rattle.elab_judgments.specs.Refusals.Steps.{steps}
 use Rattle.sig_premise_laws.proofs.Determined.{packed-one}
 use Rattle.elab_exact.proofs.Answered.{type-one, type_args-one, type_fields-one, exp-one, operands-one, args-one, fields-one, branches-one, sig-one, decl-one, decls-one, mod-one, bind-one, binds-one}
 
+-- each task in a good environment has exactly one outcome or exactly one refusal
 pub each-answered : EachAnswered
 each-answered g (a_type a) h f = type-one g h a
 each-answered g (type_args at t k rest) h f = type_args-one g h at t k rest f
@@ -57,20 +59,25 @@ verdict-total : {A R : Type 0} {P : A → Type 0} {Q : R → Type 0} → Verdict
 verdict-total (holds z p only never) = inl (z, p)
 verdict-total (refuses t q only never) = inr (t, q)
 
+-- the outcomes of a task are equal
 pub outcomes-equal : OutcomesEqual
 outcomes-equal g a h f o p u v = verdict-det (each-answered g a h f) o p u v
 
+-- an outcome and a refusal of a task exclude each other
 pub exclusive : Exclusive
 exclusive g a h f o r u v = verdict-excl (each-answered g a h f) o r u v
 
+-- the refusals of a task are equal
 pub refusals-equal : RefusalsEqual
 refusals-equal g a h f r q u v = verdict-one (each-answered g a h f) r q u v
 
+-- each task has an outcome or a refusal
 pub total : Total
 total g a h f = verdict-total (each-answered g a h f)
 
 -- what a program answers
 
+-- an answer that follows the rules is what is meant or refused, unless memory runs out
 pub answers-exact : AnswersExact
 answers-exact g a h f (Ok o) u = ((λ p v. inl (ap Ok (outcomes-equal g a h f o p u v))), (λ r v. absurd (exclusive g a h f o r u v)))
 answers-exact g a h f (Err r) u = ((λ o v. absurd (exclusive g a h f o r v u)), (λ q v. inl (ap Err (refusals-equal g a h f r q u v))))
@@ -81,6 +88,7 @@ answers-exact g a h f Mem u = ((λ o v. inr refl), (λ r v. inr refl))
 program-view : {bs : Binds} {m : Module} {e : Term} → ProgramMeans bs m e → BindsMean [] [] bs m × Packed [] m e
 program-view (ProgramMeans.program p q) = (p, q)
 
+-- each program has exactly one meaning or exactly one refusal
 pub each-program : EachProgram
 each-program bs = go (binds-one [] tt [] (tt, tt) bs)
   where

@@ -1,4 +1,5 @@
 -- The derivation of a subtyping of functors.
+-- Main results: functor_coercion.
 use Rattle.std.specs.Prelude.{[], ◌∷◌}
 use Rattle.std.proofs.Math.Path.{refl}
 use Rattle.omega_kinds.specs.Kind.{Kind}
@@ -78,5 +79,6 @@ smaller-good = record { normal = ((var0, tt), (var0, (var1, (n_neutral (n_var (t
 larger-good : Good (Kind.Star ∷ []) larger
 larger-good = record { normal = ((var1, (var0, (var1, tt))), (var0, (var1, (var3, tt)))); shape = (((differ refl, (differ refl, tt)), tt, ((differ refl, tt), tt, (tt, tt, tt))), result-shape (Ty.Var 0) (Ty.Var 1) (Ty.Var 3), tt) }
 
+-- a generative functor is a subtype of one with a larger parameter, and its coercion is typed
 pub functor_coercion : FunctorCoercion
 functor_coercion = (_, derived, typed-sound (sub-typed smaller-good larger-good derived))

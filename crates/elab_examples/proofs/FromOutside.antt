@@ -1,4 +1,5 @@
 -- The derivations of a projection and a sequence under a type variable from outside.
+-- Main results: outside_project, outside_seq.
 use Rattle.std.specs.Prelude.{List, [], ◌∷◌}
 use Rattle.std.proofs.Math.Path.{refl}
 use Rattle.omega_kinds.specs.Kind.{Kind}
@@ -45,11 +46,13 @@ value_good = record { normal = n_arrow var0 var1; shape = tt }
 typed_whole : {s : Sig} {vs : List Ty} {e : Term} → GoodModule (Kind.Star ∷ []) vs (made Impure (Abs.Ex (Kind.Star ∷ []) s) [] e) → HasType (Kind.Star ∷ []) vs e (enc_abs (Abs.Ex (Kind.Star ∷ []) s))
 typed_whole g = typed-sound (packed-typed g Packed.impure)
 
+-- the field of an impure module under a type variable from outside
 pub outside_project : OutsideProject
 outside_project = (_, project_derived, typed_whole (project-typed (hiding_typed field_good) project_derived))
 
 seq_derived : Seq (Kind.Star ∷ []) (made Impure hiding_value [] (Term.Var 0)) (made Pure (Abs.Ex [] (Sig.Str (SigRow.More x (Sig.Val (Ty.Arrow (Ty.Var 0) (Ty.Var 1))) SigRow.End))) [] (Term.Fields (TermRow.More (Label.Name x) (Term.Var 0) TermRow.End))) (made Impure hiding_field [] (opens (Kind.Star ∷ []) (Term.Var 0) (enc_abs hiding_value) (again hiding_field (Term.Fields (TermRow.More (Label.Name x) (Term.Var 0) TermRow.End)))))
 seq_derived = Seq.some_impure refl Packed.impure (Packed.pure Packs.none) (Packs.next (its-form (n_fields (n_more tt (value-normal (n_arrow var0 var1)) n_end))) Packs.none)
 
+-- a structure of one impure value under a type variable from outside
 pub outside_seq : OutsideSeq
 outside_seq = (_, seq_derived, typed_whole (seq-typed (n_ex (value-normal (n_arrow var0 var1)), tt) (hiding_typed value_good) (plain-module field_good (Typed.fields (TypedFields.more (Typed.var At.here) tt TypedFields.end))) seq_derived))

@@ -1,4 +1,5 @@
 -- The identity is put in for the lifted type, and the whole program.
+-- Main results: functor_program.
 use Rattle.std.specs.Prelude.{ℕ, List, [], ◌∷◌}
 use Rattle.std.proofs.Math.Path.{refl, sym, subst}
 use Rattle.omega_kinds.specs.Kind.{Kind}
@@ -134,5 +135,6 @@ whole-normal = n_fields (n_more (labels-differ refl, (labels-differ refl, tt)) (
 program-means-whole : ProgramMeans applicative (made Pure applicative_sig (identity ∷ []) applicative_term) (Term.Pack identity applicative_term (enc_abs applicative_sig))
 program-means-whole = ProgramMeans.program program-means (Packed.pure (Packs.next (normal-gives (kind-substitute (single identity) (single-substitutes identity-kind) (normal-kind whole-normal))) Packs.none))
 
+-- the program with an applicative functor means the module stated, with the identity for the lifted type
 pub functor_program : FunctorProgram
 functor_program = (_, program-means-whole, whole_is_typed applicative Pure applicative_sig _ _ _ program-means-whole)

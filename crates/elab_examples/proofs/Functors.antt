@@ -1,4 +1,5 @@
 -- The derivation of a program with an applicative functor.
+-- Main results: functor_means, application_means, generative_means.
 use Rattle.std.specs.Prelude.{List, [], ◌∷◌}
 use Rattle.std.proofs.Math.Path.{refl}
 use Rattle.omega_kinds.specs.Kind.{Kind}
@@ -48,6 +49,7 @@ star = Kind.Star ∷ []
 abbrev pub operators : List Kind
 operators = operator ∷ []
 
+-- a structure of one normal type is its own normal form
 pub type-form : {ctx : List Kind} {a : Ty} → (l : Name) → Normal ctx a Kind.Star → NormalSigForm ctx (one_type l a) (one_type l a)
 type-form l h = AlikeSig.str (AlikeRow.more (AlikeSig.typ (its-form h)) AlikeRow.end)
 
@@ -73,6 +75,7 @@ param_means g = SigMeans.sig_decls (DeclsMean.next_decl (DeclMeans.decl_of Abstr
 target_means : (g : Env) → SigMeans g target (Abs.Ex star (one_type t (Ty.Var 0)))
 target_means g = SigMeans.sig_decls (DeclsMean.next_decl (DeclMeans.decl_of AbstractGives.abstract) (tt, tt) DeclsMean.no_decls DeclarationsGive.declarations)
 
+-- the structure that has u as Int means the pure module of this type
 pub int_struct_means : ModMeans [] int_struct (made Pure (Abs.Ex [] (one_type u Ty.Int)) [] (one_type_term u Ty.Int))
 int_struct_means =
     ModMeans.mod_struct
@@ -96,6 +99,7 @@ inner_means =
 pub coercion-instance : {ctx : List Kind} {a : Ty} (l : Name) → Normal ctx a Kind.Star → Instance ctx ctx Ty.Var (coercion l a) (coercion l a)
 coercion-instance l h = Instance.lam (type-self (one-normal l h)) (Instance.fields (Instances.more (part-instance (shown-normal h)) Instances.end))
 
+-- the rest after the sealed structure is its own instance at the identity
 pub sealing-instance : Instance star star Ty.Var sealing_rest sealing_rest
 sealing-instance = Instance.call (Instance.lam (type-self (one-normal t var0)) pair-instance) (Instance.call (coercion-instance t var0) Instance.var)
 
@@ -115,6 +119,7 @@ body_means =
 lift-form : Lift [] star (one_type u (Ty.Var 0)) (Abs.Ex star (one_type t (Ty.Var 0))) (Abs.Ex operators functor_sig)
 lift-form = Lift.lift (AlikeAbs.ex (AlikeSig.fun (type-form u var0) (AlikeAbs.ex (type-form t (n_neutral (n_apply (n_var (there here)) var0))))))
 
+-- the applicative functor means a module that hides one type constructor, whose type is the identity
 pub functor_means : ModMeans (Entry.Named A (one_type u Ty.Int) ∷ []) functor (made Pure (Abs.Ex operators functor_sig) (identity ∷ []) functor_term)
 functor_means = ModMeans.mod_applicative (param_means (Entry.Named A (one_type u Ty.Int) ∷ [])) body_means (PureFunctorGives.pure_functor lift-form)
 
@@ -122,6 +127,7 @@ functor_means = ModMeans.mod_applicative (param_means (Entry.Named A (one_type u
 abbrev pub after_functor : Env
 after_functor = Entry.Named F functor_sig ∷ Entry.TypeVar operator ∷ Entry.Named A (one_type u Ty.Int) ∷ []
 
+-- the hidden type constructor at Int is normal
 pub at_int : Normal operators (Ty.Apply (Ty.Var 0) Ty.Int) Kind.Star
 at_int = lifted-normal n_int
 
@@ -131,15 +137,18 @@ under_param = n_neutral (n_apply (n_var (there here)) var0)
 functor-form : NormalSigForm operators functor_sig functor_sig
 functor-form = AlikeSig.fun (type-form u var0) (AlikeAbs.ex (type-form t under_param))
 
+-- the encoding of the functor's signature is normal
 pub functor-normal : Normal operators (enc functor_sig) Kind.Star
 functor-normal = n_all (n_arrow (one-normal u var0) (n_fields (n_more tt (one-normal t under_param) n_end)))
 
+-- the term of the application is its own instance at the identity
 pub apply-instance : {ctx : List Kind} → Instance ctx ctx Ty.Var apply_term apply_term
 apply-instance = Instance.get (Instance.call (Instance.inst Instance.var (type-self n_int)) (Instance.call (coercion-instance u n_int) Instance.var))
 
 after-arg : Instance operators operators Ty.Var (let_in (enc (one_type t (Ty.Apply (Ty.Var 0) Ty.Int))) apply_term triple) (let_in (enc (one_type t (Ty.Apply (Ty.Var 0) Ty.Int))) apply_term triple)
 after-arg = Instance.call (Instance.lam (type-self (one-normal t at_int)) triple-instance) apply-instance
 
+-- the application of the functor means the structure whose t is the hidden type constructor at Int
 pub application_means : ModMeans after_functor application (made Pure (Abs.Ex [] (one_type t (Ty.Apply (Ty.Var 0) Ty.Int))) [] (application_term functor_sig (Ty.Apply (Ty.Var 0) Ty.Int)))
 application_means =
     ModMeans.mod_project
@@ -157,6 +166,7 @@ application_means =
     (Instance.call (Instance.lam (type-self (one-normal u n_int)) after-arg) Instance.var))))
     (Projected.pure HasField.here)
 
+-- the generative functor packs its hidden type anew at each application
 pub generative_means : GenerativeMeans
 generative_means = (_, means, module_is_typed (Entry.Named A (one_type u Ty.Int) ∷ []) generative_functor Pure (Abs.Ex [] generative_sig) [] _ _ ((WellFormed.str (tt, tt) (WellFormedRow.more (WellFormed.typ k_int) WellFormedRow.end)), tt) ((n_int, tt), tt) means (Packed.pure Packs.none))
   where

@@ -1,4 +1,5 @@
 -- The derivations of an include and of two refinements.
+-- Main results: include_means, fixing_t, fixing_u.
 use Rattle.std.specs.Prelude.{ℕ, List, [], ◌∷◌}
 use Rattle.std.proofs.Math.Path.{refl}
 use Rattle.omega_kinds.specs.Kind.{Kind}
@@ -80,12 +81,15 @@ include_derived =
     (Seq.both_pure (AlikeSig.typ (its-form var1)) NormalForms.none record-instance))
     (IncludeModule.include (Seq.some_impure refl Packed.impure (Packed.pure Packs.none) packing)))
 
+-- the structure that includes an unpacked module means the impure module stated
 pub include_means : IncludeMeans
 include_means = (_, include_derived, typed_here include_derived)
 
+-- the signature with t fixed to Int hides only u
 pub fixing_t : FixingT
 fixing_t = Refined.refined [] (Kind.Star ∷ []) refl (PartAt.field HasField.here PartAt.end) (three-form n_int var0 n_int)
 
+-- the signature with u fixed to a type variable from outside hides only t
 pub fixing_u : FixingU
 fixing_u = Refined.refined (Kind.Star ∷ []) [] refl (PartAt.field (HasField.there (differ refl) HasField.here) PartAt.end) (three-form var0 var1 var0)
 
@@ -97,5 +101,6 @@ project_derived =
     ModMeans.mod_project unpacked_means
     (Projected.impure (HasField.there (differ refl) (HasField.there (differ refl) HasField.here)) (Packs.next (its-form (n_ex (value-normal (n_neutral (n_var (there (there here))))))) (Packs.next (its-form (value-normal var1)) Packs.none)))
 
+-- the projection of x from an impure module with two hidden types
 pub project_means : ProjectMeans
 project_means = (_, project_derived, typed_here project_derived)

@@ -1,4 +1,5 @@
 -- The order of the quantifiers of two signatures with the same fields.
+-- Main results: order-t-u, order-u-t.
 use Rattle.std.specs.Prelude.{ℕ, zero, suc, List, [], ◌∷◌, ◌≡◌, ◌≢◌, ◌<◌, IsTrue}
 use Rattle.std.proofs.Common.{arith}
 use Rattle.std.proofs.Math.Path.{refl, sym, subst}
@@ -28,12 +29,14 @@ fields_of a b = SigRow.More t (Sig.Typ (Ty.Var a) Kind.Star) (SigRow.More u (Sig
 pub no-params-at-end : {s q : Sig} {ds ks : List Kind} → ParamOn s [] ds ks q → ⊥
 no-params-at-end p = elim p [ ]
 
+-- a path of one name goes through no functor's parameter
 pub no-params : {fs : SigRow} {l : Name} {q : Sig} {ds ks : List Kind} → ParamOn (Sig.Str fs) (Item.Part l ∷ []) ds ks q → ⊥
 no-params (ParamOn.field h p) = no-params-at-end p
 
 params : (ctx : List Kind) (fs : SigRow) (l : Name) (i : ℕ) → ParamsAvoid ctx (Sig.Str fs) (Item.Part l ∷ []) i
 params ctx fs l i ds ks q p = absurd (no-params p)
 
+-- an empty structure has no field
 pub no-field-of-end : {l : Name} {s : Sig} → HasField SigRow.End l s → ⊥
 no-field-of-end h = elim h [ ]
 
@@ -98,8 +101,10 @@ none-left zero h a b = b refl
 none-left (suc zero) h a b = a refl
 none-left (suc (suc m)) h a b = omega (arith, h)
 
+-- the order of the signature that declares t first is as declared
 pub order-t-u : (ctx : List Kind) → NewOrder ctx two (Sig.Str (fields_of 1 0)) (0 ∷ 1 ∷ [])
 order-t-u ctx = order-of ctx 0 1 (omega arith) (omega arith) (λ e. omega (arith, e)) none-left (there here) here
 
+-- the order of the signature that declares u first has t, its second type, first
 pub order-u-t : (ctx : List Kind) → NewOrder ctx two (Sig.Str (fields_of 0 1)) (1 ∷ 0 ∷ [])
 order-u-t ctx = order-of ctx 1 0 (omega arith) (omega arith) (λ e. omega (arith, e)) (λ m h a b. none-left m h b a) here (there here)

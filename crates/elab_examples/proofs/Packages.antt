@@ -1,4 +1,5 @@
 -- The derivation of a program with a package.
+-- Main results: packages_program, t_first_norm.
 use Rattle.std.specs.Prelude.{ℕ, pos, List, [], ◌∷◌}
 use Rattle.std.proofs.Math.Path.{refl}
 use Rattle.omega_kinds.specs.Kind.{Kind}
@@ -42,6 +43,7 @@ use Rattle.omega_types.proofs.BinderPuts.{its-form}
 use Rattle.omega_terms.proofs.InstanceLaws.{type-self}
 use Rattle.elab_examples.proofs.Parts.{differ, labels-differ, own-path, var0, var1, shown-normal, value-normal, three-form, three, pair-instance, triple-instance, part-instance}
 
+-- the signature that declares t first means the one that hides t first
 pub t_first_means : (g : Env) → SigMeans g t_first (Abs.Ex two (Sig.Str (fields_of 1 0)))
 t_first_means g =
     SigMeans.sig_decls
@@ -65,12 +67,14 @@ u_first_means g =
 norm-row : {ctx : List Kind} {a b : ℕ} → NormSig ctx (Sig.Str (fields_of a b)) (Sig.Str (fields_of a b))
 norm-row = NormSig.str (NormRow.more NormSig.typ (NormRow.more NormSig.typ (NormRow.more NormSig.val NormRow.end)))
 
+-- its norm is the signature itself
 pub t_first_norm : (ctx : List Kind) → Norm ctx (Abs.Ex two (Sig.Str (fields_of 1 0))) (Abs.Ex two hiding)
 t_first_norm ctx = Norm.ex norm-row (order-t-u ctx)
 
 pub u_first_norm : (ctx : List Kind) → Norm ctx (Abs.Ex two (Sig.Str (fields_of 0 1))) (Abs.Ex two hiding)
 u_first_norm ctx = Norm.ex norm-row (order-u-t ctx)
 
+-- the package type of the example is normal
 pub package_type-normal : {ctx : List Kind} → Normal ctx package_type Kind.Star
 package_type-normal = n_ex (n_ex (three var1 var0 var1))
 
@@ -173,5 +177,6 @@ packages_means =
     (Seq.some_impure refl (Packed.pure Packs.none) Packed.impure Packs.none))
     Packed.impure
 
+-- the program with a package means the impure module stated, whose term has the signature's encoding as its type
 pub packages_program : PackagesProgram
 packages_program = (packages_means, whole_is_typed packages Impure packages_sig [] packages_term packages_term packages_means)

@@ -1,4 +1,5 @@
 -- The derivations of refusals: a hidden type where a number is needed, and three matches of a sealing.
+-- Main results: hidden_sum_refused, unmatched_refused, missing_refused, other_type_refused.
 use Rattle.std.specs.Prelude.{List, [], ◌∷◌, ◌≡◌, ◌≢◌, true, IsTrue}
 use Rattle.std.proofs.Math.Path.{refl}
 use Rattle.std.proofs.Common.{arith, inl, inr}
@@ -43,6 +44,7 @@ use Rattle.omega_types.proofs.BinderPuts.{its-form}
 var-not-int : Ty.Var 0 ≢ Ty.Int
 var-not-int p = cc
 
+-- adding to a value of a hidden type is refused: the type differs from Int
 pub hidden_sum_refused : HiddenSumRefused
 hidden_sum_refused =
     Refused.inside (inr (_, BindMeans.bind_module sealed_means, inl (refl, refl)))
@@ -113,6 +115,7 @@ root =
 none-found : (u : Ty) → FoundAt [] nothing (Kind.Star ∷ []) wanted [] u → ⊥
 none-found u (FoundAt.found_at r n f) = not-found refl f
 
+-- the empty structure against a hidden type t is refused: t has no root in it
 pub unmatched_refused : UnmatchedRefused
 unmatched_refused =
     seal-refused (ModMeans.mod_struct (BindsMean.no_binds Collected.none))
@@ -124,6 +127,7 @@ unmatched_refused =
 missing_match : RefusesMatch [] nothing (Abs.Ex [] (Sig.Str (SigRow.More x (Sig.Val Ty.Int) SigRow.End))) (MatchRefusal.Clash 0 (Item.Part x ∷ []) Why.Missing)
 missing_match = RefusesMatch.inside FoundAfter.none refl (AlikeSig.str (AlikeRow.more (AlikeSig.val (its-form n_int)) AlikeRow.end)) (RefusesSub.structures (RefusesFields.missing tt))
 
+-- the empty structure against a value x is refused: x is missing
 pub missing_refused : MissingRefused
 missing_refused =
     seal-refused (ModMeans.mod_struct (BindsMean.no_binds Collected.none))
@@ -142,6 +146,7 @@ type_match =
 bool_shows : {at : Span} → ModShows [] (ModAt at (ModStruct (MoreBinds (BindAt (Bytes 18 30) (BindVal (Spelled x (Bytes 22 23)) (ExpAt (Bytes 26 30) (ExpBool true)))) NoBinds))) Pure (Abs.Ex [] (Sig.Str (SigRow.More x (Sig.Val Ty.Bool) SigRow.End)))
 bool_shows = show-struct (show-next {g = []} tt (tt, tt) (_, _, BindMeans.bind_val (ExpMeans.exp_bool LiteralGives.bool) ValueModule.value) λ ok2 names. show-end (Collected.next refl Collected.none))
 
+-- a truth value x against an integer x is refused: the types clash
 pub other_type_refused : OtherTypeRefused
 other_type_refused =
     seal-refused bool_shows.2

@@ -1,4 +1,5 @@
 -- The derivation of a structure that is sealed by a signature with a hidden type.
+-- Main results: sealing_program.
 use Rattle.std.specs.Prelude.{List, [], ◌∷◌}
 use Rattle.std.proofs.Math.Path.{refl}
 use Rattle.omega_kinds.specs.Kind.{Kind}
@@ -76,6 +77,7 @@ coercion-instance = Instance.lam (type-self R-normal) (Instance.fields (Instance
 rest-instance : let e = Term.Call (Term.Lam R (two_terms h0 (Term.Var 0) h1 (Term.Var 1))) (Term.Call coercion (Term.Var 0)) in Instance [] [] Ty.Var e e
 rest-instance = Instance.call (Instance.lam (type-self R-normal) pair-instance) (Instance.call coercion-instance Instance.var)
 
+-- the sealed structure hides its type, for which it keeps Int
 pub sealed_means : ModMeans [] sealed (made Pure (Abs.Ex (Kind.Star ∷ []) hidden_sig) (Ty.Int ∷ []) sealed_term)
 sealed_means =
     ModMeans.mod_project
@@ -98,5 +100,6 @@ sealing_means =
     (Seq.both_pure (pair-form n_int) NormalForms.none one-instance))
     (Packed.pure (Packs.next (its-form (n_fields (n_more tt R-normal n_end))) Packs.none))
 
+-- the program that seals a structure means what is stated of it
 pub sealing_program : SealingProgram
 sealing_program = (sealing_means, whole_is_typed sealing Pure _ _ _ _ sealing_means)

@@ -1,4 +1,5 @@
 -- The derivations for a functor that is applied twice.
+-- Main results: generative_refused, applicative_shares.
 use Rattle.std.specs.Prelude.{ℕ, List, [], ◌∷◌, ◌≡◌, ◌≢◌, true, false, Some}
 use Rattle.std.proofs.Common.{inl, inr}
 use Rattle.std.proofs.Math.Path.{refl, ap}
@@ -162,6 +163,7 @@ argument_means h p = (_, ExpMeans.exp_path (ModMeans.mod_project (ModMeans.mod_n
 zero-not-one : Ty.Var 0 ≢ Ty.Var 1
 zero-not-one p = cc
 
+-- the results of two applications of a generative functor have different types, so the program is refused
 pub generative_refused : GenerativeRefused
 generative_refused =
     Refused.inside (inr ((A, made Pure (Abs.Ex [] empty) empty_shows.0 empty_shows.1), empty_shows.2, inl (refl, refl)))
@@ -204,6 +206,7 @@ program_shows =
     show-next ok4 names4 value_shows λ ok5 names5.
     show-end (Collected.next refl (Collected.next refl (Collected.next refl (Collected.next refl (Collected.next refl Collected.none)))))
 
+-- two applications of an applicative functor to one structure share their type, so the program means a module
 pub applicative_shares : ApplicativeShares
 applicative_shares =
     let M = made Pure shared_sig program_shows.0 program_shows.1 in

@@ -1,4 +1,5 @@
 -- The derivations of the small programs.
+-- Main results: empty_program, sum_program.
 use Rattle.std.specs.Prelude.{[]}
 use Rattle.std.proofs.Math.Path.{refl}
 use Rattle.omega_kinds.specs.declared.effect.Effect.TheVariants.{Pure}
@@ -25,6 +26,7 @@ use Rattle.elab_examples.specs.Rows.{EmptyProgram, SumProgram, sum, sum_term, x}
 empty_means : ProgramMeans NoBinds (made Pure (Abs.Ex [] (Sig.Str SigRow.End)) [] (Term.Fields TermRow.End)) (Term.Fields TermRow.End)
 empty_means = ProgramMeans.program (BindsMean.no_binds Collected.none) (Packed.pure Packs.none)
 
+-- the empty program means the empty structure
 pub empty_program : EmptyProgram
 empty_program = (empty_means, whole_is_typed NoBinds Pure (Abs.Ex [] (Sig.Str SigRow.End)) [] _ _ empty_means)
 
@@ -37,5 +39,6 @@ sum_means =
     (Seq.both_pure (AlikeSig.val (n_int, c_refl k_int)) NormalForms.none (Instance.fields (Instances.more Instance.var Instances.end))))
     (Packed.pure Packs.none)
 
+-- the program `val x = 1 + 2` means what is stated of it
 pub sum_program : SumProgram
 sum_program = (sum_means, whole_is_typed sum Pure (Abs.Ex [] (Sig.Str (SigRow.More x (Sig.Val Ty.Int) SigRow.End))) [] _ _ sum_means)

@@ -1,4 +1,5 @@
 -- The derivations of a case on a sum, and of a recursive type that is rolled and unrolled.
+-- Main results: case_program, data_program.
 use Rattle.std.specs.Prelude.{List, [], ◌∷◌}
 use Rattle.std.proofs.Math.Path.{refl}
 use Rattle.omega_kinds.specs.Kind.{Kind}
@@ -100,6 +101,7 @@ cases_means =
     (Seq.both_pure (AlikeSig.val (its-form (option-normal n_int))) NormalForms.none (bound-instance n_int four-instance pair-instance)))
     (Packed.pure Packs.none)
 
+-- the program with a case on a sum means the module stated, and its term is typed
 pub case_program : CaseProgram
 case_program = (cases_means, whole_is_typed cases Pure cases_sig [] _ _ cases_means)
 
@@ -154,5 +156,6 @@ numbers_means =
     (Seq.both_pure (AlikeSig.typ (its-form N-normal)) NormalForms.none (bound-instance N-normal zero-instance last-instance)))
     (Packed.pure Packs.none)
 
+-- the program with a recursive type means the module stated, and its term is typed
 pub data_program : DataProgram
 data_program = (numbers_means, whole_is_typed numbers Pure numbers_sig [] _ _ numbers_means)

@@ -1,4 +1,5 @@
 -- Fields put in their order keep their spelling.
+-- Main results: fresh_term_all-insert, with_name-spelled.
 use Rattle.std.specs.Prelude.{◌≡◌, ◌≢◌, ◌⊎◌, List, [], ◌∷◌, true, false, Option, Some, None}
 use Rattle.std.proofs.Math.Path.{refl, sym, ◌∙◌, subst}
 use Rattle.std.proofs.Math.Logic.{inl, inr}
@@ -50,10 +51,12 @@ abbrev pub FreshTermAll : List Name → TermRow → Type 0
 FreshTermAll [] row = Unit {0}
 FreshTermAll (l ∷ ls) row = FreshTerm (Label.Name l) row × FreshTermAll ls row
 
+-- names are fresh for the empty row of terms
 pub fresh_term_all-end : (names : List Name) → FreshTermAll names TermRow.End
 fresh_term_all-end [] = tt
 fresh_term_all-end (l ∷ ls) = (tt, fresh_term_all-end ls)
 
+-- names stay fresh when a field of a new name is inserted
 pub fresh_term_all-insert : (names : List Name) (x : Name) (e : Term) (row : TermRow) → IsNew x names → FreshTermAll names row
     → FreshTermAll names (insert_term (Label.Name x) e row)
 fresh_term_all-insert [] x e row n f = tt
@@ -65,6 +68,7 @@ fresh_term_all-insert (l ∷ ls) x e row n f = (
 
 -- sets of names
 
+-- names that have a spelling do so with one more that has one, put in its place
 pub with_name-spelled : (l : Name) (names : List Name) → NameSpelled l → NamesSpelled names → NamesSpelled (with_name l names)
 with_name-spelled l [] h g = (h, tt)
 with_name-spelled l (m ∷ ms) h g = pick NamesSpelled (same_name l m) (λ e. g)
@@ -143,10 +147,12 @@ abbrev pub Follow : Option Label → List Name → Type 0
 Follow last [] = Unit {0}
 Follow last (l ∷ ls) = follows last (Label.Name l) ≡ true
 
+-- a name that comes before names in order may be followed by them
 pub follow-rise : (l : Name) (names : List Name) → BeforeNames l names → Follow (Some (Label.Name l)) names
 follow-rise l [] h = tt
 follow-rise l (m ∷ ms) h = h.0
 
+-- any names may stand where there is no last label
 pub follow-none : (names : List Name) → Follow None names
 follow-none [] = tt
 follow-none (l ∷ ls) = refl

@@ -1,4 +1,5 @@
 -- Closed types and terms that are not too high have their variables in scope.
+-- Main results: closed-type, closed-term.
 use Rattle.std.specs.Prelude.{◌≡◌, ℕ, suc, ◌+◌, ◌*◌, ◌^◌, ◌<◌, ◌≤◌, List, [], ◌∷◌, length}
 use Rattle.std.proofs.Common.{arith}
 use Rattle.std.proofs.Math.Path.{refl, sym, ◌∙◌, ap}
@@ -119,8 +120,10 @@ mutual
     branches-scope n m p q (omega (arith, h)) (omega (arith, g)) rest,
   )
 
+-- a closed type that is not too high has its variables in scope
 pub closed-type : {t : Ty} {k : Kind} → HasKind [] t k → height t ≤ 2 ^ 64 → TyInScope 0 t
 closed-type h g = ty-scope 0 refl (omega (arith, g)) h
 
+-- a closed typed term that is not too high has its variables in scope
 pub closed-term : {e : Term} {t : Ty} → HasType [] [] e t → term_height e ≤ 2 ^ 63 → TermInScope 0 0 e
 closed-term h g = term-scope 0 0 refl refl (omega (arith, g)) (omega (arith, g)) h

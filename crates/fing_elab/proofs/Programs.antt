@@ -1,4 +1,5 @@
 -- One meaning or one refusal of each program, as the code answers it.
+-- Main results: meaning, typed, refused.
 use Rattle.std.proofs.Common.{◌≡◌, List, [], sym, ap, ◌∙◌}
 use Rattle.omega_kinds.specs.Name.{Name}
 use Rattle.omega_terms.specs.Term.{Term}
@@ -38,6 +39,7 @@ entered P g n b h = rw (g, n, b) at h
 pub good : (bs : Binds) (m : Module) → BindsMean [] [] bs m → KindedModule [] m
 good bs m p = kinded [] m (binds_ok [] [] bs m tt tt p)
 
+-- what the bindings of a program mean, with its packed term, is what the program means
 pub meaning : (bs : Binds) (o : Elaborated) → BindsMean [] [] bs (module_in o) → Packed [] (module_in o) o.whole → Means bs o
 meaning bs o p q = go (each-program bs)
   where
@@ -54,6 +56,7 @@ meaning bs o p q = go (each-program bs)
       unrefused = never;
     }
 
+-- the whole term of a program has the type of its whole signature
 pub typed : (bs : Binds) (o : Elaborated) → BindsMean [] [] bs (module_in o) → Packed [] (module_in o) o.whole → HasType [] [] o.whole (enc_abs o.sig)
 typed bs o p q = whole_is_typed bs o.effect o.sig o.types o.term o.whole (ProgramMeans.program p q)
 
@@ -70,5 +73,6 @@ refusal bs r h = go (each-program bs)
     go (holds x w only never) = absurd (never r h)
     go (refuses s w only never) = record { refused = h; only = λ q k. only q k ∙ sym (only r h); meaningless = λ m whole p. never (m, whole) p }
 
+-- a refusal of the bindings of a program is that of the program
 pub refused : (bs : Binds) (e : CodeRefusal) → RefusedAs [] (binds [] bs) e → Says e (IsRefused bs)
 refused bs e h = says-map e (refusal bs) h.stands

@@ -1,4 +1,5 @@
 -- One meaning or one refusal of each separate unit, as the code answers it.
+-- Main results: unit-meaning, refused-unit, part-is, both-joined.
 use Rattle.std.proofs.Common.{◌≡◌, ◌+◌, List, ◌∷◌, [], IfSome, Option, Some, None, length, drop, map, refl, sym, subst, ◌∙◌}
 use Rattle.omega_kinds.specs.Kind.{Kind}
 use Rattle.omega_kinds.specs.Name.{Name}
@@ -45,6 +46,7 @@ use Rattle.unit_laws.proofs.Composed.{after_body, after_both, body-env, both-nam
 use Rattle.unit_laws.proofs.Sealed.{body-refused, sealing-refused}
 use Rattle.fing_elab.specs.Inner.Units.{MeansUnit, UnitIsRefused}
 
+-- what a unit means in a good environment is what it means as a separate one
 pub unit-meaning : (g : Env) (u : UnitTree) (m : Module) → OkEnv g → UnitMeans g u m → MeansUnit g u m
 unit-meaning g u m h p = go (each-answered g (a_mod (unit_mod u)) h tt)
   where
@@ -59,14 +61,17 @@ unit-refusal g u r h p = go (each-answered g (a_mod (unit_mod u)) h tt)
     go (holds n w only never) = absurd (never r p)
     go (refuses s w only never) = record { refused = p; only = λ q k. only q k ∙ sym (only r p); meaningless = never }
 
+-- a refusal of a unit's module phrase in a good environment is that of the unit
 pub refused-unit : (g : Env) (u : UnitTree) (e : CodeRefusal) → OkEnv g → RefusedAs g (a_mod (unit_mod u)) e → Says e (UnitIsRefused g u)
 refused-unit g u e h p = says-map e (λ r. unit-refusal g u r h) p.stands
 
 -- a refusal of the body, or of the sealing under it, is one of the unit
 
+-- a unit is refused where its body is
 pub in-body : {g : Env} {b : Mod} {e : CodeRefusal} (at : Span) (a : SigEx) → RefusedAs g (a_mod b) e → RefusedAs g (a_mod (sealed at b a)) e
 in-body {e = e} at a h = record { stands = says-map e (λ r. body-refused) h.stands }
 
+-- a unit is refused where its sealing is, in the environment after its body
 pub in-sealing : {g h : Env} {at : Span} {a : SigEx} {e : CodeRefusal} (b : Mod) (M : Module) (x : Name) → h ≡ after_body g M → x ≡ sealing_name → ModMeans g b M → RefusedAs h (a_mod (ModAt at (ModSeal (Spelled x at) a))) e → RefusedAs g (a_mod (sealed at b a)) e
 in-sealing {at = at} {a = a} {e = e} b M x same named p k = record { stands = says-map e (λ r. sealing-refused M p) (rw (same, named) at k).stands }
 
@@ -86,9 +91,11 @@ parts-of {g} {at = at} {a = a} x y M N end fs es good p named inner q found oute
 
 -- the part that is taken is the unit, and it is always there
 
+-- the result that is projected from the structure of a unit's body and sealing is what the unit means
 pub part-is : {g : Env} {at : Span} {a : SigEx} {b : Mod} {M N end m : Module} (y : Name) → y ≡ unit_result → Parts g at a b M N end → ((ctx : List Kind) → Joins ctx M N end (λ whole. Projected ctx whole y m)) → ModMeans g (sealed at b a) m
 part-is {g} {M = M} {N = N} {end = end} {m = m} y named p j = unit-of g p (subst (λ y. Joins (kinds g) M N end (λ whole. Projected (kinds g) whole y m)) named (j (kinds g)))
 
+-- the projection of a unit's result is not refused, except for want of memory
 pub part-found : {g : Env} {at : Span} {a : SigEx} {b : Mod} {M N end : Module} (y : Name) → y ≡ unit_result → Parts g at a b M N end → (e : ModRefusal) → IfSome (plain_why e) (λ why. (ctx : List Kind) → Joins ctx M N end (λ whole. ProjectRefuses whole y why)) → plain_why e ≡ None
 part-found {g} {M = M} {N = N} {end = end} y named p e h = go (plain_why e) h
   where
@@ -108,9 +115,11 @@ memory-only refusal.Mem n h = n refl
 
 -- the environments along the way
 
+-- the environment after a unit's body, as the code makes it
 pub after-body : {g h k : Env} (x : Name) (M : Module) → h ≡ g → x ≡ sealing_name → k ≡ with_interface h x (sig_in M) → k ≡ after_body g M
 after-body x M p q e = e ∙ (λ i. with_interface (p i) (q i) (sig_in M))
 
+-- the environment after a unit's body and sealing, as the code makes it
 pub after-both : {h k : Env} (g : Env) (x : Name) (M N : Module) → h ≡ after_body g M → x ≡ unit_result → k ≡ with_interface h x (sig_in N) → k ≡ after_both g M N
 after-both g x M N p q e = e ∙ (λ i. with_interface (p i) (q i) (sig_in N))
 
@@ -119,9 +128,11 @@ pub left-interface : (g : Env) (x : Name) (a : Abs) (items : List KindHandle) (b
     → map kind_tree items ≡ kinds_of a → before ≡ with_interface g x a → after ≡ drop (length items + 1) before → after ≡ g
 left-interface g x (Abs.Ex ks s) items before after = left-under g items ks x s before after
 
+-- the environment after a unit's body is good
 pub good-body : {g h : Env} (b : Mod) (M : Module) → h ≡ after_body g M → OkEnv g → ModMeans g b M → OkEnv h
 good-body {g} b M e h p = subst OkEnv (sym e) (body-env g b M h p)
 
+-- the hidden names of a unit's sealing and body are found after both, and rise
 pub good-names : {h : Env} (g : Env) (x y : Name) (M N : Module) → h ≡ after_both g M N → x ≡ unit_result → y ≡ sealing_name → Names h (x ∷ y ∷ [])
 good-names g x y M N e p q = rw (e, p, q) (both-names g M N)
 
@@ -136,6 +147,7 @@ under-kinds ctx m R h = subst (λ ks. KindedModule (extend ctx ks) R) (hidden-ki
 sequence-ok : (ctx : List Kind) (M R W : Module) → OkModule ctx M → OkModule (extend ctx (hidden_in M)) R → Seq ctx M R W → OkModule ctx W
 sequence-ok ctx (made f (Abs.Ex ks s) ts e) R W a b q = seq-ok ctx ks f s ts e a b q
 
+-- what holds of the row of a body, a sealing and their end, where it is good, holds of the one that the calls give
 pub both-joined : (first second end rest whole : CodeModule) (P : Module → Type 0) (ctx : List Kind)
     → SeqOf second end rest
     → SeqOf first rest whole

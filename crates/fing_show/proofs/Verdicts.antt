@@ -27,6 +27,7 @@ few-sliced : (bytes : List ℕ) (at : ℕ) (ts : List Token) → at ≤ length b
 few-sliced bytes at [] h s = omega (arith, h)
 few-sliced bytes at (t ∷ ts) h s = omega (arith, s.0, s.1, few-sliced bytes t.span.to ts s.2 s.4)
 
+-- bytes within the limit have few enough tokens
 pub few-tokens : (bytes : List ℕ) (ts : List Token) → length bytes ≤ 1048576 → TokensOf bytes ts → length ts ≤ 1048576
 few-tokens bytes ts h t = omega (arith, h, few-sliced bytes 0 ts (omega arith) (sliced bytes ts t))
 

@@ -1,4 +1,5 @@
 -- Interfaces pushed one after the other.
+-- Main results: kinds-step, kinds-end.
 use Rattle.std.proofs.Common.{◌≡◌, ◌≤◌, ◌<◌, ◌+◌, ℕ, suc, List, ◌∷◌, length, drop, map, get_or, refl, sym, ap, ◌∙◌, add-one, drop-cons}
 use Rattle.std.proofs.lemmas.List.{drop_all}
 use Rattle.omega_kinds.specs.Name.{Name}
@@ -13,6 +14,7 @@ use Rattle.unit_judgments.specs.Interfaces.{Interface, with_interface, with_inte
 pub first-of : {A : Type 0} (n : ℕ) (items : List A) (item : A) → n < length items → item ≡ get_or items n item → drop n items ≡ item ∷ drop (n + 1) items
 first-of n items item h is = rw (add-one, drop-cons items n item h) (ap (λ x. x ∷ drop (suc n) items) (sym is))
 
+-- one more kind of a list is pushed as a type variable, and the whole environment stays the one to come
 pub kinds-step : (before after : Env) (n : ℕ) (items : List KindHandle) (item shared : KindHandle) (whole : Env)
     → n < length items → item ≡ get_or items n item → kind_tree shared ≡ kind_tree item → after ≡ TypeVar (kind_tree shared) ∷ before
     → type_vars before (map kind_tree (drop n items)) ≡ whole
@@ -20,6 +22,7 @@ pub kinds-step : (before after : Env) (n : ℕ) (items : List KindHandle) (item 
 kinds-step before after n items item shared whole h is s e i =
     rw e (rw s (sym (ap (λ xs. type_vars before (map kind_tree xs)) (first-of n items item h is)) ∙ i))
 
+-- when all kinds of a list are pushed, the environment is the whole one
 pub kinds-end : (env : Env) (n : ℕ) (items : List KindHandle) (whole : Env)
     → length items ≤ n
     → type_vars env (map kind_tree (drop n items)) ≡ whole

@@ -1,4 +1,5 @@
 -- Units of the code in their list, and their link from the last one to the first.
+-- Main results: foreign-here, none-differs, linked-start, linked-step.
 use Rattle.std.proofs.Common.{◌≡◌, ◌≢◌, ◌≤◌, ◌<◌, ◌+◌, ℕ, List, [], ◌∷◌, ◌++◌, length, take, drop, map, get_or, refl, sym, ap, subst, ◌∙◌, arith, append_assoc, append-nil}
 use Rattle.std.proofs.lemmas.List.{length-map, map-append, take-append-drop, take_more}
 use Rattle.std.proofs.Math.ListN.{length-take}
@@ -35,14 +36,17 @@ before-length us n h = simp (length-map, length-take) (omega arith)
 
 -- the search for the first unit that differs
 
+-- a unit that stands under the interfaces of those before it does not differ
 pub own-here : (us : List CodeUnit) (n : ℕ) (u : CodeUnit) → n < length us → u ≡ get_or us n u → u.under ≡ map interface_of (units_of (take n us)) → Differs (units_of us) n → ⊥
 own-here us n u h is q d = differs-not (units_of (take n us)) (unit_of u) (units_of (drop (n + 1) us)) (parted us n u h is) q (subst (Differs (units_of us)) (sym (before-length us n h)) d)
 
+-- the first unit that stands under other interfaces is foreign
 pub foreign-here : (us : List CodeUnit) (n : ℕ) (u : CodeUnit) → n < length us → u ≡ get_or us n u → u.under ≢ map interface_of (units_of (take n us)) → ((m : ℕ) → m < n → Differs (units_of us) m → ⊥) → Foreign (units_of us) n
 foreign-here us n u h is d before =
     let l = before-length us n h in
     subst (Foreign (units_of us)) l (foreign-at (units_of (take n us)) (unit_of u) (units_of (drop (n + 1) us)) (parted us n u h is) d (λ m lt. before m (subst (λ k. m < k) l lt)))
 
+-- where none of all units differs, none does
 pub none-differs : (us : List CodeUnit) (n : ℕ) → length us ≤ n → ((m : ℕ) → m < n → Differs (units_of us) m → ⊥) → (m : ℕ) → Differs (units_of us) m → ⊥
 none-differs us n h before m d = let below = differs-below m d in before m (omega (arith, below, length-map us unit_of)) d
 
@@ -51,6 +55,7 @@ none-differs us n h before m d = let below = differs-below m d in before m (omeg
 taken-more : (us : List CodeUnit) (n : ℕ) (u : CodeUnit) → n < length us → u ≡ get_or us n u → units_of (take (n + 1) us) ≡ units_of (take n us) ++ unit_of u ∷ []
 taken-more us n u h is = ap units_of (take_more us n u h ∙ ap (λ v. take n us ++ v ∷ []) (sym is)) ∙ map-append unit_of (take n us) (u ∷ [])
 
+-- one more unit adds its interface to the environment and its name to the names
 pub scope-step : (us : List CodeUnit) (n : ℕ) (u : CodeUnit) (before after : Env) (names more : List Name)
     → n < length us → u ≡ get_or us n u
     → after ≡ with_interface before u.name u.module.sig
@@ -66,15 +71,18 @@ scope-step us n u before after names more h is p q i =
 
 -- linking
 
+-- the types that a module hides are those that its signature hides
 pub hidden-kinds : (f : Effect) (a : Abs) (ts : List Ty) (e : Term) → hidden_in (made f a ts e) ≡ kinds_of a
 hidden-kinds f (Abs.Ex ks s) ts e = refl
 
 abbrev pub LinkedAll : List UnitModule → List CodeUnit → Module → Type 0
 LinkedAll all left m = (back : List UnitModule) × (units_of left ++ back ≡ all) × LinkedFrom (units_of left) back m
 
+-- behind the last unit the link is the structure of all names
 pub linked-start : (us : List CodeUnit) (fs : SigRow) (es : TermRow) (m : Module) → ((n : ℕ) → Differs (units_of us) n → ⊥) → OkUnits (units_of us) → Collected (env_of (map interface_of (units_of us))) (names_after [] (units_of us)) fs es → m ≡ made Pure (Abs.Ex [] (Sig.Str fs)) [] (Term.Fields es) → LinkedAll (units_of us) us m
 linked-start us fs es m h w c e = ([], append-nil (units_of us), subst (LinkedFrom (units_of us) []) (sym e) (linked-end (units_of us) (front-all (units_of us) h w) c))
 
+-- one more unit, in a row with what is linked behind it, is linked
 pub linked-step : (all : List UnitModule) (left rest : List CodeUnit) (u : CodeUnit) (w m : Module)
     → left ≡ rest ++ u ∷ []
     → ((n : ℕ) → Differs all n → ⊥)

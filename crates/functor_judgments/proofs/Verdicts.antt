@@ -1,4 +1,5 @@
 -- An applicative functor has exactly one conclusion.
+-- Main results: one_pure_functor.
 use Rattle.std.specs.Prelude.{List, ◌≡◌}
 use Rattle.std.proofs.Math.Path.{refl, ap, ◌∙◌}
 use Rattle.omega_kinds.specs.Kind.{Kind}
@@ -21,6 +22,7 @@ result ks s ts e z = made Pure z (lifted_types ks ts) (ty_lam_over ks (Term.Lam 
 view : {ctx ks : List Kind} {s : Sig} {y : Abs} {ts : List Ty} {e : Term} {m : Module} → PureFunctorGives ctx ks s (made Pure y ts e) m → (z : Abs) × Lift ctx ks s y z × (m ≡ result ks s ts e z)
 view (PureFunctorGives.pure_functor {z = z} l) = (z, l, refl)
 
+-- the rule of applicative functors has exactly one conclusion
 pub one_pure_functor : OnePureFunctor
 one_pure_functor ctx ks s y ts e n w =
     let l = lift-one ctx ks s y n w in

@@ -1,4 +1,5 @@
 -- Fields of modules, the fields of a finished structure, and sequences exist, and there is only one of each.
+-- Main results: projected-kinded, collected-one, seq-one.
 use Rattle.std.specs.Prelude.{ℕ, zero, suc, List, [], ◌∷◌, ◌++◌, ◌≡◌, map, Some}
 use Rattle.std.proofs.Math.Path.{refl, sym, subst, ap, ◌∙◌}
 use Rattle.omega_kinds.specs.Kind.{Kind}
@@ -56,12 +57,14 @@ projected-view : {ctx ks : List Kind} {f : Effect} {fs : SigRow} {ts : List Ty} 
 projected-view (Projected.pure {s = s} h) = (s, h, refl)
 projected-view (Projected.impure {s = s} {d = d} h p) = (s, d, h, p, refl)
 
+-- a field of a pure structure has exactly one projection
 pub projected-pure : (ctx ks : List Kind) (fs : SigRow) (ts : List Ty) (e : Term) (l : Name) (t : Sig) → HasField fs l t → One (Projected ctx (made Pure (Abs.Ex ks (Sig.Str fs)) ts e) l)
 projected-pure ctx ks fs ts e l t h = (made Pure (Abs.Ex ks t) ts (Term.Get e (Label.Name l)), Projected.pure h, only)
   where
     only : (N : Module) → Projected ctx (made Pure (Abs.Ex ks (Sig.Str fs)) ts e) l N → N ≡ made Pure (Abs.Ex ks t) ts (Term.Get e (Label.Name l))
     only N p = let v = projected-view p in v.2 ∙ ap (λ s. made Pure (Abs.Ex ks s) ts (Term.Get e (Label.Name l))) (one-field v.1 h refl)
 
+-- a field of a structure of normal types has exactly one projection
 pub projected-kinded : (ctx ks : List Kind) (f : Effect) (fs : SigRow) (ts : List Ty) (e : Term) (l : Name) (t : Sig) → KindedAbs ctx (Abs.Ex ks (Sig.Str fs)) → HasField fs l t → One (Projected ctx (made f (Abs.Ex ks (Sig.Str fs)) ts e) l)
 projected-kinded ctx ks Pure fs ts e l t w h = projected-pure ctx ks fs ts e l t h
 projected-kinded ctx ks Impure fs ts e l t w h = (result t p.0, Projected.impure h p.1, only)
@@ -86,6 +89,7 @@ collected-view (Collected.next {s = s} {e = e} {fs = fs} {es = es} f c) = (s, e,
 collected-none : {g : Env} {fs : SigRow} {es : TermRow} → Collected g [] fs es → (fs ≡ SigRow.End) × (es ≡ TermRow.End)
 collected-none Collected.none = (refl, refl)
 
+-- names that are found are collected to exactly one structure
 pub collected-one : (g : Env) (names : List Name) → Bound g names → One (λ (o : SigRow × TermRow). Collected g names o.0 o.1)
 collected-one g [] b = ((SigRow.End, TermRow.End), Collected.none, λ o c. let v = collected-none c in (λ i. (v.0 i, v.1 i)))
 collected-one g (l ∷ names) b = go (collected-one g names b.1)
@@ -173,6 +177,7 @@ seq-impure ctx ks s ts e js t us d f h j view a b = (result p.0 r.0, Seq.some_im
         let z = r.2 v.2 (subst (λ c. Packs (extend ctx ks) (vars ks) (past_opens ks c) (raise ks (enc_abs (Abs.Ex (ks ++ js) t))) v.2) y v.5) in
         v.6 ∙ (λ i. result (x i) (z i))
 
+-- a binding and a rest of normal types make exactly one row
 pub seq-kinded : (ctx ks : List Kind) (f : Effect) (s : Sig) (ts : List Ty) (e : Term) (M : Module) → KindedModule ctx (made f (Abs.Ex ks s) ts e) → KindedModule (extend ctx ks) M → One (Seq ctx (made f (Abs.Ex ks s) ts e) M)
 seq-kinded ctx ks Pure s ts e (made Pure (Abs.Ex js t) us d) a b = seq-pure ctx ks s ts e js t us d a b
 seq-kinded ctx ks Pure s ts e (made Impure (Abs.Ex js t) us d) a b = seq-impure ctx ks s ts e js t us d Pure Impure refl (λ N m. seq-view Pure Impure m) a b
@@ -183,5 +188,6 @@ seq-kinded ctx ks Impure s ts e (made Impure (Abs.Ex js t) us d) a b = seq-impur
 pub projected-one : (ctx ks : List Kind) (f : Effect) (fs : SigRow) (ts : List Ty) (e : Term) (l : Name) (t : Sig) → OkAbs ctx (Abs.Ex ks (Sig.Str fs)) → HasField fs l t → One (Projected ctx (made f (Abs.Ex ks (Sig.Str fs)) ts e) l)
 projected-one ctx ks f fs ts e l t w h = projected-kinded ctx ks f fs ts e l t (shape_abs-distinct (Abs.Ex ks (Sig.Str fs)) (well_formed_abs-shape w.0), w.1) h
 
+-- a good binding and a good rest make exactly one row
 pub seq-one : (ctx ks : List Kind) (f : Effect) (s : Sig) (ts : List Ty) (e : Term) (M : Module) → OkModule ctx (made f (Abs.Ex ks s) ts e) → OkModule (extend ctx ks) M → One (Seq ctx (made f (Abs.Ex ks s) ts e) M)
 seq-one ctx ks f s ts e M a b = seq-kinded ctx ks f s ts e M (kinded ctx (made f (Abs.Ex ks s) ts e) a) (kinded (extend ctx ks) M b)

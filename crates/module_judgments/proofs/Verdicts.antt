@@ -1,4 +1,5 @@
 -- Each rule of modules has exactly one conclusion or exactly one refusal.
+-- Main results: one_projected, one_type_path, one_value_path, one_sig_path, one_apply, one_include.
 use Rattle.std.specs.Prelude.{List, [], ◌≡◌, ◌≢◌, ◌⊎◌, Option, Some, None}
 use Rattle.std.proofs.Common.{inl, inr}
 use Rattle.std.proofs.Math.Path.{refl, sym, subst, ap, ◌∙◌}
@@ -49,6 +50,7 @@ named-refused (NamedRefuses.unbound p) = (p, refl)
 some-none : {A : Type 0} {x : A} → Path (Option A) (Some x) None → ⊥
 some-none e = cc
 
+-- a name is found as exactly one thing, or refused
 pub found-one : (g : Env) (l : Name) → Verdict (λ o. find g l ≡ Some o) (NamedRefuses g l)
 found-one g l = go (find g l) refl
   where
@@ -56,6 +58,7 @@ found-one g l = go (find g l) refl
     go None e = refuses (Unbound l) (NamedRefuses.unbound e) (λ q r. (named-refused r).1) (λ o p. some-none (sym p ∙ e))
     go (Some o) e = holds o e (λ q p. some-same (sym p ∙ e)) (λ why r. some-none (sym e ∙ (named-refused r).0))
 
+-- the rule of names has exactly one conclusion or one refusal
 pub one_named : OneNamed
 one_named g l = go (found-one g l)
   where
@@ -118,10 +121,12 @@ projected-outcome ctx ks f s ts e l part =
     (λ fs i n. subst (λ s. ProjectRefuses (made f (Abs.Ex ks s) ts e) l (NoPart l)) (sym i) (ProjectRefuses.no_part n))
     project-reason
 
+-- so has that of projections
 pub one_projected : OneProjected
 one_projected ctx (made f (Abs.Ex ks s) ts e) l ok =
     projected-outcome ctx ks f s ts e l (λ fs t i h. projected-kinded ctx ks f fs ts e l t (subst (λ s. KindedAbs ctx (Abs.Ex ks s)) i ok.0) h)
 
+-- so has that of projections from pure modules
 pub one_pure_projected : OnePureProjected
 one_pure_projected ctx (Abs.Ex ks s) ts e l = projected-outcome ctx ks Pure s ts e l (λ fs t i h. projected-pure ctx ks fs ts e l t h)
 
@@ -150,6 +155,7 @@ type-reason : {ctx ks : List Kind} {f : Effect} {s : Sig} {ts : List Ty} {e : Te
 type-reason _ (TypePathRefuses.no_type n) = inl ((λ p e. n p.0 p.1 e), refl)
 type-reason _ (TypePathRefuses.escapes {t = t} {k = k} n) = inr ((t, k), refl, n, refl)
 
+-- so has that of paths to types
 pub one_type_path : OneTypePath
 one_type_path ctx (made f (Abs.Ex ks s) ts e) ok =
     path-verdict (λ p n. (n, p.1)) (sig-type s)
@@ -169,6 +175,7 @@ value-reason : {ctx ks : List Kind} {f : Effect} {s : Sig} {ts : List Ty} {e : T
 value-reason _ (ValuePathRefuses.no_value n) = inl (n, refl)
 value-reason _ (ValuePathRefuses.escapes {t = t} n) = inr (t, refl, n, refl)
 
+-- so has that of paths to values
 pub one_value_path : OneValuePath
 one_value_path ctx (made f (Abs.Ex ks s) ts e) ok =
     path-verdict (λ t n. (n, value_of f ks e (enc_abs (Abs.Ex ks (Sig.Val t))))) (sig-value s)
@@ -188,6 +195,7 @@ sig-reason : {ctx ks : List Kind} {f : Effect} {s : Sig} {ts : List Ty} {e : Ter
 sig-reason _ (SigPathRefuses.no_signature n) = inl (n, refl)
 sig-reason _ (SigPathRefuses.escapes {x = x} n) = inr (x, refl, n, refl)
 
+-- so has that of paths to signatures
 pub one_sig_path : OneSigPath
 one_sig_path ctx (made f (Abs.Ex ks s) ts e) ok =
     path-verdict (λ x n. n) (sig-meta s)
@@ -203,6 +211,7 @@ one_sig_path ctx (made f (Abs.Ex ks s) ts e) ok =
 generative-view : {ctx ks : List Kind} {s : Sig} {f : Effect} {y : Abs} {ts : List Ty} {e : Term} {n : Module} → GenerativeGives ctx ks s (made f y ts e) n → (d : Term) × Packed (extend ctx ks) (made f y ts e) d × (n ≡ made Pure (Abs.Ex [] (Sig.Fun Impure ks s y)) [] (ty_lam_over ks (Term.Lam (enc s) (one_field Label.Gen d))))
 generative-view (GenerativeGives.generative {d = d} p) = (d, p, refl)
 
+-- the rule of generative functors has exactly one conclusion
 pub one_generative : OneGenerative
 one_generative ctx ks s (made f y ts e) ok =
     let p = packed-kinded (extend ctx ks) (made f y ts e) ok in
@@ -216,12 +225,14 @@ parts-view (PartsGive.parts {ks = ks} {s = t}) = (ks, t, refl, refl)
 parts-only : {f : Effect} {ks : List Kind} {t : Sig} {y : Abs} (o : Effect × Abs × Abs) → PartsGive (Sig.Fun f ks t y) o.0 o.1 o.2 → o ≡ (f, Abs.Ex ks t, y)
 parts-only _ PartsGive.parts = refl
 
+-- the parameter of a good functor may stand on the right
 pub param-ok : {ctx : List Kind} {s : Sig} {f : Effect} {param result : Abs} → PartsGive s f param result → OkSig ctx s → OkRight ctx param
 param-ok PartsGive.parts w = ((left-functor w.0).0, w.1.0)
 
 functor-refused : {s : Sig} {why : ModWhy} → FunctorRefuses s why → ((f : Effect) (ks : List Kind) (t : Sig) (x : Abs) → s ≢ Sig.Fun f ks t x) × (why ≡ NotFunctor)
 functor-refused (FunctorRefuses.no_functor n) = (n, refl)
 
+-- the rule of a functor's parts has exactly one conclusion or one refusal
 pub one_parts : OneParts
 one_parts s = go (sig-functor s)
   where
@@ -243,6 +254,7 @@ apply-one {f = f} {y = y} {ts = ts} {c = c} {d = d} {e = e} h n =
     let r = result-one y h n.1 in
     (applied f r.0 ts d c e, ApplyGives.apply r.1, λ m g. let v = apply-functor g in v.2 ∙ ap (λ w. applied f w ts d c e) (r.2 v.0 v.1))
 
+-- the rule of applications has exactly one conclusion or one refusal
 pub one_apply : OneApply
 one_apply ctx s d ts c e n fits = go (sig-functor s)
   where
@@ -261,6 +273,7 @@ applies-one PartsGive.parts m w = apply-one (match-kinds m) w.1
 abbrev with_lets : SigRow → Module → Module
 with_lets fs (made f y ts e) = made f y ts (field_lets 0 fs e)
 
+-- structures that are the same have the same fields
 pub str-same : {fs gs : SigRow} → Sig.Str fs ≡ Sig.Str gs → fs ≡ gs
 str-same e = cc
 
@@ -293,6 +306,7 @@ included-structure ks f s ts e = go (sig-structure s)
     go (one fs i only) = holds fs i only (λ why r. (include-refused r).0 fs i)
     go (none n) = refuses NotStructure (IncludeRefuses.no_structure n) (λ why r. (include-refused r).1) n
 
+-- the rule of includes has exactly one conclusion or one refusal
 pub one_include : OneInclude
 one_include ctx ks f s ts e rest ok inner = go (included-structure ks f s ts e)
   where
@@ -307,23 +321,27 @@ one_include ctx ks f s ts e rest ok inner = go (included-structure ks f s ts e)
 seal-only : {e c : Term} {y : Abs} {ts : List Ty} (m : Module) → SealGives e y ts c m → m ≡ made Pure y ts (Term.Call c e)
 seal-only _ SealGives.seal = refl
 
+-- the rule of seals has exactly one conclusion
 pub one_seal : OneSeal
 one_seal e y ts c = (made Pure y ts (Term.Call c e), SealGives.seal, seal-only)
 
 value_module-only : {t : Ty} {e : Term} (m : Module) → ValueGives t e m → m ≡ made Pure (Abs.Ex [] (Sig.Val t)) [] (value_term e)
 value_module-only _ ValueGives.value = refl
 
+-- the rule of value bindings has exactly one conclusion
 pub one_value_module : OneValueModule
 one_value_module t e = (made Pure (Abs.Ex [] (Sig.Val t)) [] (value_term e), ValueGives.value, value_module-only)
 
 type_module-only : {t : Ty} {k : Kind} (m : Module) → TypeGives t k m → m ≡ made Pure (Abs.Ex [] (Sig.Typ t k)) [] (type_term t k)
 type_module-only _ TypeGives.type = refl
 
+-- so has that of type bindings
 pub one_type_module : OneTypeModule
 one_type_module t k = (made Pure (Abs.Ex [] (Sig.Typ t k)) [] (type_term t k), TypeGives.type, type_module-only)
 
 signature_module-only : {x : Abs} (m : Module) → SignatureGives x m → m ≡ made Pure (Abs.Ex [] (Sig.Meta x)) [] (sig_term (enc_abs x))
 signature_module-only _ SignatureGives.signature = refl
 
+-- so has that of signature bindings
 pub one_signature_module : OneSignatureModule
 one_signature_module x = (made Pure (Abs.Ex [] (Sig.Meta x)) [] (sig_term (enc_abs x)), SignatureGives.signature, signature_module-only)

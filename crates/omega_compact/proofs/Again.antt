@@ -1,4 +1,5 @@
 -- The text of the tokens of bytes has these tokens.
+-- Main results: same_tokens, compact_again.
 use Rattle.std.proofs.Common.{◌≡◌, ℕ, ◌+◌, ◌-◌, Bool, true, false, cond, List, [], ◌∷◌, ◌++◌, Option, Some, None, refl, ap, ◌∙◌, append_assoc}
 use Rattle.std.specs.Prelude.{not, ◌==◌, ◌||◌, ◌&&◌}
 use Rattle.omega_compact.specs.Tokens.{Token, Open, Close, Word, Quoted, Unended, Spot, Between, Comment, InWord, InText, Escaped, is_blank, in_word, with_first, from_byte, tokens_from, tokens_of}
@@ -141,6 +142,7 @@ word_on : (bytes rest : List ℕ) → all_in_word bytes → EndsWord rest → to
 word_on [] rest w e = word_ends rest e
 word_on (b ∷ bs) rest w e = let h = w.0 in rw h (ap (with_first b) (word_on bs rest w.1 e))
 
+-- a word is read again as a token where what is behind it ends words
 pub word_again : (bytes rest : List ℕ) → IsWord bytes → EndsWord rest → tokens_from Between (bytes ++ rest) ≡ Word bytes ∷ tokens_from Between rest
 word_again [] rest w e = absurd w
 word_again (b ∷ bs) rest w e = word_begins b (λ spot. tokens_from spot (bs ++ rest)) w.0 ∙ ap (with_first b) (word_on bs rest w.1 e)
@@ -198,9 +200,11 @@ again n left (Unended bytes ∷ ts) f = before_again n left (Unended bytes) ((34
         → tokens_from InText (bytes ++ spelled_from n (Some (Unended bytes)) ts) ≡ Unended bytes ∷ ts
     cut bytes ts e h = rw (h, append_nil bytes) e
 
+-- the compact text of bytes has the tokens of the bytes
 pub same_tokens : (bytes : List ℕ) → tokens_of (compacted bytes) ≡ tokens_of bytes
 unfolding tokens_of spelled
 same_tokens bytes = again 0 None (tokens_from Between bytes) (fine bytes Between)
 
+-- a compact text is its own compact text
 pub compact_again : (bytes : List ℕ) → compacted (compacted bytes) ≡ compacted bytes
 compact_again bytes = ap spelled (same_tokens bytes)

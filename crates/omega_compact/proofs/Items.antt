@@ -1,4 +1,5 @@
 -- Texts that are compact already, byte by byte: items behind a token, with exactly the blanks that are wanted.
+-- Main results: two_form, fields_form, case_form.
 use Rattle.std.proofs.Common.{◌≡◌, ℕ, ◌+◌, ◌-◌, ◌≤◌, Bool, true, false, cond, List, [], ◌∷◌, ◌++◌, Option, Some, None, refl, sym, ap, ◌∙◌, subst, append_assoc, arith, inl, inr}
 use Rattle.std.specs.Prelude.{◌⊎◌, codes, ◌==◌, flat_map}
 use Rattle.std.proofs.lemmas.Bool.Decides.{nat_tests}
@@ -19,6 +20,7 @@ abbrev pub Item : ℕ → List ℕ → Type 0
 Item low item = (n : ℕ) → low ≤ n → (left : Option Token) (rest : List ℕ) → EndsWord rest → Compact n (Some Close) rest
     → spelled_from n left (tokens_from Between (item ++ rest)) ≡ before n left Open ++ (item ++ rest)
 
+-- an item at any depth is one inside parentheses
 pub inner : (item : List ℕ) → Item 0 item → Item 1 item
 inner item i n le left rest ends c = i n (omega arith) left rest ends c
 
@@ -31,6 +33,7 @@ same_gap : (n : ℕ) (word : List ℕ) (t : Token) → (is_omega (Word word) ≡
 same_gap n word t (inl h) = rw h refl
 same_gap n word t (inr h) = let z = no_zero n h in rw z refl
 
+-- behind a word is spelled what is behind a parenthesis, if the word is not `omega` or parentheses are open
 pub behind_word : (n : ℕ) (word : List ℕ) (ts : List Token) → (is_omega (Word word) ≡ false) ⊎ (1 ≤ n) → spelled_from n (Some (Word word)) ts ≡ spelled_from n (Some Close) ts
 behind_word n word [] h = refl
 behind_word n word (t ∷ ts) h = ap (λ (w : List ℕ). w ++ (token_text t ++ spelled_from (open_after n t) (Some t) ts)) (same_gap n word t h)
@@ -46,9 +49,11 @@ word_there word w n h left rest ends c =
     ∙ ap (λ (x : List ℕ). x ++ (word ++ spelled_from n (Some (Word word)) (tokens_from Between rest))) (before_word n left word)
     ∙ ap (λ (x : List ℕ). before n left Open ++ (word ++ x)) (behind_word n word (tokens_from Between rest) h ∙ c)
 
+-- a word is an item inside parentheses
 pub word_item : (word : List ℕ) → IsWord word → Item 1 word
 word_item word w n le left rest ends c = word_there word w n (inr le) left rest ends c
 
+-- a word other than `omega` is an item at any depth
 pub word_whole : (word : List ℕ) → IsWord word → is_omega (Word word) ≡ false → Item 0 word
 word_whole word w h n le left rest ends c = word_there word w n (inl h) left rest ends c
 
@@ -68,6 +73,7 @@ text_there bytes text n left rest c =
     ∙ ap (λ (x : List ℕ). before n left Open ++ ((34 ∷ (bytes ++ (34 ∷ []))) ++ x)) (behind_text n bytes (tokens_from Between rest) ∙ c)
     ∙ ap (λ (x : List ℕ). before n left Open ++ (34 ∷ x)) (append_assoc bytes (34 ∷ []) rest)
 
+-- a quoted text is an item at any depth
 pub text_item : (bytes : List ℕ) → IsText InText bytes → Item 0 (34 ∷ (bytes ++ (34 ∷ [])))
 text_item bytes text n le left rest ends c =
     subst (λ (z : List ℕ). spelled_from n left (tokens_from Between (34 ∷ z)) ≡ before n left Open ++ (34 ∷ z)) (sym (append_assoc bytes (34 ∷ []) rest))
@@ -124,6 +130,7 @@ opening n item rest i ends c left = ap (λ (w : List ℕ). before n left Open ++
 abbrev There : ℕ → Option Token → List ℕ → Type 0
 There n left z = spelled_from n left (tokens_from Between z) ≡ before n left Open ++ z
 
+-- a word and an item in parentheses are an item
 pub one_form : (word a : List ℕ) → Item 1 word → Item 1 a → Item 0 ((40 ∷ (word ++ (32 ∷ []))) then a then codes ")")
 unfolding ◌then◌
 one_form word a w i n le left rest ends c =
@@ -132,6 +139,7 @@ one_form word a w i n le left rest ends c =
     let c2 = next (n + 1) a (41 ∷ rest) (omega arith) i refl c1 in
     subst (There n left) (sym e) (opening n word (32 ∷ (a ++ (41 ∷ rest))) w refl c2 left)
 
+-- a word and two items in parentheses are an item
 pub two_form : (word a b : List ℕ) → Item 1 word → Item 1 a → Item 1 b → Item 0 ((40 ∷ (word ++ (32 ∷ []))) then a then codes " " then b then codes ")")
 unfolding ◌then◌
 two_form word a b w i j n le left rest ends c =
@@ -141,6 +149,7 @@ two_form word a b w i j n le left rest ends c =
     let c3 = next (n + 1) a (32 ∷ (b ++ (41 ∷ rest))) (omega arith) i refl c2 in
     subst (There n left) (sym e) (opening n word (32 ∷ (a ++ (32 ∷ (b ++ (41 ∷ rest))))) w refl c3 left)
 
+-- a word and three items in parentheses are an item
 pub three_form : (word a b d : List ℕ) → Item 1 word → Item 1 a → Item 1 b → Item 1 d
     → Item 0 ((40 ∷ (word ++ (32 ∷ []))) then a then codes " " then b then codes " " then d then codes ")")
 unfolding ◌then◌
@@ -157,9 +166,11 @@ three_form word a b d w i j k n le left rest ends c =
 abbrev pub Fields : List ℕ → Type 0
 Fields fields = (n : ℕ) → 1 ≤ n → (rest : List ℕ) → EndsWord rest → Compact n (Some Close) rest → EndsWord (fields ++ rest) × Compact n (Some Close) (fields ++ rest)
 
+-- no fields are fields
 pub no_fields : Fields []
 no_fields n le rest ends c = (ends, c)
 
+-- a field in parentheses before fields is fields
 pub more_fields : (label a fields : List ℕ) → Item 1 label → Item 1 a → Fields fields → Fields (codes " (" then label then codes " " then a then codes ")" then fields)
 unfolding ◌then◌
 more_fields label a fields l i f n le rest ends c =
@@ -171,6 +182,7 @@ more_fields label a fields l i f n le rest ends c =
     let c4 = c3 ∙ ap (λ (w : List ℕ). w ++ (40 ∷ (label ++ (32 ∷ (a ++ (41 ∷ (fields ++ rest))))))) (gap_inside n le) in
     subst (λ (z : List ℕ). EndsWord z × Compact n (Some Close) z) (sym e) (refl, c4)
 
+-- a word and fields in parentheses are an item
 pub fields_form : (word fields : List ℕ) → Item 1 word → Fields fields → Item 0 ((40 ∷ word) then fields then codes ")")
 unfolding ◌then◌
 fields_form word fields w f n le left rest ends c =
@@ -178,6 +190,7 @@ fields_form word fields w f n le left rest ends c =
     let r = f (n + 1) (omega arith) (41 ∷ rest) refl (closing n rest c) in
     subst (There n left) (sym e) (opening n word (fields ++ (41 ∷ rest)) w r.0 r.1 left)
 
+-- a word, two items and fields in parentheses are an item
 pub case_form : (word a b fields : List ℕ) → Item 1 word → Item 1 a → Item 1 b → Fields fields
     → Item 0 ((40 ∷ (word ++ (32 ∷ []))) then a then codes " " then b then fields then codes ")")
 unfolding ◌then◌

@@ -1,4 +1,5 @@
 -- Scans for the end of a token, as far as a loop has come.
+-- Main results: front_quoted, word_begins.
 use Rattle.std.proofs.Common.{◌≡◌, ℕ, zero, suc, ◌+◌, ◌<◌, ◌≤◌, Bool, true, false, cond, List, [], ◌∷◌, ◌++◌, length, get_or, take, drop, refl, sym, ap, ◌∙◌, arith}
 use Rattle.std.specs.Prelude.{not, ◌==◌, ◌||◌}
 use Rattle.std.proofs.lemmas.Bool.Decides.{nat_tests}
@@ -20,6 +21,7 @@ front_word : (xs bytes : List ℕ) (ts : List Token) → with_front xs (Word byt
 front_word [] bytes ts = refl
 front_word (x ∷ xs) bytes ts = ap (with_first x) (front_word xs bytes ts)
 
+-- bytes in front of a quoted token belong to it
 pub front_quoted : (xs bytes : List ℕ) (ts : List Token) → with_front xs (Quoted bytes ∷ ts) ≡ Quoted (xs ++ bytes) ∷ ts
 front_quoted [] bytes ts = refl
 front_quoted (x ∷ xs) bytes ts = ap (with_first x) (front_quoted xs bytes ts)
@@ -28,6 +30,7 @@ front_unended : (xs bytes : List ℕ) (ts : List Token) → with_front xs (Unend
 front_unended [] bytes ts = refl
 front_unended (x ∷ xs) bytes ts = ap (with_first x) (front_unended xs bytes ts)
 
+-- a list with nothing behind it is the list
 pub append_nil : (xs : List ℕ) → xs ++ [] ≡ xs
 append_nil [] = refl
 append_nil (x ∷ xs) = ap (λ (w : List ℕ). x ∷ w) (append_nil xs)
@@ -162,6 +165,7 @@ begins_word b h =
     let p = not_or (is_blank b) (b == 40) q.0 in
     record { blank = not_true (is_blank b) p.0; opener = p.1; close = q.1; quote = r.1; comment = s.1 }
 
+-- a byte that may stand in a word begins or goes on with one
 pub word_begins : (b : ℕ) (behind : Spot → List Token) → in_word b ≡ true → from_byte b behind ≡ with_first b (behind InWord)
 word_begins b behind h = let w = begins_word b h in rw (w.opener, w.close, w.quote, w.comment, w.blank) refl
 

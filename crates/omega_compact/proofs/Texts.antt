@@ -1,4 +1,5 @@
 -- The texts of kinds, labels, types and terms are compact, and so is each Omega text.
+-- Main results: texts_stay, read.
 use Rattle.std.proofs.Common.{◌≡◌, ℕ, zero, suc, ◌+◌, ◌-◌, ◌^◌, ◌<◌, Bool, true, false, List, [], ◌∷◌, ◌++◌, length, Option, Some, None, refl, sym, ap, ◌∙◌, subst, arith, inl, inr}
 use Rattle.std.specs.Prelude.{◌⊎◌, codes, decimal, ◌==◌, ◌||◌, ◌&&◌, ℤ, pos, negsuc}
 use Rattle.std.specs.Char.{is_ascii_digit}
@@ -257,6 +258,7 @@ unfolding ◌then◌
 text_compact First t e a b = lines 49 (ty_text 0 t) (term_text 0 0 e) refl refl (ty_item First 0 t a) (term_item First 0 0 e b)
 text_compact Second t e a b = lines 50 (ty_text 0 t) (term_text 0 0 e) refl refl (ty_item Second 0 t a) (term_item Second 0 0 e b)
 
+-- each Omega text is its own compact text
 pub texts_stay : (bytes : List ℕ) (t : Ty) (e : Term) → OmegaText bytes t e → compacted bytes ≡ bytes
 unfolding tokens_of spelled
 texts_stay bytes t e o =
@@ -267,5 +269,6 @@ texts_stay bytes t e o =
 pub denoted : (bytes : List ℕ) (t : Ty) (e : Term) → OmegaText (compacted bytes) t e → Denotes bytes t e
 denoted bytes t e o = (compacted bytes, same_tokens bytes, o)
 
+-- bytes that denote a type and a term have their Omega text as compact text
 pub read : (bytes : List ℕ) (t : Ty) (e : Term) → Denotes bytes t e → OmegaText (compacted bytes) t e
 read bytes t e d = subst (λ (w : List ℕ). OmegaText w t e) (sym (texts_stay d.0 t e d.2) ∙ ap spelled d.1) d.2

@@ -1,4 +1,5 @@
 -- The order of labels is strict and total, and so is that of names.
+-- Main results: label_total, label_exact, label_order.
 use Rattle.std.specs.Prelude.{◌≡◌, ◌⊎◌, true}
 use Rattle.std.proofs.Math.Logic.{inl, inr}
 use Rattle.std.proofs.Math.Path.{refl, ap, sym, ◌∙◌}
@@ -13,9 +14,11 @@ use Rattle.omega_kinds.specs.declared.label.Label.{Label}
 use Rattle.omega_kinds.specs.declared.label.Label.TheVariants.{Val, Typ, Sig, App, Gen}
 use Rattle.omega_kinds.specs.LabelOrder.{rank, spelling, name_cmp, label_cmp, LabelBefore, IsStrictTotalOrder}
 
+-- the comparison of labels is a total order
 pub label_total : IsTotalOrder label_cmp
 label_total = then_total (on_total rank nat_cmp_total) (on_total spelling nat_list_cmp_total)
 
+-- a comparison that passes the test for less is less
 pub less_from_is_lt : (o : Ordering) → is_lt o ≡ true → o ≡ Less
 less_from_is_lt Less e = refl
 less_from_is_lt Equal e = absurd (false≢true e)
@@ -36,6 +39,7 @@ by_rank Gen Gen e f = refl
 by_rank (Label.Name a) (Label.Name b) e f = ap Label.Name f
 by_rank l m e f = absurd (cc)
 
+-- labels that compare as equal are the same
 pub label_exact : CmpEqualImpliesEq label_cmp
 label_exact l m e = let both = equal_from_then (nat_cmp (rank l) (rank m)) (name_cmp (spelling l) (spelling m)) e in by_rank l m both.0 (exact_bytes (spelling l) (spelling m) both.1)
 
@@ -44,18 +48,23 @@ equal_from_is_eq Less e = absurd (false≢true e)
 equal_from_is_eq Equal e = refl
 equal_from_is_eq Greater e = absurd (false≢true e)
 
+-- labels that pass the test for equality are the same
 pub label-yes : (l m : Label) → is_eq (label_cmp l m) ≡ true → l ≡ m
 label-yes l m e = label_exact l m (equal_from_is_eq (label_cmp l m) e)
 
+-- a label compares as equal to itself
 pub label-self : (l : Label) → is_eq (label_cmp l l) ≡ true
 label-self l = ap is_eq (tied_itself label_total l)
 
+-- no label comes before itself
 pub irreflexive : (l : Label) → LabelBefore l l → ⊥
 irreflexive l h = absurd (false≢true (sym (ap is_lt (tied_itself label_total l)) ∙ h))
 
+-- a label before one that comes before a third comes before the third
 pub transitive : (l m n : Label) → LabelBefore l m → LabelBefore m n → LabelBefore l n
 transitive l m n h k = ap is_lt (label_total.trans l m n (less_from_is_lt (label_cmp l m) h) (less_from_is_lt (label_cmp m n) k))
 
+-- two labels are the same, or one comes before the other
 pub total_order : (l m : Label) → (l ≡ m) ⊎ (LabelBefore l m ⊎ LabelBefore m l)
 total_order l m = by (label_cmp l m) refl
   where
@@ -64,5 +73,6 @@ total_order l m = by (label_cmp l m) refl
     by Equal e = inl (label_exact l m e)
     by Greater e = inr (inr (ap is_lt (label_total.antisymm m l ∙ ap ordering_reverse e)))
 
+-- the order of labels is strict and total
 pub label_order : IsStrictTotalOrder
 label_order = record { irreflexive = irreflexive; transitive = transitive; total = total_order }

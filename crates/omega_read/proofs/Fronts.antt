@@ -1,4 +1,5 @@
 -- Fronts of bytes, as the code tests them and as they are read from lists.
+-- Main results: strip-tested.
 use Rattle.std.proofs.Common.{◌≡◌, ℕ, zero, suc, ◌-◌, nat_lt, true, false, cond, List, [], ◌∷◌, length, take, drop, Some, None, refl, arith}
 use Rattle.std.specs.Prelude.{◌&&◌, ◌==◌, codes}
 use Rattle.std.specs.Cmp.Lexicographic.{pointwise}
@@ -6,6 +7,7 @@ use Rattle.std.proofs.lemmas.Bool.Decides.{nat_tests}
 use Rattle.omega_kinds.specs.Kind.{Star, Arrow}
 use Rattle.omega_spelling.specs.Reading.{strip, choose, two, kind_at}
 
+-- a beginning is taken off bytes if their first ones, as many as it has, are the beginning
 pub strip-tested : (p bs : List ℕ) → strip p bs ≡ cond (pointwise ◌==◌ (take (length p) bs) p) (Some (drop (length p) bs)) None
 unfolding strip
 strip-tested [] bs = refl
@@ -13,6 +15,7 @@ strip-tested (p ∷ ps) [] = refl
 strip-tested (p ∷ ps) (b ∷ bs) =
     elim (b == p) as (λ t. cond t (strip ps bs) None ≡ cond (t && pointwise ◌==◌ (take (length ps) bs) ps) (Some (drop (length ps) bs)) None) [ true ↦ strip-tested ps bs | false ↦ refl ]
 
+-- zero is less than a successor
 pub below_zero : (d : ℕ) → nat_lt 0 (suc d) ≡ true
 below_zero d = grind (arith, nat_tests)
 

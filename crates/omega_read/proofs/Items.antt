@@ -1,9 +1,11 @@
 -- Items of bytes, as far as a loop has come.
+-- Main results: drop_here.
 use Rattle.std.proofs.Common.{◌≡◌, ℕ, zero, suc, ◌+◌, ◌-◌, ◌<◌, ◌≤◌, true, false, List, [], ◌∷◌, ◌++◌, length, get_or, take, drop, refl, sym, ap, ◌∙◌, append_assoc, arith, add-one}
 use Rattle.std.proofs.Math.Seq.{drop-cons}
 use Rattle.std.proofs.lemmas.List.{take_all}
 use Rattle.omega_spelling.specs.Refusals.{Place, goes_on, after, is_wide, wide_from, zeroed_item, zeroed_from}
 
+-- the bytes from a place on are the one there and those after it
 pub drop_here : (bs : List ℕ) (i d : ℕ) → i < length bs → drop i bs ≡ get_or bs i d ∷ drop (i + 1) bs
 drop_here bs i d lt = rw add-one (drop-cons bs i d lt)
 

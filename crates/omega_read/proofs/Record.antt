@@ -1,4 +1,5 @@
 -- Fields that are read one after the other.
+-- Main results: onto_row, fields_stops.
 use Rattle.std.proofs.Common.{◌≡◌, ℕ, suc, ◌+◌, ◌-◌, ◌<◌, ◌≤◌, true, false, List, [], ◌∷◌, ◌++◌, length, Option, Some, None, refl, sym, ap, ◌∙◌, arith}
 use Rattle.std.specs.Prelude.{codes, slice_get}
 use Rattle.omega_kinds.specs.declared.label.Label.{Label}
@@ -12,11 +13,13 @@ use Rattle.omega_read.specs.declared.left.Stop.TheVariants.{Mem, NotOmega}
 use Rattle.omega_read.specs.Inner.Gives.{Stops}
 use Rattle.omega_read.specs.Inner.Onto.{last_of, onto, with_front}
 
+-- a label that follows the last one may follow the fields
 pub MayFollow_from : {T : Type 0} (xs : List (Label × T)) (l : Label) → follows (last_of xs) l ≡ true → MayFollow xs l
 MayFollow_from [] l e = tt
 MayFollow_from (x ∷ []) l e = e
 MayFollow_from (x ∷ y ∷ xs) l e = MayFollow_from (y ∷ xs) l e
 
+-- the last label of fields is that of the field at the last place
 pub last_get : {T : Type 0} (xs : List (Label × T)) (x : Label × T) → slice_get xs (length xs - 1) ≡ Some x → last_of xs ≡ Some x.0
 last_get [] x e = absurd cc
 last_get {T} (y ∷ []) x e = ap (λ (o : Option (Label × T)). o >>= λ z. Some z.0) e
@@ -33,10 +36,12 @@ onto_push : {T R : Type 0} (more : Label → T → R → R) (xs : List (Label ×
 onto_push more [] x r = refl
 onto_push more (y ∷ xs) x r = ap (more y.0 y.1) (onto_push more xs x r)
 
+-- parts put in front of the empty row are the row
 pub onto_row : (xs : Pairs) → onto Row.More xs Row.End ≡ row xs
 onto_row [] = refl
 onto_row (y ∷ xs) = ap (Row.More y.0 y.1) (onto_row xs)
 
+-- so are terms put in front of the empty row of terms
 pub onto_term_row : (xs : TermPairs) → onto TermRow.More xs TermRow.End ≡ term_row xs
 onto_term_row [] = refl
 onto_term_row (y ∷ xs) = ap (TermRow.More y.0 y.1) (onto_term_row xs)
@@ -80,6 +85,7 @@ fields_stop end more f xs turns i bytes b total lt front field so_far =
     let one : with_front more xs (fields_at end more f (turns - i) (last_of xs) bytes) ≡ None = rw (k, front, field) refl in
     sym so_far ∙ one
 
+-- where a field cannot be read, reading the fields stops
 pub fields_stops : {T R : Type 0} (end : R) (more : Label → T → R → R) (e : Stop) (f : Reader T) (xs : List (Label × T)) (turns i : ℕ) (bytes b : List ℕ) (total : Option (R × List ℕ)) → i < turns
     → strip (codes " (") bytes ≡ Some b → Stops e (field_at f b)
     → with_front more xs (fields_at end more f (turns - i) (last_of xs) bytes) ≡ total → Stops e total

@@ -1,4 +1,5 @@
 -- What is read from whole texts, and what is refused.
+-- Main results: whole_ok.
 use Rattle.std.proofs.Common.{◌≡◌, ℕ, List, Some, None, false, true, refl, inl, inr}
 use Rattle.std.specs.Prelude.{◌⊎◌, Result, Ok, Err}
 use Rattle.omega_types.specs.Ty.{Ty}
@@ -18,6 +19,7 @@ use Rattle.omega_read.specs.declared.whole.ReadRefusal.{ReadRefusal}
 use Rattle.omega_read.specs.declared.whole.ReadRefusal.TheVariants.{NotOmega, Version, Wide, TooDeep, Mem}
 use Rattle.omega_read.specs.ReadAs.{ReadAs}
 
+-- a text that is not too deep and that is read is answered with its type and its term
 pub whole_ok : (bytes : List ℕ) (x : Ty × Term) → is_too_deep bytes ≡ false → omega_at bytes ≡ Some x → ReadAs bytes (Ok x)
 whole_ok bytes x s e = (s, omega-takes bytes x.0 x.1 e)
 

@@ -1,4 +1,5 @@
 -- What the tests tell.
+-- Main results: ty-tells, ty-told, term-tells, term-told.
 use Rattle.std.proofs.Common.{◌≡◌, ℕ, ◌+◌, ◌^◌, ◌<◌, ◌&&◌, Bool as Truth, true, nat_lt, IsTrue, refl, sym, ◌∙◌, arith}
 use Rattle.std.proofs.lemmas.Bool.{and_from, and_parts}
 use Rattle.std.proofs.lemmas.Bool.Decides.{nat_tests}
@@ -10,12 +11,14 @@ use Rattle.omega_scopes.specs.Inner.Depth.{ty_depth, row_depth, type_depth, row_
 
 -- a test on numbers, and tests one after the other
 
+-- a number that passes the test is below the other
 pub below : (n m : ℕ) → nat_lt n m ≡ true → n < m
 below n m e = grind (arith, nat_tests)
 
 pub test : (n m : ℕ) → n < m → nat_lt n m ≡ true
 test n m lt = grind (arith, nat_tests)
 
+-- if both of two tests hold, what each tells holds
 pub two : {P Q : Type 0} (a b : Truth) → (a ≡ true → P) → (b ≡ true → Q) → (a && b) ≡ true → P × Q
 two a b f g e = let p = and_parts a b e in (f p.0, g p.1)
 
@@ -28,6 +31,7 @@ three a b d f g h e =
 pub under : {P : Type 0} (n : ℕ) (b : Truth) → (n < 2 ^ 64 → b ≡ true → P) → (fits n && b) ≡ true → P
 under n b f e = let p = and_parts (fits n) b e in f (below n (2 ^ 64) p.0) p.1
 
+-- a number that fits 64 bits passes the test with another one that holds
 pub under_true : (n : ℕ) (b : Truth) → n < 2 ^ 64 → b ≡ true → (fits n && b) ≡ true
 under_true n b lt e = and_from (fits n) b (test n (2 ^ 64) lt) e
 
@@ -74,9 +78,11 @@ mutual
   row-complete n Row.End s h = refl
   row-complete n (Row.More l t rest) s h = and_from (ty_scoped n t) (row_scoped n rest) (ty-complete n t s.0 (omega arith)) (row-complete n rest s.1 (omega arith))
 
+-- a type that passes the test has its variables in scope
 pub ty-tells : (n : ℕ) (t : Ty) (r : Truth) → n < 2 ^ 64 → r ≡ ty_scoped n t → IsTrue r → TyInScope n t
 ty-tells n t r w is told = ty-sound n t w (sym is ∙ told)
 
+-- a type with its variables in scope, if its levels fit 64 bits, passes the test
 pub ty-told : (n : ℕ) (t : Ty) (r : Truth) → r ≡ ty_scoped n t → TyInScope n t → n + ty_depth t < 2 ^ 64 → IsTrue r
 ty-told n t r is s h = is ∙ ty-complete n t s h
 
@@ -161,8 +167,10 @@ mutual
   term_row-complete n m (TermRow.More l e rest) s g h =
       and_from (term_scoped n m e) (term_row_scoped n m rest) (term-complete n m e s.0 (omega arith) (omega arith)) (term_row-complete n m rest s.1 (omega arith) (omega arith))
 
+-- a term that passes the test has its variables in scope
 pub term-tells : (n m : ℕ) (e : Term) (r : Truth) → n < 2 ^ 64 → m < 2 ^ 64 → r ≡ term_scoped n m e → IsTrue r → TermInScope n m e
 term-tells n m e r w v is told = term-sound n m e w v (sym is ∙ told)
 
+-- a term with its variables in scope, if its levels fit 64 bits, passes the test
 pub term-told : (n m : ℕ) (e : Term) (r : Truth) → r ≡ term_scoped n m e → TermInScope n m e → n + type_depth e < 2 ^ 64 → m + term_depth e < 2 ^ 64 → IsTrue r
 term-told n m e r is s g h = is ∙ term-complete n m e s g h

@@ -1,4 +1,5 @@
 -- Packs and opens as they are built are those of the definitions.
+-- Main results: packs_filled, opens_opened.
 use Rattle.std.specs.Prelude.{ℕ, zero, suc, ◌-◌, ◌<◌, ◌≤◌, List, [], ◌∷◌, ◌≡◌, length, map, take}
 use Rattle.std.proofs.Common.{get_or, arith}
 use Rattle.std.proofs.Math.Path.{refl, sym, ◌∙◌, ap, ap₂, subst}
@@ -28,6 +29,7 @@ pack_up-packs {ctx} e b (next {t = t} {ts = ts} {k = k} {ks = ks} m ms) n =
     let r = subst (λ u. Packs ctx ts e u (pack_up ts e u)) (sym q.1) (pack_up-packs e q.0 ms (subst (λ u. Normal ctx u Kind.Star) q.1 f.0)) in
     Packs.next (subst (λ u. NormalForm ctx u Kind.Star (hsubst k zero t (ex_over ks b))) (substitute_at-zero t (ex_over ks b)) f) r
 
+-- types that fill the quantifiers of a type are packed into a term
 pub packs_filled : (ctx : List Kind) (ts : List Ty) (e : Term) (to : Ty) → Fills ctx ts to → Packs ctx ts e to (pack_up ts e to)
 packs_filled ctx ts e to (ks, t, eq, n, ns) =
     subst (λ u. Packs ctx ts e u (pack_up ts e u)) (sym eq) (pack_up-packs e t (forms-types ns) (subst (λ u. Normal ctx u Kind.Star) eq n))
@@ -36,6 +38,7 @@ after-times : (ks : List Kind) (body : Term) → opened_times (length ks) body �
 after-times [] body = refl
 after-times (k ∷ ks) body = ap (Term.Unpack (Term.Var zero)) (after-times ks body)
 
+-- opening as many times as there are kinds is opening them
 pub opens_opened : (ks : List Kind) (count : ℕ) (e : Term) (from : Ty) (body : Term) → length ks ≡ count → opened count e from body ≡ opens ks e from body
 opens_opened ks count e from body len = ap (λ n. opened n e from body) (sym len) ∙ at ks
   where
@@ -43,6 +46,7 @@ opens_opened ks count e from body len = ap (λ n. opened n e from body) (sym len
     at [] = refl
     at (k ∷ js) = ap (Term.Unpack e) (after-times js body)
 
+-- a package that is opened, and then its inside, once less than there are kinds, is opened
 pub opened-after : (ks : List Kind) (count : ℕ) (e : Term) (from : Ty) (body inner whole : Term) → (count ≡ 0 → ⊥) → length ks ≡ count → inner ≡ opened_times (count - 1) body → whole ≡ Term.Unpack e inner → whole ≡ opens ks e from body
 opened-after [] count e from body inner whole some len ei ew = absurd (some (sym len))
 opened-after (k ∷ ks) count e from body inner whole some len ei ew =
@@ -57,6 +61,7 @@ commute : (n : ℕ) (body : Term) → Term.Unpack (Term.Var zero) (opened_times 
 commute zero body = refl
 commute (suc n) body = ap (Term.Unpack (Term.Var zero)) (commute n body)
 
+-- one more opening is put around the term, and the whole stays the one to come
 pub opened-next : (left : ℕ) (term grown whole : Term) → 0 < left → opened_times left term ≡ whole → grown ≡ Term.Unpack (Term.Var zero) term → opened_times (left - 1) grown ≡ whole
 opened-next zero term grown whole lt e en = absurd (omega (arith, lt))
 opened-next (suc n) term grown whole lt e en = ap₂ opened_times (less n) en ∙ (sym (commute n term) ∙ e)
@@ -71,6 +76,7 @@ lam-take [] n d e lt = absurd (omega (arith, lt))
 lam-take (k ∷ kinds) zero d e lt = refl
 lam-take (k ∷ kinds) (suc n) d e lt = ap (Term.TyLam (kind_tree k)) (lam-take kinds n d e (omega arith))
 
+-- one more type abstraction is put around the term, and the whole stays the one to come
 pub lam-next : (kinds : List SharedKind) (left : ℕ) (kind shared : SharedKind) (term grown whole : Term) → 0 < left → left ≤ length kinds → ty_lam_over (map kind_tree (take left kinds)) term ≡ whole → kind ≡ get_or kinds (left - 1) kind → kind_tree shared ≡ kind_tree kind → grown ≡ Term.TyLam (kind_tree shared) term → ty_lam_over (map kind_tree (take (left - 1) kinds)) grown ≡ whole
 lam-next kinds zero kind shared term grown whole lt le e ek es en = absurd (omega (arith, lt))
 lam-next kinds (suc n) kind shared term grown whole lt le e ek es en =

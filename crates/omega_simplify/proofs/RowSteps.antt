@@ -1,4 +1,5 @@
 -- What becomes of the fields of a record, and of the branches of a case.
+-- Main results: row-simplified.
 use Rattle.std.proofs.Common.{◌≡◌, ℕ, ◌≤◌, [], ◌∷◌, length, take, refl, sym, ap, ◌∙◌}
 use Rattle.omega_terms.specs.Term.{TermRow}
 use Rattle.omega_terms.specs.Fields.{TermPairs, term_row}
@@ -9,10 +10,12 @@ use Rattle.omega_simplify_laws.specs.Simplified.{simplified, simplified_row}
 abbrev pub same_terms : TermPairs → TermPairs
 same_terms xs = map_terms (λ e. e) xs
 
+-- fields that are kept as they are make the same row
 pub row-same : (xs : TermPairs) → term_row (same_terms xs) ≡ term_row xs
 row-same [] = refl
 row-same (x ∷ xs) = ap (TermRow.More x.0 x.1) (row-same xs)
 
+-- fields simplified one by one make the simplified row
 pub row-simplified : (xs : TermPairs) → term_row (map_terms simplified xs) ≡ simplified_row (term_row xs)
 row-simplified [] = refl
 row-simplified (x ∷ xs) = ap (TermRow.More x.0 (simplified x.1)) (row-simplified xs)

@@ -1,4 +1,5 @@
 -- Each rule of packages has exactly one conclusion or exactly one refusal.
+-- Main results: one_pack_type, one_pack, one_unpack.
 use Rattle.std.specs.Prelude.{List, [], ◌≡◌, ◌≢◌}
 use Rattle.std.proofs.Math.Path.{refl, sym, subst, ap, ◌∙◌}
 use Rattle.omega_kinds.specs.Kind.{Kind}
@@ -22,9 +23,11 @@ use Rattle.sig_premise_laws.proofs.Terms.{packs-one}
 use Rattle.package_judgments.specs.Package.{PackTypeGives, PackGives, UnpackGives, UnpackWhy, Differ, UnpackRefuses}
 use Rattle.package_judgments.specs.OneOutcome.{OnePackType, OnePack, OneUnpack}
 
+-- a package type is the encoding of a norm
 pub pack_type-view : {ctx : List Kind} {x : Abs} {t : Ty} → PackTypeGives ctx x t → (y : Abs) × Norm ctx x y × (t ≡ enc_abs y)
 pack_type-view (PackTypeGives.pack_type {y = y} n) = (y, n, refl)
 
+-- a signature has exactly one package type
 pub one_pack_type : OnePackType
 one_pack_type ctx x h =
     let n = norm-one ctx x h in
@@ -33,6 +36,7 @@ one_pack_type ctx x h =
 pack-view : {ctx : List Kind} {e c : Term} {z : Abs} {ts : List Ty} (o : Ty × Term) → PackGives ctx e z ts c o.0 o.1 → (o.0 ≡ enc_abs z) × Packs ctx ts (Term.Call c e) (enc_abs z) o.1
 pack-view _ (PackGives.pack p) = (refl, p)
 
+-- the rule of packages has exactly one conclusion
 pub one_pack : OnePack
 one_pack ctx ks s e ts c h n =
     let p = packs-one (Term.Call c e) (enc s) (forms-kinds n) (enc_well_formed-normal h.0 h.1) in
@@ -48,6 +52,7 @@ unpack-only _ UnpackGives.unpack = (refl, refl)
 unpack-refused : {t : Ty} {y : Abs} {why : UnpackWhy} → UnpackRefuses t y why → (t ≢ enc_abs y) × (why ≡ Differ t (enc_abs y))
 unpack-refused (UnpackRefuses.other_type n) = (n, refl)
 
+-- the rule of unpacking has exactly one conclusion or one refusal
 pub one_unpack : OneUnpack
 one_unpack t e y = go (dec_ty t (enc_abs y))
   where

@@ -1,4 +1,5 @@
 -- Package types, as the contracts say it.
+-- Main results: norm_matches, norms_exactly, convertible_norms.
 use Rattle.std.specs.Prelude.{◌≡◌}
 use Rattle.std.proofs.Math.Path.{subst, subst₂}
 use Rattle.sig_definitions.specs.Signatures.Alike.{ConvAbs}
@@ -17,20 +18,25 @@ use Rattle.sig_package_laws.proofs.NormConv.{norm_abs-conv}
 use Rattle.package_type_laws.specs.PackageTypes.{NormMatches, NormalNormMatches, OneEncoding, NormsExactly, ConvertibleNorms}
 use Rattle.package_type_laws.proofs.Matching.{norm_abs-both}
 
+-- a signature and its norm match each other
 pub norm_matches : NormMatches
 norm_matches ctx x n e h = norm_abs-both h (explicit-abs e)
 
+-- signatures that hide types are the same if their encodings are
 pub one_encoding : OneEncoding
 one_encoding x y e = enc_abs-injective x y e
 
+-- package types are convertible exactly where the norms are
 pub norms_exactly : NormsExactly
 norms_exactly ctx x y n m ex ey hx hy = conv_abs_exactly ctx n m (explicit-abs (norm_abs-explicit hx ex)) (explicit-abs (norm_abs-explicit hy ey))
 
+-- the norms of convertible signatures are convertible
 pub convertible_norms : ConvertibleNorms
 convertible_norms ctx x y n m c hx hy =
     let w = norm_abs-conv hx c in
     subst (ConvAbs ctx n) (norm_one ctx y w.0 m w.1 hy) w.2
 
+-- a signature of normal types and its norm match each other by coercions
 pub normal_norm_matches : NormalNormMatches
 normal_norm_matches ctx x n ok h =
     let left = explicit-abs ok.0 in

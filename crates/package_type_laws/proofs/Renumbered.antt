@@ -1,4 +1,5 @@
 -- Signatures under binders whose variables are renamed, and the types at which they match.
+-- Main results: sub-renamed, sub_abs-renamed.
 use Rattle.std.specs.Prelude.{ℕ, zero, suc, List, [], ◌∷◌, ◌≡◌}
 use Rattle.std.proofs.Math.Path.{refl, sym, ◌∙◌, ap, subst, fun_ext}
 use Rattle.omega_kinds.specs.Kind.{Kind}
@@ -57,11 +58,13 @@ module _ (ctx ks js : List Kind) (r : ℕ → ℕ) (h : Maps (extend ctx ks) (ex
 
 -- renaming keeps what is below
 
+-- renaming keeps subtyping of signatures of any types
 pub sub-renamed : {ctx other : List Kind} {s t : Sig} (r : ℕ → ℕ) → Maps ctx other r → IsSub ctx s t → IsSub other (rename_sig r s) (rename_sig r t)
 sub-renamed {ctx} {other} {s} {t} r h a =
     subst (IsSub other (rename_sig r s)) (substitute-vars_sig r t)
     (subst (λ z. IsSub other z (substitute_sig (λ i. Ty.Var (r i)) t)) (substitute-vars_sig r s) (sub-substitute (λ i. Ty.Var (r i)) (maps-substitutes h) a))
 
+-- so it does where they hide types
 pub sub_abs-renamed : {ctx other : List Kind} {x y : Abs} (r : ℕ → ℕ) → Maps ctx other r → IsSubAbs ctx x y → IsSubAbs other (rename_abs r x) (rename_abs r y)
 sub_abs-renamed {ctx} {other} {x} {y} r h a =
     subst (IsSubAbs other (rename_abs r x)) (substitute-vars_abs r y)
@@ -69,9 +72,11 @@ sub_abs-renamed {ctx} {other} {x} {y} r h a =
 
 -- a renaming and the one that undoes it
 
+-- undoing a renaming of a signature gives the signature
 pub sig-undone : (r q : ℕ → ℕ) → ((i : ℕ) → q (r i) ≡ i) → (s : Sig) → rename_sig q (rename_sig r s) ≡ s
 sig-undone r q e s = rename-rename_sig q r s ∙ (ap (λ f. rename_sig f s) (fun_ext e) ∙ rename_sig-id s)
 
+-- so it does for one that hides types
 pub abs-undone : (r q : ℕ → ℕ) → ((i : ℕ) → q (r i) ≡ i) → (x : Abs) → rename_abs q (rename_abs r x) ≡ x
 abs-undone r q e x = rename-rename_abs q r x ∙ (ap (λ f. rename_abs f x) (fun_ext e) ∙ rename_abs-id x)
 

@@ -1,4 +1,5 @@
 -- Chains whose items are kept with the first one last.
+-- Main results: ty_applied, op_chained, arg_chained.
 use Rattle.std.proofs.Common.{◌≡◌, List, [], ◌∷◌, ◌++◌, refl, sym, ◌∙◌, ap, subst}
 use Rattle.std.specs.Prelude.{None, Some, reverse, Result, Ok, Err, IfErr}
 use Rattle.std.specs.List.{slice_get}
@@ -42,6 +43,7 @@ applied t (z ∷ zs) x = ap (λ s. TyAt (up_to (ty_span t) s) (TyApply t (tys (z
 pub ty_alone : (t : TyEx) (xs : List TyEx) → None ≡ slice_get xs 0 → ty_chain_of t (tys (reverse xs)) ≡ t
 ty_alone t xs e = ap (λ z. ty_chain_of t (tys (reverse z))) (nothing xs e)
 
+-- a type with arguments, kept last first, is the application up to the last one
 pub ty_applied : (t : TyEx) (xs : List TyEx) (x : TyEx) → Some x ≡ slice_get xs 0 → ty_chain_of t (tys (reverse xs)) ≡ TyAt (up_to (ty_span t) (ty_span x)) (TyApply t (tys (reverse xs)))
 ty_applied t xs x e =
     let f : Front xs x = front xs x e in
@@ -60,6 +62,7 @@ chained e (z ∷ zs) x = ap (λ s. ExpAt (up_to (exp_span e) s) (ExpOps e (ops (
 pub op_alone : (e : Exp) (xs : List (Op × Exp)) → None ≡ slice_get xs 0 → ops_of e (ops (reverse xs)) ≡ e
 op_alone e xs h = ap (λ z. ops_of e (ops (reverse z))) (nothing xs h)
 
+-- an expression with operands, kept last first, is the operation up to the last one
 pub op_chained : (e : Exp) (xs : List (Op × Exp)) (x : Op × Exp) → Some x ≡ slice_get xs 0 → ops_of e (ops (reverse xs)) ≡ ExpAt (up_to (exp_span e) (exp_span x.1)) (ExpOps e (ops (reverse xs)))
 op_chained e xs x h =
     let f : Front xs x = front xs x h in
@@ -78,6 +81,7 @@ passed e (z ∷ zs) x = ap (λ s. ExpAt (up_to (exp_span e) s) (ExpApply e (args
 pub arg_alone : (e : Exp) (xs : List Arg) → None ≡ slice_get xs 0 → args_of e (args (reverse xs)) ≡ e
 arg_alone e xs h = ap (λ z. args_of e (args (reverse z))) (nothing xs h)
 
+-- an expression with arguments, kept last first, is the application up to the last one
 pub arg_chained : (e : Exp) (xs : List Arg) (x : Arg) → Some x ≡ slice_get xs 0 → args_of e (args (reverse xs)) ≡ ExpAt (up_to (exp_span e) (arg_span (arg_of x))) (ExpApply e (args (reverse xs)))
 arg_chained e xs x h =
     let f : Front xs x = front xs x h in

@@ -1,4 +1,5 @@
 -- The tokens of bytes have names, numbers and texts that have a spelling.
+-- Main results: tokens-spelled, keywords-spelled.
 use Rattle.std.specs.Prelude.{◌≡◌, ℕ, ◌<◌, ◌≤◌, List, [], ◌∷◌, ◌++◌, map, take, Bool, true, false, not, ◌&&◌, ◌||◌, ◌==◌, nat_eq, nat_le, nat_lt, nat_abs}
 use Rattle.std.specs.Prelude.{if◌then◌else◌, Option, Some, None, ℤ, pos, negsuc, neg_ℤ}
 use Rattle.std.proofs.Common.{arith}
@@ -206,6 +207,7 @@ lexes-spelled {at} {nest} {bytes} (done f s e) = subst StepSpelled e (step-spell
 lexes-spelled {at} {nest} {bytes} (go f n add deeper rest s e l q) =
     subst OutcomeSpelled (sym q) (prepend-spelled add rest (subst StepSpelled e (step-spelled at nest bytes f s)) (lexes-spelled l))
 
+-- the tokens of bytes have names, numbers and texts that have a spelling
 pub tokens-spelled : {bytes : List ℕ} {ts : List Token} → TokensOf bytes ts → TokensSpelled ts
 tokens-spelled l = lexes-spelled l
 
@@ -226,6 +228,7 @@ keyword-spelled (what.Ident bytes) = tt
 keyword-spelled (what.Int z) = tt
 keyword-spelled (what.Text bytes) = tt
 
+-- in the second version all keywords have phrases with a spelling
 pub keywords-spelled : (ts : List Token) → KeywordsSpelled Second ts
 keywords-spelled [] = tt
 keywords-spelled (t ∷ ts) = (keyword-spelled t.what, keywords-spelled ts)

@@ -1,4 +1,5 @@
 -- Namings with one variable more or less, and that what is written for two variables differs.
+-- Main results: names-differ.
 use Rattle.std.proofs.Common.{◌≡◌, ◌⊎◌, inl, inr, ℕ, zero, suc, ◌+◌, ◌<◌, ◌^◌, List, [], ◌∷◌, ◌++◌, Option, Some, None, length, arith, refl, sym, ap, subst, ◌∙◌}
 use Rattle.std.specs.Prelude.{decimal, get_or}
 use Rattle.std.proofs.lemmas.Fmt.{decimal_injective}
@@ -51,10 +52,12 @@ pub adds_given : (names new : List (Option (List ℕ))) (o : Option (List ℕ)) 
 adds_given names new (Some x) free p = subst (λ n. Adds names (Some x) n) (sym p) (Adds.named (free x refl))
 adds_given names new None free p = subst (λ n. Adds names None n) (sym p) Adds.unnamed
 
+-- a list with one more item is longer by one
 pub one-more : {A : Type 0} (xs : List A) (x : A) → length (xs ++ x ∷ []) ≡ length xs + 1
 one-more [] x = refl
 one-more (y ∷ xs) x = omega (arith, one-more xs x)
 
+-- a naming with one variable more is longer by one
 pub added-length : {names new : List (Option (List ℕ))} {o : Option (List ℕ)} → Adds names o new → length new ≡ length names + 1
 added-length {names = names} (Adds.named {x = x} f) = one-more names (Some x)
 added-length {names = names} (Adds.taken f) = one-more names None
@@ -78,5 +81,6 @@ differ names n l m hl hm (Some x) p None q e = absurd (n.plain l x p (ap (λ (z 
 differ names n l m hl hm None p (Some y) q e = absurd (n.plain m y q (ap (λ (z : List ℕ). get_or z 0 0) (sym e)))
 differ names n l m hl hm None p None q e = decimal_injective l m hl hm (ap rest e)
 
+-- what is written for two variables differs
 pub names-differ : NamesDiffer
 names-differ names l m n hl hm e = differ names n l m hl hm (get_or names l None) refl (get_or names m None) refl e

@@ -77,5 +77,6 @@ mutual
   row-fills h i j TermRow.End = refl
   row-fills h i j (TermRow.More l e rest) = ap₂ (TermRow.More l) (walk-fills h i j e) (row-fills h i j rest)
 
+-- the walk that puts types in leaves a term whose free type indexes are all below its place
 pub walk-closed : (h : ℕ → Head) (i j : ℕ) (e : Term) → type_bound e ≤ i → walked (filling h) staying i j e ≡ e
 walk-closed h i j e le = walk-fills h i j e ∙ term-closed i h e le

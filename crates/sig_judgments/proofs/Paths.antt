@@ -1,5 +1,6 @@
 -- Paths into signatures for where type: a path leads to one part or leaves structures at one name, and a part shows
 -- at most one of the own variables.
+-- Main results: leads, shows.
 use Rattle.std.specs.Prelude.{ℕ, zero, suc, pred, ◌<◌, List, [], ◌∷◌, ◌++◌, ◌≡◌, length, map}
 use Rattle.std.proofs.Common.{arith, length-append}
 use Rattle.std.proofs.Math.Path.{refl, sym, subst, ap, ◌∙◌}
@@ -141,6 +142,7 @@ shows-later k ks q n [] j cs s =
     absurd (n (s.1 ∙ (λ i. own_part (a i) (b i))))
 shows-later k ks q n (b ∷ bs) j cs s = let d = s.0 in (bs, (cc), ((cc), s.1))
 
+-- a part shows at most one of the hidden types
 pub shows : (ks : List Kind) (q : Sig) → Perhaps (λ o. Shows ks q o)
 shows [] q = none (λ o s. shows-none q o.0 o.1 o.2 s)
 shows (k ∷ ks) q = go (sig_dec q (own_part k ks)) (shows ks q)

@@ -1,4 +1,5 @@
 -- A signature with one of its hidden types fixed exists, and there is only one.
+-- Main results: refined-one.
 use Rattle.std.specs.Prelude.{List, ◌∷◌, ◌++◌, ◌≡◌}
 use Rattle.std.proofs.Math.Path.{sym, subst}
 use Rattle.omega_kinds.specs.Kind.{Kind}
@@ -28,5 +29,6 @@ refining ctx before after k u h =
     (subst (λ c. Substitutes (extend (k ∷ extend ctx before) after) c s) (sym (extend-append before after ctx))
     (unders-substitutes after (front-substitutes ctx before k u h)))
 
+-- a normal signature with a type put in for one of its hidden types has exactly one normal form
 pub refined-one : (ctx before after ks : List Kind) (k : Kind) (u : Ty) (s : Sig) → ks ≡ before ++ (k ∷ after) → HasKind ctx u k → NormalSig (extend ctx ks) s → One (λ n. NormalSigForm (extend ctx (before ++ after)) (substitute_sig (unders after (front (raise before u) Ty.Var)) s) n)
 refined-one ctx before after ks k u s e h n = put_sig-one s (refining ctx before after k u h) (subst (λ ls. NormalSig (extend ctx ls) s) e n)

@@ -1,4 +1,5 @@
 -- Each rule of signatures and declarations has exactly one conclusion or exactly one refusal.
+-- Main results: one_include, one_distinct, one_declarations.
 use Rattle.std.specs.Prelude.{List, [], ◌∷◌, ◌++◌, ◌≡◌, ◌≢◌, ◌⊎◌}
 use Rattle.std.proofs.Common.{inl, inr}
 use Rattle.std.proofs.Math.Path.{refl, sym, subst, ap, ◌∙◌}
@@ -23,6 +24,7 @@ value-only _ ValueGives.value = (refl, refl)
 value-refused : {t : Ty} {k : Kind} {why : SigWhy} → ValueRefuses t k why → (k ≢ Kind.Star) × (why ≡ KindDiffer k Kind.Star)
 value-refused (ValueRefuses.kind n) = (n, refl)
 
+-- the rule of value declarations has exactly one conclusion or one refusal
 pub one_value : OneValue
 one_value l t k = go (Kind-discrete k Kind.Star)
   where
@@ -33,24 +35,28 @@ one_value l t k = go (Kind-discrete k Kind.Star)
 type-only : {l : Name} {t : Ty} {k : Kind} (x : Abs) → TypeGives l t k x → x ≡ Abs.Ex [] (one_part l (Sig.Typ t k))
 type-only _ TypeGives.type = refl
 
+-- the rule of type declarations has exactly one conclusion
 pub one_type : OneType
 one_type l t k = (Abs.Ex [] (one_part l (Sig.Typ t k)), TypeGives.type, type-only)
 
 abstract-only : {l : Name} {k : Kind} (x : Abs) → AbstractGives l k x → x ≡ Abs.Ex (k ∷ []) (one_part l (Sig.Typ (eta k (Ty.Var 0)) k))
 abstract-only _ AbstractGives.abstract = refl
 
+-- so has that of hidden types
 pub one_abstract : OneAbstract
 one_abstract l k = (Abs.Ex (k ∷ []) (one_part l (Sig.Typ (eta k (Ty.Var 0)) k)), AbstractGives.abstract, abstract-only)
 
 module-only : {l : Name} {ks : List Kind} {s : Sig} (x : Abs) → ModuleGives l (Abs.Ex ks s) x → x ≡ Abs.Ex ks (one_part l s)
 module-only _ ModuleGives.module_ = refl
 
+-- so has that of module declarations
 pub one_module : OneModule
 one_module l (Abs.Ex ks s) = (Abs.Ex ks (one_part l s), ModuleGives.module_, module-only)
 
 signature-only : {l : Name} {y : Abs} (x : Abs) → SignatureGives l y x → x ≡ Abs.Ex [] (one_part l (Sig.Meta y))
 signature-only _ SignatureGives.signature = refl
 
+-- so has that of signature declarations
 pub one_signature : OneSignature
 one_signature l y = (Abs.Ex [] (one_part l (Sig.Meta y)), SignatureGives.signature, signature-only)
 
@@ -62,6 +68,7 @@ include-only _ (IncludeGives.include {fs = fs}) = (fs, refl, refl)
 include-refused : {ks : List Kind} {s : Sig} {why : SigWhy} → IncludeRefuses (Abs.Ex ks s) why → ((fs : SigRow) → s ≢ Sig.Str fs) × (why ≡ NotStructure)
 include-refused (IncludeRefuses.no_structure n) = (n, refl)
 
+-- the rule of includes has exactly one conclusion or one refusal
 pub one_include : OneInclude
 one_include (Abs.Ex ks s) = go (sig-structure s)
   where
@@ -74,6 +81,7 @@ one_include (Abs.Ex ks s) = go (sig-structure s)
 distinct-refused : {before : List Name} {fs : SigRow} {why : SigWhy} → DistinctRefuses before fs why → (l : Name) × FirstOld fs before l × (why ≡ Duplicate l)
 distinct-refused (DistinctRefuses.again {l = l} f) = (l, f, refl)
 
+-- names are distinct from those before, or refused in one way
 pub one_distinct : OneDistinct
 one_distinct before fs = go (new-or-old fs before)
   where
@@ -89,11 +97,13 @@ joined ks js fs gs = Abs.Ex (ks ++ js) (Sig.Str (merge (raise_sig_row js fs) gs)
 declarations-only : {ks js : List Kind} {fs gs : SigRow} (x : Abs) → DeclarationsGive (Abs.Ex ks (Sig.Str fs)) (Abs.Ex js (Sig.Str gs)) x → x ≡ joined ks js fs gs
 declarations-only _ DeclarationsGive.declarations = refl
 
+-- declarations one after the other have exactly one conclusion
 pub one_declarations : OneDeclarations
 one_declarations ks js fs gs = (joined ks js fs gs, DeclarationsGive.declarations, declarations-only)
 
 generative-only : {ks : List Kind} {s : Sig} {y : Abs} (x : Abs) → GenerativeGives (Abs.Ex ks s) y x → x ≡ Abs.Ex [] (Sig.Fun Impure ks s y)
 generative-only _ GenerativeGives.generative = refl
 
+-- generative functor signatures have exactly one conclusion
 pub one_generative : OneGenerative
 one_generative (Abs.Ex ks s) y = (Abs.Ex [] (Sig.Fun Impure ks s y), GenerativeGives.generative, generative-only)

@@ -1,4 +1,5 @@
 -- A signature with a hidden type fixed has exactly one conclusion or exactly one refusal.
+-- Main results: one_where.
 use Rattle.std.specs.Prelude.{List, [], ◌∷◌, ◌++◌, ◌≡◌, ◌≢◌, ◌⊎◌, map}
 use Rattle.std.proofs.Common.{inl, inr}
 use Rattle.std.proofs.Math.Path.{refl, sym, subst, ap, ◌∙◌}
@@ -102,6 +103,7 @@ module _ (ctx ks : List Kind) (s : Sig) (names : List Name) (u : Ty) (k : Kind) 
   decided (holds q g only never) = led q g only never (shows ks q)
   decided (refuses l g only never) = at_leaving l g only never
 
+-- the rule of fixed types has exactly one conclusion or one refusal
 pub one_where : OneWhere
 one_where ctx (Abs.Ex ks s) names u k n h =
     decided ctx ks s names u k n (normal-kind h)

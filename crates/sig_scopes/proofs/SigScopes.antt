@@ -1,4 +1,5 @@
 -- What the tests of signatures and reasons tell.
+-- Main results: abs-tells, abs-told, line-tells, line-told.
 use Rattle.std.proofs.Common.{◌≡◌, ℕ, ◌+◌, ◌^◌, ◌<◌, ◌&&◌, Bool as Truth, true, IsTrue, length, refl, sym, ◌∙◌, arith}
 use Rattle.std.specs.Prelude.{Option, Some, None}
 use Rattle.std.proofs.lemmas.Bool.{and_from, and_parts}
@@ -58,9 +59,11 @@ mutual
   sig_row-complete n (SigRow.More l s rest) i h =
       and_from (sig_scoped n s) (sig_row_scoped n rest) (sig-complete n s i.0 (omega arith)) (sig_row-complete n rest i.1 (omega arith))
 
+-- a signature that passes the test has its variables in scope
 pub abs-tells : (n : ℕ) (x : Abs) (r : Truth) → r ≡ abs_scoped n x → IsTrue r → AbsInScope n x
 abs-tells n x r is told = abs-sound n x (sym is ∙ told)
 
+-- a signature with its variables in scope, if its levels fit 64 bits, passes the test
 pub abs-told : (n : ℕ) (x : Abs) (r : Truth) → r ≡ abs_scoped n x → AbsInScope n x → n + abs_depth x < 2 ^ 64 → IsTrue r
 abs-told n x r is i h = is ∙ abs-complete n x i h
 
@@ -132,8 +135,10 @@ given-complete : (at : Span) (n : ℕ) (given : Option ElabWhy) → HasLine (ref
 given-complete at n (Some why) i h = reason-complete n why i h
 given-complete at n None i h = absurd i
 
+-- a refusal whose reason passes the test has a line
 pub line-tells : (at : Span) (n : ℕ) (given : Option ElabWhy) (r : Truth) → n < 2 ^ 64 → r ≡ given_scoped n given → IsTrue r → HasLine (refused at n given)
 line-tells at n given r w is told = given-sound at n given w (sym is ∙ told)
 
+-- the reason of a refusal that has a line, if its levels fit 64 bits, passes the test
 pub line-told : (at : Span) (n : ℕ) (given : Option ElabWhy) (r : Truth) → r ≡ given_scoped n given → HasLine (refused at n given) → n + given_depth given < 2 ^ 64 → IsTrue r
 line-told at n given r is i h = is ∙ given-complete at n given i h

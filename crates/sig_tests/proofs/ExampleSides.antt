@@ -1,4 +1,5 @@
 -- The sides of the worked matches are good ones.
+-- Main results: left_t, left_int, left_nothing.
 use Rattle.std.specs.Prelude.{[], ◌∷◌, ◌≡◌}
 use Rattle.std.proofs.Common.{subst, sym}
 use Rattle.omega_kinds.specs.Kind.{Kind}
@@ -25,11 +26,14 @@ left = (WellFormedAbs.abs well_t, (n_neutral (n_var here), tt))
 pub right_t : (g : Env) (x : Abs) → g ≡ [] → x ≡ hides_t → OkRight (kinds g) x
 right_t g x e f = subst (λ h. OkRight (kinds h) x) (sym e) (subst (λ y. OkRight [] y) (sym f) right)
 
+-- the signature that hides a type t is good
 pub left_t : (g : Env) (x : Abs) → g ≡ [] → x ≡ hides_t → OkAbs (kinds g) x
 left_t g x e f = subst (λ h. OkAbs (kinds h) x) (sym e) (subst (λ y. OkAbs [] y) (sym f) left)
 
+-- the structure with t as Int is good
 pub left_int : (g : Env) (s : Sig) → g ≡ [] → s ≡ with_int → OkSig (kinds g) s
 left_int g s e f = subst (λ h. OkSig (kinds h) s) (sym e) (subst (λ r. OkSig [] r) (sym f) (WellFormed.str (tt, tt) (WellFormedRow.more (WellFormed.typ k_int) WellFormedRow.end), (n_int, tt)))
 
+-- the empty structure is good
 pub left_nothing : (g : Env) (s : Sig) → g ≡ [] → s ≡ with_nothing → OkSig (kinds g) s
 left_nothing g s e f = subst (λ h. OkSig (kinds h) s) (sym e) (subst (λ r. OkSig [] r) (sym f) (WellFormed.str tt WellFormedRow.end, tt))

@@ -1,4 +1,5 @@
 -- Kinds, pieces and fields, one after the other.
+-- Main results: kinds-text, pieces-text, fields-text.
 use Rattle.std.proofs.Common.{◌≡◌, ℕ, zero, suc, ◌+◌, ◌*◌, ◌<◌, ◌≤◌, List, [], ◌∷◌, ◌++◌, length, get_or, map, refl, ap, ◌∙◌, append_assoc, arith}
 use Rattle.std.specs.Prelude.{flat_map, codes}
 use Rattle.std.proofs.lemmas.List.{append-nil}
@@ -19,11 +20,13 @@ use Rattle.sig_text.specs.SigText.{more_kinds_text, sig_row_text}
 abbrev pub spaced_text : SharedKind → List ℕ
 spaced_text k = codes " " then kind_text (kind_tree k)
 
+-- kinds written one by one, each after a space, are the text of the kinds
 pub kinds-text : (ks : List SharedKind) → flat_map spaced_text ks ≡ more_kinds_text (map kind_tree ks)
 unfolding ◌then◌
 kinds-text [] = refl
 kinds-text (k ∷ ks) = ap (λ (w : List ℕ). spaced_text k ++ w) (kinds-text ks) ∙ simp append_assoc
 
+-- pieces written one by one are the text of the pieces
 pub pieces-text : (ps : List Piece) → flat_map piece_text ps ≡ pieces_text ps
 unfolding ◌then◌
 pieces-text [] = refl
@@ -44,11 +47,13 @@ abbrev pub weights : List Piece → ℕ
 weights [] = 0
 weights (p ∷ ps) = weight p + weights ps
 
+-- a piece weighs no more than all of them
 pub weight-at : (ps : List Piece) (i : ℕ) (d : Piece) → i < length ps → weight (get_or ps i d) ≤ weights ps
 weight-at [] i d lt = absurd (omega arith)
 weight-at (p ∷ ps) zero d lt = omega arith
 weight-at (p ∷ ps) (suc i) d lt = omega (arith, weight-at ps i d (omega arith))
 
+-- a piece of pieces in scope is in scope
 pub scope-at : (ps : List Piece) (i : ℕ) (d : Piece) → i < length ps → PiecesInScope ps → PieceInScope (get_or ps i d)
 scope-at [] i d lt s = absurd (omega arith)
 scope-at (p ∷ ps) zero d lt s = s.0
@@ -59,16 +64,19 @@ scope-at (p ∷ ps) (suc i) d lt s = scope-at ps i d (omega arith) s.1
 abbrev pub pair_text : ℕ → Name × Sig → List ℕ
 pair_text n x = field_text n x.0 x.1
 
+-- fields written one by one are the text of their row
 pub fields-text : (n : ℕ) (xs : SigPairs) → flat_map (pair_text n) xs ≡ sig_row_text n (sig_row xs)
 unfolding ◌then◌
 fields-text n [] = refl
 fields-text n (x ∷ xs) = ap (λ (w : List ℕ). pair_text n x ++ w) (fields-text n xs) ∙ simp append_assoc
 
+-- a field is smaller than the row
 pub field-size : (xs : SigPairs) (i : ℕ) (d : Name × Sig) → i < length xs → sig_nodes (get_or xs i d).1 + 1 ≤ sig_row_nodes (sig_row xs)
 field-size [] i d lt = absurd (omega arith)
 field-size (x ∷ xs) zero d lt = omega arith
 field-size (x ∷ xs) (suc i) d lt = omega (arith, field-size xs i d (omega arith))
 
+-- a field of a row in scope is in scope
 pub field-scope : (n : ℕ) (xs : SigPairs) (i : ℕ) (d : Name × Sig) → i < length xs → SigRowInScope n (sig_row xs) → SigInScope n (get_or xs i d).1
 field-scope n [] i d lt s = absurd (omega arith)
 field-scope n (x ∷ xs) zero d lt s = s.0

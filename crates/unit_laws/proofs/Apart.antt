@@ -1,4 +1,5 @@
 -- What units mean apart is what their program means.
+-- Main results: linked-is-derived, derived-is-linked, first-is-refused, each-list.
 use Rattle.std.specs.Prelude.{List, [], ◌∷◌, ◌++◌, ◌≡◌, ◌⊎◌, map}
 use Rattle.std.proofs.Common.{inl, inr}
 use Rattle.std.proofs.Math.Path.{refl, sym, subst, ap, ◌∙◌}
@@ -112,6 +113,7 @@ units-own (UnitsMean.next p q) = (refl, units-own q)
 program-view : {bs : Binds} {m : Module} {e : Term} → ProgramMeans bs m e → BindsMean [] [] bs m × Packed [] m e
 program-view (ProgramMeans.program p q) = (p, q)
 
+-- units that are derived apart have one link, which is what their program means, and nothing else
 pub linked-is-derived : LinkedIsDerived
 linked-is-derived us ms h = go (each-program (program_of us))
   where
@@ -144,11 +146,13 @@ linked-is-derived us ms h = go (each-program (program_of us))
 pub linked-means : (us : List UnitTree) (ms : List UnitModule) (m : Module) (e : Term) → UnitsMean [] us ms → Links ms m → Packed [] m e → DerivesUnits us m e
 linked-means us ms m e h k p = ProgramMeans.program (derive [] m h (links-gives k)) p
 
+-- a program of units that means something is the link of units that are derived apart, and of no others
 pub derived-is-linked : DerivedIsLinked
 derived-is-linked us m e h =
     let r = apart us [] [] m (program-view h).0 in
     (r.0, r.1, links (own-same r.0 (units-own r.1)) r.2, λ ns d. units-one us [] r.0 ns tt r.1 d)
 
+-- the first refusal of units is that of their program, which has no other and means nothing
 pub first-is-refused : FirstIsRefused
 first-is-refused us r h = go (each-program (program_of us))
   where
@@ -159,9 +163,11 @@ first-is-refused us r h = go (each-program (program_of us))
     go (holds o q only never) = absurd (never r refused)
     go (refuses s q only never) = (refused, (λ t d. only t d ∙ sym (only r refused)), λ m e d. never (m, e) d)
 
+-- each unit of a list is derived, or one is the first that is refused
 pub each-list : EachList
 each-list us = decide us [] tt
 
+-- the refusal of a program of units is that of the first unit which is refused
 pub refused-is-first : RefusedIsFirst
 refused-is-first us r h = go (each-list us)
   where
@@ -173,5 +179,6 @@ derived-interfaces : (under : List Interface) → DerivedUnder under → OkInter
 derived-interfaces _ DerivedUnder.nothing = tt
 derived-interfaces _ (DerivedUnder.more {under = under} u m d p) = interfaces-ok-more [] under (unit_name u, sig_in m) (derived-interfaces under d) (sig-ok m (unit-ok under u m (derived-ok under d) p))
 
+-- interfaces of derived units are well formed, and in their environment a unit has exactly one outcome
 pub derived-under-is-good : DerivedUnderIsGood
 derived-under-is-good under d = let h = derived-ok under d in (derived-interfaces under d, h, λ u. each-answered (env_of under) (a_mod (unit_mod u)) h tt)

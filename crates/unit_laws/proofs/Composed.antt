@@ -1,4 +1,5 @@
 -- A unit out of the modules of its body, of its sealing and of the end of both, as they are made one after the other.
+-- Main results: body-env, both-names, unit-found.
 use Rattle.std.specs.Prelude.{[], ◌∷◌, ◌≡◌}
 use Rattle.std.proofs.Math.Path.{sym, subst, ◌∙◌}
 use Rattle.omega_kinds.specs.Name.{Name}
@@ -29,12 +30,14 @@ after_body g M = with_interface g sealing_name (sig_in M)
 abbrev pub after_both : Env → (body sealing : Module) → Env
 after_both g M N = with_interface (after_body g M) unit_result (sig_in N)
 
+-- the environment after a unit's body is good
 pub body-env : (g : Env) (b : Mod) (M : Module) → OkEnv g → ModMeans g b M → OkEnv (after_body g M)
 body-env g b M h p = interface-ok g sealing_name M h (mod_ok g b M h p)
 
 pub both-env : (g : Env) (b c : Mod) (M N : Module) → OkEnv g → ModMeans g b M → ModMeans (after_body g M) c N → OkEnv (after_both g M N)
 both-env g b c M N h p q = let i = body-env g b M h p in interface-ok (after_body g M) unit_result N i (mod_ok (after_body g M) c N i q)
 
+-- the hidden names of a unit's body and of its sealing are found after both, and rise
 pub both-names : (g : Env) (M N : Module) → Names (after_both g M N) (unit_result ∷ sealing_name ∷ [])
 both-names g M N = names-under (after_body g M) (sealing_name ∷ []) unit_result N (names-under g [] sealing_name M (tt, tt))
 
@@ -70,6 +73,7 @@ never {l = l} fs s q h (ProjectRefuses.no_part {fs = gs} n) = n s (subst (λ row
     same-row : {fs gs : SigRow} → Sig.Str fs ≡ Sig.Str gs → fs ≡ gs
     same-row e = cc
 
+-- the projection of a unit's result is not refused
 pub unit-found : {at : Span} {a : SigEx} {b : Mod} {M N end : Module} {why : ModWhy} (g : Env) → Parts g at a b M N end → Joins (kinds g) M N end (λ whole. ProjectRefuses whole unit_result why) → ⊥
 unit-found {why = why} g p j =
     let q = joined g (λ whole. ProjectRefuses whole unit_result why) p j in

@@ -1,4 +1,5 @@
 -- A unit out of its body and its sealing: what it means, how it is refused, and its signature.
+-- Main results: sealing-refused, sig-of-unit.
 use Rattle.std.specs.Prelude.{List, [], ◌∷◌, ◌++◌, ◌≡◌, Some}
 use Rattle.std.proofs.Common.{inl, append-nil}
 use Rattle.std.proofs.Math.Path.{refl, subst, sym, ap, ◌∙◌}
@@ -44,6 +45,7 @@ unit-means {M = M} {N = N} p q l r s t = ModMeans.mod_project (ModMeans.mod_stru
 pub body-refused : {g : Env} {at : Span} {a : SigEx} {b : Mod} {r : Refusal} → Refused g (a_mod b) r → Refused g (a_mod (sealed at b a)) r
 body-refused h = Refused.inside (inl (refl, refl)) (Refused.inside (inl (refl, refl)) (first-refused h))
 
+-- a unit is refused where its sealing is
 pub sealing-refused : {g : Env} {at : Span} {a : SigEx} {b : Mod} {r : Refusal} (M : Module) → ModMeans g b M → Refused (with_interface g sealing_name (sig_in M)) (a_mod (unit_sealing at a)) r → Refused g (a_mod (sealed at b a)) r
 sealing-refused M p h = Refused.inside (inl (refl, refl)) (Refused.inside (inl (refl, refl)) (rest-refused M p (first-refused h)))
 
@@ -65,6 +67,7 @@ seq-view : {ctx : List Kind} {M rest whole : Module} → Seq ctx M rest whole �
 seq-view (Seq.both_pure a b i) = record { effects = refl; hidden = refl; last = refl }
 seq-view (Seq.some_impure j p q r) = record { effects = sym j; hidden = refl; last = refl }
 
+-- a module in a row with a rest has the signature body of the rest
 pub body-same : {ctx : List Kind} {M rest whole : Module} → Seq ctx M rest whole → body_in whole ≡ body_in rest
 body-same q = (seq-view q).last
 
@@ -117,6 +120,7 @@ signature g at x a b m (made f (Abs.Ex ks s) ts e) (made h (Abs.Ex js t) us d) e
     let effects : effect_in m ≡ f = field.effects ∙ (whole.effects ∙ (ap (joined f) inner.effects ∙ joined-pure f h (effect_in end) sv.1 ev.0)) in
     unit_sig p sv.0 (abs-of m ∙ (λ i. Abs.Ex (hidden i) (last i))) effects
 
+-- a unit's signature is the written one, with the types that its body hides before its own
 pub sig-of-unit : SigOfUnit
 sig-of-unit g at x a b m h =
     let v = project-view h in

@@ -1,4 +1,5 @@
 -- What a phrase means is given by its rule.
+-- Main results: means-runs.
 use Rattle.std.specs.Prelude.{List, ◌≡◌, true, false}
 use Rattle.std.proofs.Math.Path.{refl}
 use Rattle.omega_kinds.specs.Kind.{Kind}
@@ -124,6 +125,7 @@ binds-runs (BindsMean.next_bind {b = BindAt at (BindInclude m)} p q s) = elim p 
 binds-runs (BindsMean.next_bind {b = BindAt at _} p q s) = (_, p, (_, q, (_, s, refl)))
 binds-runs (BindsMean.next_include p q s) = (_, p, (_, refl, (_, q, (_, s, refl))))
 
+-- what a task means is given by the steps of its rule
 pub means-runs : (g : Env) (a : Task) (o : Result a) → Means g a o → Runs (steps g a) o
 means-runs g (a_type a) o p = type-runs p
 means-runs g (type_args at t k rest) o p = type_args-runs at p

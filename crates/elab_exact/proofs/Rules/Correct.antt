@@ -1,4 +1,5 @@
 -- What the rule of a phrase gives is what the phrase means.
+-- Main results: steps-sound.
 use Rattle.std.specs.Prelude.{◌∷◌, List, ◌≡◌, Bool, true, false}
 use Rattle.std.proofs.Math.Path.{refl, sym, subst}
 use Rattle.omega_kinds.specs.Kind.{Kind}
@@ -151,6 +152,7 @@ binds-sound g before NoBinds = λ o c. BindsMean.no_binds c
 binds-sound g before (MoreBinds (BindAt at (BindInclude m)) bs) = after_include-sound g before at m bs
 binds-sound g before (MoreBinds (BindAt at _) bs) = λ o p. after_bind-sound g before _ bs o.0 o.1 p
 
+-- what the steps of a task's rule give is what the task means
 pub steps-sound : (g : Env) (a : Task) → Sound (steps g a) (Means g a)
 steps-sound g (a_type a) = type-sound g a
 steps-sound g (type_args at t k rest) = type_args-sound g at t k rest

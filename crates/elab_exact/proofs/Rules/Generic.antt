@@ -1,4 +1,5 @@
 -- From the steps of a rule to exactly one answer.
+-- Main results: runs-sound, perhaps-some.
 use Rattle.std.specs.Prelude.{◌≡◌, ◌⊎◌}
 use Rattle.std.proofs.Common.{inl, inr}
 use Rattle.std.proofs.Math.Path.{refl, sym, subst}
@@ -109,6 +110,7 @@ Sound (Rule.gives x) P = P x
 Sound (Rule.need g a go) P = (o : Result a) → Means g a o → Sound (go o) P
 Sound (Rule.ask {B} Q T go) P = (b : B) → Q b → Sound (go b) P
 
+-- what holds of all that a rule gives holds of what it gives at the end of a run
 pub runs-sound : {A : Type 0} (R : Rule A) (P : A → Type 0) → Sound R P → (y : A) → Runs R y → P y
 runs-sound (Rule.gives x) P s y e = subst P e s
 runs-sound (Rule.need g a go) P s y r = runs-sound (go r.0) P (s r.0 r.1) y r.2
@@ -120,16 +122,20 @@ answer g a c s t = carried (runs-sound (steps g a) (Means g a) s) c (λ r. stops
 
 -- ---- single steps
 
+-- a condition that one value at most meets has exactly one outcome, the value or the one refusal
 pub perhaps-some : {B : Type 0} {P : B → Type 0} (r : Refusal) → Perhaps P → Verdict P (λ q. ((b : B) → P b → ⊥) × (q ≡ r))
 perhaps-some r (one b p only) = holds b p only (λ q h. h.0 b p)
 perhaps-some r (none n) = refuses r (n, refl) (λ q h. h.1) n
 
+-- a condition that is decided has exactly one outcome: it holds, or the one refusal
 pub dec-test : {P : Type 0} (r : Refusal) → Dec P → Verdict {A = Unit {0}} (λ u. P) (λ q. (P → ⊥) × (q ≡ r))
 dec-test r (yes p) = holds tt p (λ u q. refl) (λ q h. h.0 p)
 dec-test r (no n) = refuses r (n, refl) (λ q h. h.1) (λ u p. n p)
 
+-- a condition that exactly one value meets has exactly one outcome, and no refusal
 pub one-the : {B : Type 0} {P : B → Type 0} → One P → Verdict {R = Refusal} P (λ q. ⊥)
 one-the o = holds o.0 o.1 o.2 (λ q h. h)
 
+-- a rule that stops has exactly one outcome, its refusal
 pub stopped : (r : Refusal) → Verdict {A = ⊥} (λ b. Unit {0}) (λ q. q ≡ r)
 stopped r = refuses r refl (λ q e. e) (λ b u. b)
