@@ -123,9 +123,11 @@ module _ (r : Row) (t : Ty) where
       × ((bs : List FieldExp) → BranchesGive r t before bs → BranchesGive r t [] (exp_fields xs ++ bs))
       × ((bs : List FieldExp) (why : CoreWhy) → BranchesRefuse r t before bs why → BranchesRefuse r t [] (exp_fields xs ++ bs) why)
 
+  -- before the first branch, all branches are left
   pub branches-begin : (whole : List (Name × Typed)) → BranchesLeft whole whole []
   branches-begin whole = ([], [], none, refl, λ bs g. g, λ bs why q. q)
 
+  -- one more branch of a new name, of a label of the sum and of the result's type is entered
   pub branches-next : (whole rest : List (Name × Typed)) (x : Name × Typed) (u : Ty) (es : List (Name × Typed)) → is_some (at_name x.0 es) ≡ false → HasPart r (Label.Name x.0) u → x.1.ty ≡ t → BranchesLeft whole (x ∷ rest) es → BranchesLeft whole rest (insert_entry name_cmp es x.0 x.1)
   branches-next whole rest x u es h p q (xs, before, s, e, give, refuse) =
       let n = none-new x.0 s (none-is (at_name x.0 es) h) in (
@@ -137,18 +139,22 @@ module _ (r : Row) (t : Ty) where
         λ bs why g. subst (λ ys. BranchesRefuse r t [] ys why) (sym (exps-push xs x bs)) (refuse (field_exp x.0 x.1.ty x.1.term ∷ bs) why (subst (λ v. BranchesRefuse r t before (field_exp x.0 v x.1.term ∷ bs) why) (sym q) (BranchesRefuse.later_branch n p g))),
       )
 
+  -- a branch whose name is entered already is refused
   pub branches-again : (whole rest : List (Name × Typed)) (x : Name × Typed) (es : List (Name × Typed)) → is_some (at_name x.0 es) ≡ true → BranchesLeft whole (x ∷ rest) es → BranchesRefuse r t [] (exp_fields whole) (DuplicateField x.0)
   branches-again whole rest x es h (xs, before, s, e, give, refuse) =
       subst (λ ys. BranchesRefuse r t [] ys (DuplicateField x.0)) (sym e) (refuse (exp_fields (x ∷ rest)) (DuplicateField x.0) (BranchesRefuse.name_again (λ n. some-is (at_name x.0 es) h (new-none x.0 s n))))
 
+  -- a branch whose label the sum lacks is refused
   pub branches-label : (whole rest : List (Name × Typed)) (x : Name × Typed) (es : List (Name × Typed)) → is_some (at_name x.0 es) ≡ false → ((u : Ty) → HasPart r (Label.Name x.0) u → ⊥) → BranchesLeft whole (x ∷ rest) es → BranchesRefuse r t [] (exp_fields whole) (NoField x.0)
   branches-label whole rest x es h p (xs, before, s, e, give, refuse) =
       subst (λ ys. BranchesRefuse r t [] ys (NoField x.0)) (sym e) (refuse (exp_fields (x ∷ rest)) (NoField x.0) (BranchesRefuse.no_label (none-new x.0 s (none-is (at_name x.0 es) h)) p))
 
+  -- a branch of another type than the result is refused
   pub branches-type : (whole rest : List (Name × Typed)) (x : Name × Typed) (u : Ty) (es : List (Name × Typed)) → is_some (at_name x.0 es) ≡ false → HasPart r (Label.Name x.0) u → x.1.ty ≢ t → BranchesLeft whole (x ∷ rest) es → BranchesRefuse r t [] (exp_fields whole) (Differ x.1.ty t)
   branches-type whole rest x u es h p d (xs, before, s, e, give, refuse) =
       subst (λ ys. BranchesRefuse r t [] ys (Differ x.1.ty t)) (sym e) (refuse (exp_fields (x ∷ rest)) (Differ x.1.ty t) (BranchesRefuse.branch_type (none-new x.0 s (none-is (at_name x.0 es) h)) p d))
 
+  -- when no branches are left, they pass, and the entries are their terms
   pub branches-end : (whole : List (Name × Typed)) (es : List (Name × Typed)) → BranchesLeft whole [] es → BranchesGive r t [] (exp_fields whole) × HasBranches (exp_fields whole) es
   branches-end whole es (xs, before, s, e, give, refuse) =
       (subst (BranchesGive r t []) (sym e) (give [] BranchesGive.no_branches), subst (λ bs. HasBranches bs es) (sym (e ∙ nothing-more (exp_fields xs))) (seen-has s))
@@ -208,9 +214,11 @@ module _ (es : List (Name × Typed)) where
   LabelsLeft whole rest ts =
       (done : Pairs) × (whole ≡ done ++ rest) × ((bs : List FieldExp) → HasBranches bs es → InOrder bs (row done) (term_row ts)) × ((l : Label) → MayFollow done l → MayFollow ts l)
 
+  -- before the first label, all labels of the sum are left
   pub labels-begin : (whole : Pairs) → LabelsLeft whole whole []
   labels-begin whole = ([], refl, λ bs h. InOrder.no_labels, λ l h. h)
 
+  -- the next label may follow those of the branches that are in order
   pub labels-follow : (whole rest : Pairs) (x : Label × Ty) (ts : TermPairs) → Rises whole → LabelsLeft whole (x ∷ rest) ts → MayFollow ts x.0
   labels-follow whole rest x ts r (done, e, ordered, follow) = follow x.0 (follows-first done x rest (subst Rises e r))
 
@@ -218,6 +226,7 @@ module _ (es : List (Name × Typed)) where
   push-done [] x rest = refl
   push-done (y ∷ done) x rest = ap (λ ys. y ∷ ys) (push-done done x rest)
 
+  -- the branch of the next label is put behind those that are in order
   pub labels-next : (whole rest : Pairs) (x : Label × Ty) (a : Typed) (ts : TermPairs) → at_key x.0 es ≡ Some a → LabelsLeft whole (x ∷ rest) ts → LabelsLeft whole rest (ts ++ (x.0, a.term) ∷ [])
   labels-next whole rest x a ts h (done, e, ordered, follow) = (
     done ++ x ∷ [],
@@ -226,6 +235,7 @@ module _ (es : List (Name × Typed)) where
     λ l m. last-follows ts (x.0, a.term) l (last-before done x l m),
   )
 
+  -- a label without an entry is the least label without a branch
   pub labels-missing : (whole rest : Pairs) (x : Label × Ty) (ts : TermPairs) → Rises whole → at_key x.0 es ≡ None → LabelsLeft whole (x ∷ rest) ts → (bs : List FieldExp) → HasBranches bs es → LeastWithout bs (row whole) x.0
   labels-missing whole rest x ts r h (done, e, ordered, follow) bs has =
       let n : HasNoBranch bs x.0 = subst (λ o. MatchOption o (HasNoBranch bs x.0) (λ b. HasBranch bs x.0 b.term)) h (has x.0) in
@@ -236,5 +246,6 @@ module _ (es : List (Name × Typed)) where
   nothing-left [] = refl
   nothing-left (x ∷ xs) = ap (λ ys. x ∷ ys) (nothing-left xs)
 
+  -- when no labels are left, the branches are in the order of the sum's labels
   pub labels-end : (whole : Pairs) (ts : TermPairs) → LabelsLeft whole [] ts → (bs : List FieldExp) → HasBranches bs es → InOrder bs (row whole) (term_row ts)
   labels-end whole ts (done, e, ordered, follow) bs has = subst (λ ls. InOrder bs (row ls) (term_row ts)) (sym (e ∙ nothing-left done)) (ordered bs has)

@@ -44,12 +44,15 @@ named : (l m : Name) → l ≢ m → Label.Name l ≢ Label.Name m
 named l m n e = n (ap spelling e)
 
 module _ {A : Type 0} where
+  -- an entry of a name before the first one is put in front
   pub entry-less : (l : Name) (a : A) (e : Name × A) (es : List (Name × A)) → name_cmp l e.0 ≡ Less → insert_entry name_cmp (e ∷ es) l a ≡ (l, a) ∷ e ∷ es
   entry-less l a e es p = ap (λ o. match_ordering o ((l, a) ∷ e ∷ es) ((e.0, a) ∷ es) (e ∷ insert_entry name_cmp es l a)) p
 
+  -- an entry of the first one's name takes its place
   pub entry-equal : (l : Name) (a : A) (e : Name × A) (es : List (Name × A)) → name_cmp l e.0 ≡ Equal → insert_entry name_cmp (e ∷ es) l a ≡ (e.0, a) ∷ es
   entry-equal l a e es p = ap (λ o. match_ordering o ((l, a) ∷ e ∷ es) ((e.0, a) ∷ es) (e ∷ insert_entry name_cmp es l a)) p
 
+  -- an entry of a name after the first one is put among the others
   pub entry-greater : (l : Name) (a : A) (e : Name × A) (es : List (Name × A)) → name_cmp l e.0 ≡ Greater → insert_entry name_cmp (e ∷ es) l a ≡ e ∷ insert_entry name_cmp es l a
   entry-greater l a e es p = ap (λ o. match_ordering o ((l, a) ∷ e ∷ es) ((e.0, a) ∷ es) (e ∷ insert_entry name_cmp es l a)) p
 
@@ -90,10 +93,12 @@ module _ {A : Type 0} where
 
   -- the rows of the entries
 
+  -- the row of types that entries make
   abbrev pub type_rows : (A → Ty) → List (Name × A) → Row
   type_rows f [] = Row.End
   type_rows f (x ∷ xs) = Row.More (Label.Name x.0) (f x.1) (type_rows f xs)
 
+  -- the row of terms that entries make
   abbrev pub term_rows : (A → Term) → List (Name × A) → TermRow
   term_rows g [] = TermRow.End
   term_rows g (x ∷ xs) = TermRow.More (Label.Name x.0) (g x.1) (term_rows g xs)
@@ -132,6 +137,7 @@ module _ {A : Type 0} where
 
   -- fields that were seen one after the other, their names, the last one first, and the map that has them
 
+  -- fields seen one after the other, their names, the last one first, and the entries that they make
   pub data Seen : List (Name × A) → List Name → List (Name × A) → Type 0 where
     none : Seen [] [] []
     more : (xs : List (Name × A)) {before : List Name} (es : List (Name × A)) (l : Name) (a : A)
@@ -145,6 +151,7 @@ module _ {A : Type 0} where
     new-none l none n = refl
     new-none l (more xs es m a s g) n = none-other l m a es n.0 (new-none m s g) (new-none l s n.1)
 
+    -- a name without an entry is none of those seen
     pub none-new : {xs : List (Name × A)} {before : List Name} {es : List (Name × A)} (l : Name) → Seen xs before es → at_name l es ≡ None → IsNew l before
     none-new l none h = tt
     none-new l (more xs es m a s g) h =
@@ -155,14 +162,17 @@ module _ {A : Type 0} where
   type_put f [] r = r
   type_put f (x ∷ xs) r = insert_part (Label.Name x.0) (f x.1) (type_put f xs r)
 
+  -- the terms of fields put into a row, the last one first
   abbrev pub term_put : (A → Term) → List (Name × A) → TermRow → TermRow
   term_put g [] r = r
   term_put g (x ∷ xs) r = insert_term (Label.Name x.0) (g x.1) (term_put g xs r)
 
+  -- one more field at the end is put into the row of types before the others
   pub type-push : (f : A → Ty) (xs : List (Name × A)) (x : Name × A) (r : Row) → type_put f (xs ++ x ∷ []) r ≡ type_put f xs (insert_part (Label.Name x.0) (f x.1) r)
   type-push f [] x r = refl
   type-push f (y ∷ xs) x r = ap (insert_part (Label.Name y.0) (f y.1)) (type-push f xs x r)
 
+  -- one more field at the end is put into the row of terms before the others
   pub term-push : (g : A → Term) (xs : List (Name × A)) (x : Name × A) (r : TermRow) → term_put g (xs ++ x ∷ []) r ≡ term_put g xs (insert_term (Label.Name x.0) (g x.1) r)
   term-push g [] x r = refl
   term-push g (y ∷ xs) x r = ap (insert_term (Label.Name y.0) (g y.1)) (term-push g xs x r)
@@ -189,6 +199,7 @@ module _ {A : Type 0} where
       type-insert f l a es (new-none l s n) ∙
       (ap (insert_part (Label.Name l) (f a)) (type-seen f s) ∙ (type-first f l (f a) Row.End s n ∙ sym (type-push f xs (l, a) Row.End)))
 
+  -- the entries of the fields seen make the row into which their terms are put
   pub term-seen : (g : A → Term) {xs : List (Name × A)} {before : List Name} {es : List (Name × A)} → Seen xs before es → term_rows g es ≡ term_put g xs TermRow.End
   term-seen g none = refl
   term-seen g (more xs es l a s n) =

@@ -105,6 +105,7 @@ module _ (v : Version) where
       (rename_fields-legible v (past js) None fs h) g) (no_fields-joined (past js) names fs gs a n)
 
   mutual
+    -- a type phrase that is spelled means a legible type
     pub ty-legible : (g : Env) {a : TyEx} {t : Ty} {k : Kind} → OkEnv g → EnvLegible v g → TyExSpelled v a → TyMeans g a t k → TyLegible v t
     ty-legible g w l s (TyMeans.ty_path m p) = type_path-legible v (mod-legible g w l s m) p
     ty-legible g w l s (TyMeans.ty_int BaseGives.int) = tt
@@ -130,6 +131,7 @@ module _ (v : Version) where
     field_tys-legible g {names} w l s (FieldTysMean.next_field_ty {x = x} {t = t} m a f) (RecordTypeGives.next_field {row = row} n r) =
         one-field names (name_of x) t row n s.0 (ty-legible g w l s.1 a) (field_tys-legible g w l s.2 f r)
 
+    -- an expression that is spelled means a legible type and a legible term
     pub exp-legible : (g : Env) {a : Exp} {t : Ty} {e : Term} → OkEnv g → EnvLegible v g → ExpSpelled v a → ExpMeans g a t e → TyLegible v t × TermLegible v e
     exp-legible g w l s (ExpMeans.exp_path m p) = value_path-legible v (mod-legible g w l s m) p
     exp-legible g w l s (ExpMeans.exp_int LiteralGives.int) = (tt, s)
@@ -211,6 +213,7 @@ module _ (v : Version) where
           branches-legible g w l s.3 n h r,
         )
 
+    -- a signature phrase that is spelled means a legible signature
     pub sig-legible : (g : Env) {a : SigEx} {x : Abs} → OkEnv g → EnvLegible v g → SigExSpelled v a → SigMeans g a x → AbsLegible v x
     sig-legible g w l s (SigMeans.sig_path m p) = sig_path-legible v (mod-legible g w l s m) p
     sig-legible g w l s (SigMeans.sig_decls d) = good-abs (decls-legible g w l s d)
@@ -240,6 +243,7 @@ module _ (v : Version) where
         joined-decls ks fs n h (decls-legible (named_fields (type_vars g ks) fs) inner
         (named_fields-legible v None (type_vars g ks) fs (type_vars-legible v g ks l) h) s.1 r)
 
+    -- a module phrase that is spelled means a legible module
     pub mod-legible : (g : Env) {a : Mod} {m : Module} → OkEnv g → EnvLegible v g → ModSpelled v a → ModMeans g a m → ModuleLegible v m
     mod-legible g w l s (ModMeans.mod_name {x = x} (NamedGives.named p)) = let o = found-legible v g (name_of x) l p in (o.0, tt, o.1)
     mod-legible g w l s (ModMeans.mod_struct b) = binds-legible g w l tt tt s b
@@ -273,6 +277,7 @@ module _ (v : Version) where
         (s.0, (h, tt, one_field-legible v Label.Sig (Term.Lam (enc_abs y) (Term.Var 0)) tt (enc_abs-legible v y h, tt)))
     bind-legible g w l s (BindMeans.bind_module m) = (s.0, mod-legible g w l s.1 m)
 
+    -- bindings that are spelled mean a legible module
     pub binds-legible : (g : Env) {names : List Name} {a : Binds} {m : Module} → OkEnv g → EnvLegible v g → NamesRise names → NamesSpelled names
         → BindsSpelled v a → BindsMean g names a m → ModuleLegible v m
     binds-legible g {names} w l o n s (BindsMean.no_binds c) = let p = collected-legible v None l (follow-none names) o n c in (p.0, tt, p.1)

@@ -47,6 +47,7 @@ fresh_term-insert : (m l : Label) (e : Term) (row : TermRow) → m ≢ l → Fre
 fresh_term-insert m l e TermRow.End d f = (d, tt)
 fresh_term-insert m l e (TermRow.More n u rest) d f = pick (FreshTerm m) (label_before l n) (λ q. (d, f)) (λ q. (f.0, fresh_term-insert m l e rest d f.1))
 
+-- none of the names is a label of the row of terms
 abbrev pub FreshTermAll : List Name → TermRow → Type 0
 FreshTermAll [] row = Unit {0}
 FreshTermAll (l ∷ ls) row = FreshTerm (Label.Name l) row × FreshTermAll ls row
@@ -77,6 +78,7 @@ with_name-spelled l (m ∷ ms) h g = pick NamesSpelled (same_name l m) (λ e. g)
 module _ (v : Version) where
   -- record types and record terms
 
+  -- a legible row with a legible part of a fresh label inserted is legible
   pub insert_part-legible : (last : Option Label) (l : Label) (t : Ty) (row : Row) → follows last l ≡ true → LabelSpelled l → TyLegible v t → Fresh l row
       → RowLegible v last row → RowLegible v last (insert_part l t row)
   insert_part-legible last l t Row.End f s h n g = (f, s, h, tt)
@@ -84,6 +86,7 @@ module _ (v : Version) where
       pick (RowLegible v last) (label_before l m) (λ e. (f, s, h, (e, g.1, g.2, g.3)))
       (λ e. (g.0, g.1, g.2, insert_part-legible (Some m) l t rest (later l m n.0 e) s h n.1 g.3))
 
+  -- a legible row of terms with a legible field of a fresh label inserted is legible
   pub insert_term-legible : (last : Option Label) (l : Label) (e : Term) (row : TermRow) → follows last l ≡ true → LabelSpelled l → TermLegible v e
       → FreshTerm l row → TermRowLegible v last row → TermRowLegible v last (insert_term l e row)
   insert_term-legible last l e TermRow.End f s h n g = (f, s, h, tt)
@@ -91,12 +94,14 @@ module _ (v : Version) where
       pick (TermRowLegible v last) (label_before l m) (λ q. (f, s, h, (q, g.1, g.2, g.3)))
       (λ q. (g.0, g.1, g.2, insert_term-legible (Some m) l e rest (later l m n.0 q) s h n.1 g.3))
 
+  -- each part of a legible row is legible, and its label is spelled
   pub part-legible : {row : Row} {l : Label} {t : Ty} (last : Option Label) → RowLegible v last row → HasPart row l t → LabelSpelled l × TyLegible v t
   part-legible last h HasPart.here = (h.1, h.2)
   part-legible last h (HasPart.there {m = m} n p) = part-legible (Some m) h.3 p
 
   -- branches of a case
 
+  -- the terms of fields are legible
   abbrev pub PartsLegible : List FieldExp → Type 0
   PartsLegible [] = Unit {0}
   PartsLegible (field l t e ∷ rest) = TermLegible v e × PartsLegible rest
@@ -130,6 +135,7 @@ module _ (v : Version) where
   none-again l SigRow.End h = tt
   none-again l (SigRow.More m s rest) h = ((λ e. before-differs (Label.Name l) (Label.Name m) h.0 (λ i. Label.Name (e i))), none-later l m rest h.0 h.3)
 
+  -- the fields of two legible structures that are apart are legible together
   pub merge-legible : (last : Option Label) (fs gs : SigRow) → Apart fs gs → FieldsLegible v last fs → FieldsLegible v None gs
       → FieldsLegible v None (merge fs gs)
   merge-legible last SigRow.End gs a h g = g
@@ -137,6 +143,7 @@ module _ (v : Version) where
       insert_field-legible None l s (merge fs gs) refl h.1 h.2 (merge-none l fs gs (none-again l fs h.3) a.0)
       (merge-legible (Some (Label.Name l)) fs gs a.1 h.3 g)
 
+  -- names that have a spelling do so with the names of legible fields put in their places
   pub with_names-spelled : (last : Option Label) (fs : SigRow) (names : List Name) → FieldsLegible v last fs → NamesSpelled names
       → NamesSpelled (with_names fs names)
   with_names-spelled last SigRow.End names h g = g

@@ -14,9 +14,11 @@ use Rattle.elab_spelling.specs.Legible.{TyLegible, TypesLegible}
 use Rattle.elab_spelling.proofs.Types.{normal-legible, legible-renamed}
 
 module _ (v : Version) where
+  -- the normal form of a legible type is legible
   pub form-legible : {ctx : List Kind} {t n : Ty} {k : Kind} → NormalForm ctx t k n → TyLegible v t → TyLegible v n
   form-legible {ctx} {t} f h = subst (TyLegible v) (sym (form-is f)) (normal-legible v ctx t h)
 
+  -- so are the normal forms of legible types
   pub forms-legible : {ctx ks : List Kind} {ts ns : List Ty} → NormalForms ctx ts ks ns → TypesLegible v ts → TypesLegible v ns
   forms-legible NormalForms.none h = tt
   forms-legible (NormalForms.next f fs) h = (form-legible f h.0, forms-legible fs h.1)

@@ -131,6 +131,7 @@ module _ (v : Version) where
   any_types-legible [] = tt
   any_types-legible (k ∷ ks) = (any_type-legible k, any_types-legible ks)
 
+  -- two lists of legible types are legible in a row
   pub append-legible : (ts us : List Ty) → TypesLegible v ts → TypesLegible v us → TypesLegible v (ts ++ us)
   append-legible [] us h g = g
   append-legible (t ∷ ts) us h g = (h.0, append-legible ts us h.1 g)
@@ -292,6 +293,7 @@ module _ (v : Version) where
   fns-keep zero = (λ ctx s r h g. tt, λ ctx x y h g. tt, λ ctx s x h g. tt)
   fns-keep (suc n) = let k = fns-keep n in (sub_step-keeps (fns n) k, abs_step-keeps (fns n) k, match_step-keeps (fns n) k)
 
+  -- a match of legible signatures finds legible types and a legible coercion
   pub match-legible : {ctx : List Kind} {s : Sig} {x : Abs} {ts : List Ty} {f : Term} → OkSig ctx s → OkRight ctx x → Match ctx s x ts f → SigLegible v s
       → AbsLegible v x → TypesLegible v ts × TermLegible v f
   match-legible {ctx} {s} {x} {ts} {f} w r m h g = subst MatchedLegible (((match_sig_gives ctx s x w r).0 ts f).1 m)

@@ -44,10 +44,12 @@ use Rattle.elab_spelling.proofs.Fields.{Follow, follow-rise}
 module _ (v : Version) where
   -- environments
 
+  -- further type variables keep an environment legible
   pub type_vars-legible : (g : Env) (ks : List Kind) → EnvLegible v g → EnvLegible v (type_vars g ks)
   type_vars-legible g [] h = h
   type_vars-legible g (k ∷ ks) h = type_vars-legible (TypeVar k ∷ g) ks h
 
+  -- a legible environment with the fields of a legible structure is legible
   pub named_fields-legible : (last : Option Label) (g : Env) (fs : SigRow) → EnvLegible v g → FieldsLegible v last fs → EnvLegible v (named_fields g fs)
   named_fields-legible last g SigRow.End h f = h
   named_fields-legible last g (SigRow.More l s rest) h f = named_fields-legible (Some (Label.Name l)) (Named l s ∷ g) rest (f.2, h) f.3
@@ -83,11 +85,13 @@ module _ (v : Version) where
       let e = eta-legible v k (Ty.Var zero) tt in
       either-legible (same_name x y) (type_param k) (find g x) (e, type_term-legible v (eta k (Ty.Var zero)) k e) (find-legible g x h)
 
+  -- what is found for a name in a legible environment is legible
   pub found-legible : (g : Env) (x : Name) {s : Sig} {e : Term} → EnvLegible v g → find g x ≡ Some (s, e) → SigLegible v s × TermLegible v e
   found-legible g x h p = subst FoundLegible p (find-legible g x h)
 
   -- types and values
 
+  -- the result type of an operation is legible
   pub result_type-legible : (o : Op) → TyLegible v (result_type o)
   result_type-legible Op.Add = tt
   result_type-legible Op.Sub = tt
@@ -97,6 +101,7 @@ module _ (v : Version) where
   result_type-legible Op.Less = tt
   result_type-legible Op.Equal = tt
 
+  -- the type of a path to a legible module is legible
   pub type_path-legible : {ctx : List Kind} {m : Module} {t : Ty} {k : Kind} → ModuleLegible v m → TypeOfPath ctx m t k → TyLegible v t
   type_path-legible h (TypeOfPath.type_of {ks = ks} (Outside.outside u c n)) = outside-legible v ks c n h.0
 
@@ -104,10 +109,12 @@ module _ (v : Version) where
   value_of-legible Pure ks d u h g = (h, tt)
   value_of-legible Impure ks d u h g = opens-legible v ks d u (Term.Get (Term.Var zero) Label.Val) h g (tt, tt)
 
+  -- the value of a path to a legible module is legible, and so is its type
   pub value_path-legible : {ctx : List Kind} {m : Module} {t : Ty} {e : Term} → ModuleLegible v m → ValueOfPath ctx m t e → TyLegible v t × TermLegible v e
   value_path-legible h (ValueOfPath.value_at {e = f} {ks = ks} {t = t} {d = d} (Outside.outside u c n)) =
       (outside-legible v ks c n h.0, value_of-legible f ks d (enc_abs (Abs.Ex ks (Sig.Val t))) h.2 (enc_abs-legible v (Abs.Ex ks (Sig.Val t)) h.0))
 
+  -- the signature of a path to a legible module is legible
   pub sig_path-legible : {ctx : List Kind} {m : Module} {x : Abs} → ModuleLegible v m → SigOfPath ctx m x → AbsLegible v x
   sig_path-legible h (SigOfPath.sig_of {ks = ks} (SigOutside.outside y c n)) = outside_abs-legible v ks c n h.0
 
@@ -117,6 +124,7 @@ module _ (v : Version) where
   applied_all-legible ks [] = tt
   applied_all-legible ks (b ∷ bs) = (applied-legible v ks (Ty.Var (past bs zero)) tt, applied_all-legible ks bs)
 
+  -- the lifted signature of a legible parameter and a legible result is legible
   pub lift-legible : {ctx ks : List Kind} {s : Sig} {x y : Abs} → SigLegible v s → AbsLegible v x → Lift ctx ks s x y → AbsLegible v y
   lift-legible {ks = ks} {s = s} {x = Abs.Ex bs r} h g (lift f) =
       form_abs-legible v f (
@@ -125,10 +133,12 @@ module _ (v : Version) where
             (puts-legible v (map (applied ks) (own_vars bs)) (λ i. Ty.Var (lifts ks (past bs) i)) (applied_all-legible ks bs) (λ i. tt)) g,
       )
 
+  -- the lifted types of legible types are legible
   pub lifted_types-legible : (ks : List Kind) (ts : List Ty) → TypesLegible v ts → TypesLegible v (lifted_types ks ts)
   lifted_types-legible ks [] h = tt
   lifted_types-legible ks (t ∷ ts) h = (lam_over-legible v ks t h.0, lifted_types-legible ks ts h.1)
 
+  -- a legible signature with a hidden type fixed to a legible one is legible
   pub refined-legible : {ctx : List Kind} {x y : Abs} {names : List Name} {u : Ty} {k : Kind} → AbsLegible v x → TyLegible v u → Refined ctx x names u k y
       → AbsLegible v y
   refined-legible h g (Refined.refined before after {s = s} {u = u} e l f) =
@@ -138,10 +148,12 @@ module _ (v : Version) where
 
   -- modules
 
+  -- the packed term of a legible module is legible
   pub packed-legible : {ctx : List Kind} {m : Module} {d : Term} → ModuleLegible v m → Packed ctx m d → TermLegible v d
   packed-legible h Packed.impure = h.2
   packed-legible h (Packed.pure {x = x} p) = packs-legible v p h.1 h.2 (enc_abs-legible v x h.0)
 
+  -- a projection from a legible module is legible
   pub projected-legible : {ctx : List Kind} {m n : Module} {l : Name} → ModuleLegible v m → Projected ctx m l n → ModuleLegible v n
   projected-legible h (Projected.pure f) = let p = field-legible v None h.0 f in (p.1, h.1, (h.2, p.0))
   projected-legible h (Projected.impure {ks = ks} {fs = fs} {l = l} {s = s} {e = e} {d = d} f q) =
@@ -149,11 +161,13 @@ module _ (v : Version) where
       let packed = packs-legible v q (vars-legible v ks) (tt, p.0) (rename-legible v (past ks) (enc_abs (Abs.Ex ks s)) (enc_abs-legible v (Abs.Ex ks s) p.1)) in
       (p.1, tt, opens-legible v ks e (enc_abs (Abs.Ex ks (Sig.Str fs))) d h.2 (enc_abs-legible v (Abs.Ex ks (Sig.Str fs)) h.0) packed)
 
+  -- the term of a functor with a legible parameter and a legible body is legible
   pub functor-legible : (ks : List Kind) (s : Sig) (f : Effect) (e : Term) → SigLegible v s → TermLegible v e
       → TermLegible v (ty_lam_over ks (Term.Lam (enc s) (one_field (result_label f) e)))
   functor-legible ks s f e h g = ty_lam_over-legible v ks (Term.Lam (enc s) (one_field (result_label f) e))
       (enc-legible v s h, one_field-legible v (result_label f) e (result_label-spelled v f) g)
 
+  -- the application of a legible functor to a legible argument is a legible module
   pub applied-module-legible : {ctx ks : List Kind} {f : Effect} {s : Sig} {y : Abs} {ts : List Ty} {c d e : Term} {m : Module}
       → SigLegible v (Sig.Fun f ks s y) → TermLegible v d → TypesLegible v ts → TermLegible v c → TermLegible v e
       → ApplyGives ctx (Sig.Fun f ks s y) d ts c e m → ModuleLegible v m
@@ -166,6 +180,7 @@ module _ (v : Version) where
   substituted-legible f [] a h = tt
   substituted-legible f (t ∷ ts) a h = (substitute-legible v f t a h.0, substituted-legible f ts a h.1)
 
+  -- legible bindings in a row make a legible module
   pub sequence-legible : {ctx : List Kind} {m n whole : Module} → ModuleLegible v m → ModuleLegible v n → Seq ctx m n whole → ModuleLegible v whole
   sequence-legible h g (Seq.both_pure {s = s} {n = n} {ts = ts} {us = us} {ns = ns} f fs i) =
       let a = puts-legible v ts Ty.Var h.1 (λ i. tt) in (
@@ -179,11 +194,13 @@ module _ (v : Version) where
       (rename-legible v (past ks) (enc_abs both) (enc_abs-legible v both g.0)) in
       (g.0, tt, opens-legible v ks p (enc_abs (Abs.Ex ks s)) r (packed-legible h a) (enc_abs-legible v (Abs.Ex ks s) h.0) packed)
 
+  -- a legible term under the fields of a legible structure, bound one by one, is legible
   pub field_lets-legible : (last : Option Label) (i : ℕ) (fs : SigRow) (e : Term) → FieldsLegible v last fs → TermLegible v e
       → TermLegible v (field_lets i fs e)
   field_lets-legible last i SigRow.End e h g = g
   field_lets-legible last i (SigRow.More l s rest) e h g = ((enc-legible v s h.2, field_lets-legible (Some (Label.Name l)) (suc i) rest e h.3 g), (tt, h.1))
 
+  -- what is collected for names in their order in a legible environment is a legible structure
   pub collected-legible : {g : Env} {names : List Name} {fs : SigRow} {es : TermRow} (last : Option Label) → EnvLegible v g → Follow last names
       → NamesRise names → NamesSpelled names → Collected g names fs es → FieldsLegible v last fs × TermRowLegible v last es
   collected-legible last h f r n Collected.none = (tt, tt)

@@ -28,6 +28,7 @@ more : (n m : ℕ) → n ≡ m → n + 1 ≡ suc m
 more n m e = omega arith
 
 mutual
+  -- a type of a kind that is not too high has its variables in scope
   pub ty-scope : {ctx : List Kind} {t : Ty} {k : Kind} (n : ℕ) → n ≡ length ctx → n + height t ≤ 2 ^ 64 → HasKind ctx t k → TyInScope n t
   ty-scope {ctx} n e h (HasKind.k_var {i = i} x) = let b = kind-below x in index-scope n i (omega (arith, b, e)) (omega (arith, h))
   ty-scope n e h HasKind.k_int = tt

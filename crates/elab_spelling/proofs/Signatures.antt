@@ -28,6 +28,7 @@ use Rattle.elab_spelling.proofs.Terms.{result_label-spelled}
 
 module _ (v : Version) where
   mutual
+    -- renaming keeps a signature legible
     pub rename_sig-legible : (r : ℕ → ℕ) (s : Sig) → SigLegible v s → SigLegible v (rename_sig r s)
     rename_sig-legible r (Sig.Val t) h = rename-legible v r t h
     rename_sig-legible r (Sig.Typ t k) h = rename-legible v r t h
@@ -35,9 +36,11 @@ module _ (v : Version) where
     rename_sig-legible r (Sig.Str fs) h = rename_fields-legible r None fs h
     rename_sig-legible r (Sig.Fun f ks s x) h = (rename_sig-legible (lifts ks r) s h.0, rename_abs-legible (lifts ks r) x h.1)
 
+    -- so for one that hides types
     pub rename_abs-legible : (r : ℕ → ℕ) (x : Abs) → AbsLegible v x → AbsLegible v (rename_abs r x)
     rename_abs-legible r (Abs.Ex ks s) h = rename_sig-legible (lifts ks r) s h
 
+    -- so for the fields of a structure
     pub rename_fields-legible : (r : ℕ → ℕ) (last : Option Label) (fs : SigRow) → FieldsLegible v last fs → FieldsLegible v last (rename_sig_row r fs)
     rename_fields-legible r last SigRow.End h = tt
     rename_fields-legible r last (SigRow.More l s rest) h = (h.0, h.1, rename_sig-legible r s h.2, rename_fields-legible r (Some (Label.Name l)) rest h.3)
@@ -58,6 +61,7 @@ module _ (v : Version) where
     legible-renamed_fields r last (SigRow.More l s rest) h = (h.0, h.1, legible-renamed_sig r s h.2, legible-renamed_fields r (Some (Label.Name l)) rest h.3)
 
   mutual
+    -- a substitution of legible types keeps a signature legible
     pub substitute_sig-legible : (f : ℕ → Ty) (s : Sig) → AllLegible v f → SigLegible v s → SigLegible v (substitute_sig f s)
     substitute_sig-legible f (Sig.Val t) a h = substitute-legible v f t a h
     substitute_sig-legible f (Sig.Typ t k) a h = substitute-legible v f t a h
@@ -84,10 +88,12 @@ module _ (v : Version) where
   pub sig_at-legible : (ts : List Ty) (r : ℕ → ℕ) (s : Sig) → TypesLegible v ts → SigLegible v s → SigLegible v (substitute_sig (puts ts (λ i. Ty.Var (r i))) s)
   sig_at-legible ts r s g h = substitute_sig-legible (puts ts (λ i. Ty.Var (r i))) s (puts-legible v ts (λ i. Ty.Var (r i)) g (λ i. tt)) h
 
+  -- legible types put in for hidden ones keep a signature legible
   pub abs_at-legible : (ts : List Ty) (r : ℕ → ℕ) (x : Abs) → TypesLegible v ts → AbsLegible v x → AbsLegible v (substitute_abs (puts ts (λ i. Ty.Var (r i))) x)
   abs_at-legible ts r x g h = substitute_abs-legible (puts ts (λ i. Ty.Var (r i))) x (puts-legible v ts (λ i. Ty.Var (r i)) g (λ i. tt)) h
 
   mutual
+    -- the normal form of a legible signature, as the function gives it, is legible
     pub normal_sig-legible : (ctx : List Kind) (s : Sig) → SigLegible v s → SigLegible v (normal_sig ctx s)
     normal_sig-legible ctx (Sig.Val t) h = normal-legible v ctx t h
     normal_sig-legible ctx (Sig.Typ t k) h = normal-legible v ctx t h
@@ -95,6 +101,7 @@ module _ (v : Version) where
     normal_sig-legible ctx (Sig.Str fs) h = normal_fields-legible ctx None fs h
     normal_sig-legible ctx (Sig.Fun f ks s x) h = (normal_sig-legible (extend ctx ks) s h.0, normal_abs-legible (extend ctx ks) x h.1)
 
+    -- so is that of one that hides types
     pub normal_abs-legible : (ctx : List Kind) (x : Abs) → AbsLegible v x → AbsLegible v (normal_abs ctx x)
     normal_abs-legible ctx (Abs.Ex ks s) h = normal_sig-legible (extend ctx ks) s h
 
@@ -119,9 +126,11 @@ module _ (v : Version) where
     conv_fields-legible last AlikeRow.end n h = tt
     conv_fields-legible last (AlikeRow.more {l = l} c d) n h = (h.0, h.1, conv_sig-legible c n.0 h.2, conv_fields-legible (Some (Label.Name l)) d n.1 h.3)
 
+  -- the normal form of a legible signature is legible
   pub form_sig-legible : {ctx : List Kind} {s n : Sig} → NormalSigForm ctx s n → SigLegible v s → SigLegible v n
   form_sig-legible f h = conv_sig-legible (form-conv_sig f) (form_sig-normal f) h
 
+  -- so is that of one that hides types
   pub form_abs-legible : {ctx : List Kind} {x n : Abs} → NormalAbsForm ctx x n → AbsLegible v x → AbsLegible v n
   form_abs-legible f h = conv_abs-legible (form-conv_abs f) (form_abs-normal f) h
 
@@ -139,6 +148,7 @@ module _ (v : Version) where
   fields-first last SigRow.End h = tt
   fields-first last (SigRow.More l s rest) h = (refl, h.1, h.2, h.3)
 
+  -- each field of a legible structure is legible, and its name is spelled
   pub field-legible : {fs : SigRow} {l : Name} {s : Sig} (last : Option Label) → FieldsLegible v last fs → HasField fs l s → NameSpelled l × SigLegible v s
   field-legible last h (HasField.here) = (h.1, h.2)
   field-legible last h (HasField.there {m = m} n f) = field-legible (Some (Label.Name m)) h.3 f
@@ -146,6 +156,7 @@ module _ (v : Version) where
   -- encodings
 
   mutual
+    -- the encoding of a legible signature is legible
     pub enc-legible : (s : Sig) → SigLegible v s → TyLegible v (enc s)
     enc-legible (Sig.Val t) h = (refl, tt, h, tt)
     enc-legible (Sig.Typ t k) h = let u = rename-legible v suc t h in (refl, tt, ((tt, u), (tt, u)), tt)
@@ -154,6 +165,7 @@ module _ (v : Version) where
     enc-legible (Sig.Fun f ks s x) h = all_over-legible v ks (Ty.Arrow (enc s) (one_part (result_label f) (enc_abs x)))
         (enc-legible s h.0, (refl, result_label-spelled v f, enc_abs-legible x h.1, tt))
 
+    -- so is that of one that hides types
     pub enc_abs-legible : (x : Abs) → AbsLegible v x → TyLegible v (enc_abs x)
     enc_abs-legible (Abs.Ex ks s) h = ex_over-legible v ks (enc s) (enc-legible s h)
 
@@ -173,6 +185,7 @@ module _ (v : Version) where
     norm_sig-legible (NormSig.impure {ks = ks} {t = t} {y = y} {order = order} n o m) h =
         (rename_sig-legible (renumber ks order) t (norm_sig-legible n h.0), rename_abs-legible (renumber ks order) y (norm-legible m h.1))
 
+    -- the norm of a legible signature is legible
     pub norm-legible : {ctx : List Kind} {x y : Abs} → Norm ctx x y → AbsLegible v x → AbsLegible v y
     norm-legible (Norm.ex {ks = ks} {t = t} {order = order} n o) h = rename_sig-legible (renumber ks order) t (norm_sig-legible n h)
 

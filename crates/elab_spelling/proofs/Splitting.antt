@@ -11,6 +11,7 @@ use Rattle.elab_spelling.specs.Legible.{TyLegible, RowLegible, TermLegible, Term
 
 module _ (v : Version) where
   mutual
+    -- a legible type with its variables in scope has a spelling
     pub ty-spelled : (n : ℕ) (t : Ty) → TyLegible v t → TyInScope n t → TySpelled v n t
     ty-spelled n (Ty.Var i) h g = g
     ty-spelled n Ty.Int h g = tt
@@ -30,6 +31,7 @@ module _ (v : Version) where
     row-spelled n last (Row.More l t rest) h g = (h.0, h.1, ty-spelled n t h.2 g.0, row-spelled n (Some l) rest h.3 g.1)
 
   mutual
+    -- a type that has a spelling is legible and has its variables in scope
     pub spelled-ty : (n : ℕ) (t : Ty) → TySpelled v n t → TyLegible v t × TyInScope n t
     spelled-ty n (Ty.Var i) h = (tt, h)
     spelled-ty n Ty.Int h = (tt, tt)
@@ -49,6 +51,7 @@ module _ (v : Version) where
     spelled-row n last (Row.More l t rest) h = let p = spelled-ty n t h.2 in let q = spelled-row n (Some l) rest h.3 in ((h.0, h.1, p.0, q.0), (p.1, q.1))
 
   mutual
+    -- a legible term with its variables in scope has a spelling
     pub term-spelled : (n m : ℕ) (e : Term) → TermLegible v e → TermInScope n m e → TermSpelled v n m e
     term-spelled n m (Term.Var i) h g = g
     term-spelled n m (Term.Int z) h g = h
@@ -75,6 +78,7 @@ module _ (v : Version) where
     term_row-spelled n m last (TermRow.More l e rest) h g = (h.0, h.1, term-spelled n m e h.2 g.0, term_row-spelled n m (Some l) rest h.3 g.1)
 
   mutual
+    -- a term that has a spelling is legible and has its variables in scope
     pub spelled-term : (n m : ℕ) (e : Term) → TermSpelled v n m e → TermLegible v e × TermInScope n m e
     spelled-term n m (Term.Var i) h = (tt, h)
     spelled-term n m (Term.Int z) h = (h, tt)

@@ -20,6 +20,7 @@ use Rattle.elab_spelling.proofs.Forms.{form-legible}
 
 module _ (v : Version) where
   mutual
+    -- renaming keeps a term legible
     pub ren_term-legible : (q r : ℕ → ℕ) (e : Term) → TermLegible v e → TermLegible v (ren_term q r e)
     ren_term-legible q r (Term.Var n) h = tt
     ren_term-legible q r (Term.Int z) h = h
@@ -49,6 +50,7 @@ module _ (v : Version) where
   ty_instance-legible {s = s} {t = t} f (TyInstance.made n g) h = form-legible v g (substitute-legible v s t f h)
 
   mutual
+    -- an instance of a legible term at legible types is legible
     pub instance-legible : {from to : List Kind} {s : ℕ → Ty} {e d : Term} → AllLegible v s → Instance from to s e d → TermLegible v e → TermLegible v d
     instance-legible f Instance.var h = tt
     instance-legible f Instance.int h = h
@@ -77,14 +79,17 @@ module _ (v : Version) where
 
   -- shorthands
 
+  -- a legible term under type abstractions is legible
   pub ty_lam_over-legible : (ks : List Kind) (e : Term) → TermLegible v e → TermLegible v (ty_lam_over ks e)
   ty_lam_over-legible [] e h = h
   ty_lam_over-legible (k ∷ ks) e h = ty_lam_over-legible ks e h
 
+  -- a legible term at legible types is legible
   pub insts-legible : (e : Term) (ts : List Ty) → TermLegible v e → TypesLegible v ts → TermLegible v (insts e ts)
   insts-legible e [] h g = h
   insts-legible e (t ∷ ts) h g = insts-legible (Term.Inst e t) ts (h, g.0) g.1
 
+  -- legible types packed into a legible term give a legible one
   pub packs-legible : {ctx : List Kind} {ts : List Ty} {e d : Term} {u : Ty} → Packs ctx ts e u d → TypesLegible v ts → TermLegible v e → TyLegible v u
       → TermLegible v d
   packs-legible Packs.none g h f = h
@@ -94,6 +99,7 @@ module _ (v : Version) where
   opens_after-legible [] e h = h
   opens_after-legible (k ∷ ks) e h = (tt, opens_after-legible ks e h)
 
+  -- a legible package opened around a legible body is legible
   pub opens-legible : (ks : List Kind) (e : Term) (u : Ty) (body : Term) → TermLegible v e → TyLegible v u → TermLegible v body
       → TermLegible v (opens ks e u body)
   opens-legible [] e u body h f g = ((f, g), h)
@@ -101,22 +107,27 @@ module _ (v : Version) where
 
   -- parts of modules
 
+  -- a record of one legible field is legible
   pub one_field-legible : (l : Label) (e : Term) → LabelSpelled l → TermLegible v e → TermLegible v (one_field l e)
   one_field-legible l e s h = (refl, s, h, tt)
 
+  -- the term that shows a legible type is legible
   pub type_term-legible : (t : Ty) (k : Kind) → TyLegible v t → TermLegible v (type_term t k)
   type_term-legible t k h = (refl, tt, ((tt, rename-legible v suc t h), tt), tt)
 
   -- coercions
 
+  -- the label of a functor's result is spelled
   pub result_label-spelled : (f : Effect) → LabelSpelled (result_label f)
   result_label-spelled Pure = tt
   result_label-spelled Impure = tt
 
+  -- coerced fields are legible if the coercions are
   pub coerced-legible : (last : Option Label) (row : TermRow) → TermRowLegible v last row → TermRowLegible v last (coerced row)
   coerced-legible last TermRow.End h = tt
   coerced-legible last (TermRow.More l e rest) h = (h.0, h.1, (h.2, (tt, h.1)), coerced-legible (Some l) rest h.3)
 
+  -- the coercion of a functor is legible if its parts are
   pub functor_part-legible : (from : Ty) (left right : Effect) (ks : List Kind) (param : Ty) (ts : List Ty) (f g : Term)
       → TyLegible v from → TyLegible v param → TypesLegible v ts → TermLegible v f → TermLegible v g → TermLegible v
       (functor_part from left right ks param ts f g)

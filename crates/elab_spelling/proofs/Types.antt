@@ -14,6 +14,7 @@ use Rattle.elab_spelling.specs.Legible.{TyLegible, RowLegible, TypesLegible}
 
 module _ (v : Version) where
   mutual
+    -- renaming keeps a type legible
     pub rename-legible : (r : ℕ → ℕ) (t : Ty) → TyLegible v t → TyLegible v (rename r t)
     rename-legible r (Ty.Var i) h = tt
     rename-legible r Ty.Int h = tt
@@ -33,6 +34,7 @@ module _ (v : Version) where
     rename_row-legible r last (Row.More l t rest) h = (h.0, h.1, rename-legible r t h.2, rename_row-legible r (Some l) rest h.3)
 
   mutual
+    -- a type whose renaming is legible is legible
     pub legible-renamed : (r : ℕ → ℕ) (t : Ty) → TyLegible v (rename r t) → TyLegible v t
     legible-renamed r (Ty.Var i) h = tt
     legible-renamed r Ty.Int h = tt
@@ -55,11 +57,13 @@ module _ (v : Version) where
   abbrev pub AllLegible : (ℕ → Ty) → Type 0
   AllLegible s = (i : ℕ) → TyLegible v (s i)
 
+  -- a substitution of legible types is one below a binder
   pub under-legible : (s : ℕ → Ty) → AllLegible s → AllLegible (under s)
   under-legible s h zero = tt
   under-legible s h (suc i) = rename-legible suc (s i) (h i)
 
   mutual
+    -- a substitution of legible types keeps a type legible
     pub substitute-legible : (s : ℕ → Ty) (t : Ty) → AllLegible s → TyLegible v t → TyLegible v (substitute s t)
     substitute-legible s (Ty.Var i) f h = f i
     substitute-legible s Ty.Int f h = tt
@@ -82,43 +86,53 @@ module _ (v : Version) where
   single-legible a h zero = h
   single-legible a h (suc i) = tt
 
+  -- a legible argument put into a legible body is legible
   pub instantiate-legible : (b a : Ty) → TyLegible v b → TyLegible v a → TyLegible v (instantiate b a)
   instantiate-legible b a g h = substitute-legible (single a) b (single-legible a h) g
 
+  -- a legible type in front of a substitution of legible types gives one
   pub front-legible : (t : Ty) (s : ℕ → Ty) → TyLegible v t → AllLegible s → AllLegible (front t s)
   front-legible t s h f zero = h
   front-legible t s h f (suc i) = f i
 
+  -- legible types put in before a substitution of legible types give one
   pub puts-legible : (ts : List Ty) (s : ℕ → Ty) → TypesLegible v ts → AllLegible s → AllLegible (puts ts s)
   puts-legible [] s h f = f
   puts-legible (t ∷ ts) s h f = puts-legible ts (front t s) h.1 (front-legible t s h.0 f)
 
+  -- a substitution of legible types is one below a list of binders
   pub unders-legible : (ks : List Kind) (s : ℕ → Ty) → AllLegible s → AllLegible (unders ks s)
   unders-legible [] s f = f
   unders-legible (k ∷ ks) s f = unders-legible ks (under s) (under-legible s f)
 
   -- binders
 
+  -- the eta-long form of a legible type is legible
   pub eta-legible : (k : Kind) (t : Ty) → TyLegible v t → TyLegible v (eta k t)
   eta-legible Kind.Star t h = h
   eta-legible (Kind.Arrow k l) t h = eta-legible l (Ty.Apply (rename suc t) (eta k (Ty.Var zero))) (rename-legible suc t h, eta-legible k (Ty.Var zero) tt)
 
+  -- the binders' variables, eta-long, are legible
   pub vars-legible : (ks : List Kind) → TypesLegible v (vars ks)
   vars-legible [] = tt
   vars-legible (k ∷ ks) = (eta-legible k (Ty.Var (past ks zero)) tt, vars-legible ks)
 
+  -- a universally quantified legible type is legible
   pub all_over-legible : (ks : List Kind) (t : Ty) → TyLegible v t → TyLegible v (all_over ks t)
   all_over-legible [] t h = h
   all_over-legible (k ∷ ks) t h = all_over-legible ks t h
 
+  -- an existentially quantified legible type is legible
   pub ex_over-legible : (ks : List Kind) (t : Ty) → TyLegible v t → TyLegible v (ex_over ks t)
   ex_over-legible [] t h = h
   ex_over-legible (k ∷ ks) t h = ex_over-legible ks t h
 
+  -- an operator over binders with a legible body is legible
   pub lam_over-legible : (ks : List Kind) (t : Ty) → TyLegible v t → TyLegible v (lam_over ks t)
   lam_over-legible [] t h = h
   lam_over-legible (k ∷ ks) t h = lam_over-legible ks t h
 
+  -- a legible operator applied to the binders' variables is legible
   pub applied-legible : (ks : List Kind) (t : Ty) → TyLegible v t → TyLegible v (applied ks t)
   applied-legible [] t h = h
   applied-legible (k ∷ ks) t h = applied-legible ks (Ty.Apply (rename suc t) (Ty.Var zero)) (rename-legible suc t h, tt)
@@ -189,6 +203,7 @@ module _ (v : Version) where
   args-keep Kind.Star = tt
   args-keep (Kind.Arrow k l) = (λ i a t h g. tree-legible (put_in k (args k) i a t) (put_in-keeps k (args k) i a t (args-keep k) h g), args-keep l)
 
+  -- hereditary substitution of a legible argument into a legible type is legible
   pub hsubst-legible : (k : Kind) (i : ℕ) (a t : Ty) → TyLegible v a → TyLegible v t → TyLegible v (hsubst k i a t)
   hsubst-legible k i a t h g = tree-legible (put_in k (args k) i a t) (put_in-keeps k (args k) i a t (args-keep k) h g)
 
@@ -197,6 +212,7 @@ module _ (v : Version) where
   beta-legible f a h g = (h, g)
 
   mutual
+    -- what the normaliser gives of a legible type is legible
     pub normal-legible : (ctx : List Kind) (t : Ty) → TyLegible v t → TyLegible v (normal ctx t)
     normal-legible ctx (Ty.Var i) h = eta-legible (kind_at ctx i) (Ty.Var i) tt
     normal-legible ctx Ty.Int h = tt

@@ -74,6 +74,7 @@ module _ (z x y w c : Scope) (t u : Ty) (e : Term) (o p r : Option ℕ) (f g h :
   found-is : (v : Truth) → v ≡ is_found (at c.types g) (type_at c.types r) → v ≡ is_found to (synth_in z.kinds whole e)
   found-is v q = q ∙ ap₂ is_found (begins-at y.types c.types g (grows-then m.grows s.grows).begins k) (at-number s ∙ inner)
 
+  -- a recursive function whose body has the type of its result has the function type
   pub fix-done : true ≡ is_found (at c.types g) (type_at c.types r) → Synthesises z c z.kinds (types_of z) (Term.Fix t u e) (Some h)
   fix-done q =
       let v = when-found from to (synth_in z.kinds whole e) true (found-is true q) in
@@ -91,6 +92,7 @@ module _ (z x y w c : Scope) (t u : Ty) (e : Term) (o p r : Option ℕ) (f g h :
         ));
       }
 
+  -- a recursive function whose body has another type has none
   pub fix-fails : false ≡ is_found (at c.types g) (type_at c.types r) → Synthesises z c z.kinds (types_of z) (Term.Fix t u e) None
   fix-fails q = nothing (grows-then zw s.grows) (term-is ∙ when-found from to (synth_in z.kinds whole e) false (found-is false q))
 
@@ -124,6 +126,7 @@ module _ (z x y : Scope) (t : Ty) (e : Term) (row : TermRow) (o p : Option ℕ) 
     type-is : synth_in z.kinds (types_of z) (Term.Case e t row) ≡ if_sum (at y.types m) (at y.types n) (λ r. F r (at y.types n))
     type-is = ap₂ (λ q v. case_type q v F) sum target
 
+    -- a case on what has no sum type has none
     pub case-no-sum : IsSum y.types m None → Synthesises z y z.kinds (types_of z) (Term.Case e t row) None
     case-no-sum f = nothing inside.grows (type-is ∙ f (at y.types n) (λ r. F r (at y.types n)))
 
@@ -137,9 +140,11 @@ module _ (z x y : Scope) (t : Ty) (e : Term) (row : TermRow) (o p : Option ℕ) 
       result : synth_in z.kinds (types_of z) (Term.Case e t row) ≡ (if pass then Some (at y.types n) else None)
       result = type-is ∙ (ap (λ q. if_sum q (at y.types n) (λ r. F r (at y.types n))) k.2 ∙ ap (λ q. if q then Some (at y.types n) else None) (sym (b.value ∙ same)))
 
+      -- a case whose branches do not pass has none
       pub case-fails : pass ≡ false → Synthesises z c z.kinds (types_of z) (Term.Case e t row) None
       case-fails q = nothing (grows-then inside.grows b.grows) (result ∙ ap (λ v. if v then Some (at y.types n) else None) q)
 
+      -- a case whose branches pass has the type that is written
       pub case-done : pass ≡ true → Synthesises z c z.kinds (types_of z) (Term.Case e t row) (Some n)
       case-done q =
           let within = in-more x.types y.types (Some n) s.grows.begins l in
@@ -225,11 +230,13 @@ module _ (old now : Scope) (xs : TermPairs) (parts : Parts) (i : ℕ) (f : Field
     here : Synthesises old new old.kinds (types_of old) x.1 o
     here = moved f.grows s (grows-itself new)
 
+    -- a record with a field that has no type has none
     pub fields-none : ((n : ℕ) → o ≡ Some n → ⊥) → (ys : TermPairs) → Rises xs → xs ≡ ys → Synthesises old new old.kinds (types_of old) (Term.Fields (term_row ys)) None
     fields-none g ys r e =
         let none = found-none old.kinds (types_of old) i xs (pairs_at now.types parts) x (synth_row old.kinds (types_of old) (term_row xs)) f.found w at-x (sym (no-number new.types o (synth_in old.kinds (types_of old) x.1) g here.is_number)) in
         nothing here.grows (sym (record-type None (synth_row old.kinds (types_of old) (term_row ys)) xs ys r e (none ∙ ap (λ zs. synth_row old.kinds (types_of old) (term_row zs)) e)))
 
+    -- one more field has its number, and the fields so far are one more
     pub fields-step : (n : ℕ) (l : Label) (more : Parts) → o ≡ Some n → l ≡ x.0 → more ≡ parts ++ (l, n) ∷ [] → FieldsSoFar old new xs more (i + 1)
     fields-step n l more on lx m =
         let b = s.grows.begins in
@@ -248,6 +255,7 @@ module _ (old now : Scope) (xs : TermPairs) (parts : Parts) (i : ℕ) (f : Field
   pub fields-below : Rises xs → length xs ≤ i → ArePartsBelow (length now.types) parts × Rises parts
   fields-below r h = (f.below, rises-labels parts xs (f.labels ∙ ap (map (λ x. x.0)) (take_all i xs h)) r)
 
+  -- when all fields have their numbers, the record has the type of these
   pub fields-done : (new : Scope) (n : ℕ) (ys : TermPairs) → Rises xs → xs ≡ ys → length xs ≤ i → Makes now new n (Ty.Fields (row_at now.types parts)) → Synthesises old new old.kinds (types_of old) (Term.Fields (term_row ys)) (Some n)
   fields-done new n ys r e h m =
       let S = synth_row old.kinds (types_of old) in
@@ -328,6 +336,7 @@ module _ (old now : Scope) (xs : TermPairs) (parts : Parts) (target i : ℕ) (f 
     at-pair : (y.0, T) ≡ get_or (pairs_at old.types parts) i (y.0, T)
     at-pair = pairs-get old.types parts i y at-y v
 
+    -- branches of which the next has another label than the sum do not pass
     pub branch-label : (ys : TermPairs) → xs ≡ ys → (x.0 ≡ y.0 → ⊥) → FindsBranches old now (term_row ys) (row_at old.types parts) (at old.types target) false
     branch-label ys e d = fails now ys e f.grows (label-differs old.kinds (types_of old) (at old.types target) i xs (pairs_at old.types parts) x (y.0, T) W w long at-x at-pair f.value d)
 
@@ -341,9 +350,11 @@ module _ (old now : Scope) (xs : TermPairs) (parts : Parts) (target i : ℕ) (f 
       pass-is : (b : Truth) → b ≡ is_found (at new.types target) (type_at new.types o) → b ≡ passes old.kinds (types_of old) (at old.types target) x (y.0, T)
       pass-is b h = h ∙ ap₂ is_found (begins-at old.types new.types target grown.begins goal) (at-number s ∙ body-is)
 
+      -- branches of which the next has another type than the result do not pass
       pub branch-other : (ys : TermPairs) → xs ≡ ys → false ≡ is_found (at new.types target) (type_at new.types o) → FindsBranches old new (term_row ys) (row_at old.types parts) (at old.types target) false
       branch-other ys e h = fails new ys e grown (branch-fails old.kinds (types_of old) (at old.types target) i xs (pairs_at old.types parts) x (y.0, T) W w long at-x at-pair f.value (pass-is false h))
 
+      -- one more branch has the next label and the type
       pub branch-step : x.0 ≡ y.0 → true ≡ is_found (at new.types target) (type_at new.types o) → BranchesSoFar old new xs parts target (i + 1)
       branch-step l h =
           let p = pass-is true h in

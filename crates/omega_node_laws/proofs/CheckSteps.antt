@@ -37,6 +37,7 @@ module _ (z a : Scope) (e : Term) (t : Ty) (o : Option ℕ) (ks : z.kinds ≡ []
       below : n < length a.types
       below = is-some a.types o n on (find-in o w)
 
+      -- the number of the type that is wanted is one of the list
       pub wanted-below : n < length b.types
       wanted-below = below-grows n s.grows below
 
@@ -46,9 +47,11 @@ module _ (z a : Scope) (e : Term) (t : Ty) (o : Option ℕ) (ks : z.kinds ≡ []
       found-is : Some (at b.types m) ≡ synth_in [] [] e
       found-is = sym (type-some b.types p (synth_in a.kinds (types_of a) e) m s.is_number pm) ∙ found
 
+      -- a term whose type is the one that is wanted has it
       pub checks : same_ty (at b.types m) (at b.types n) ≡ true → HasType [] [] e t
       checks = typed e t (at b.types m) (at b.types n) wanted-is found-is
 
+      -- a term whose type is another one has not the type that is wanted
       pub fails : same_ty (at b.types m) (at b.types n) ≡ false → HasType [] [] e t → ⊥
       fails = differs e t (at b.types m) (at b.types n) wanted-is found-is
 

@@ -57,6 +57,7 @@ module _ (ts : List Ty) where
       subst (Has ts) (ap (λ m. option_map (Ty.Arrow m) (synth_in ctx (m ∷ vars) e)) p ∙ sym (ap (λ o. and_then o (λ m. option_map (Ty.Arrow m) (synth_in ctx (m ∷ vars) e))) (normal_at-of k))) h
 
   mutual
+    -- where the types that are found are held, the list has the type of each node of a typed term
     pub nodes : (e : Term) {ctx : List Kind} {vars : List Ty} {t : Ty} → GoodVars ctx vars → Synth ctx vars e t → Held ts ctx (map (normal ctx) vars) e → HoldsNodeTypes ts ctx vars e
     nodes (Term.Var n) g s h = holds-type g h
     nodes (Term.Int z) g s h = holds-type g h

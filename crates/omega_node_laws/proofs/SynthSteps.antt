@@ -52,6 +52,7 @@ module _ (z y c : Scope) (e : Term) (o p : Option ℕ) (s : Synthesises z y z.ki
   later : Grows y c → Held y.types z.kinds (types_of z) e → Held c.types z.kinds (types_of z) e
   later g h = held-more y.types c.types g.begins z.kinds (types_of z) e h
 
+  -- the type of an instance, from that of the term
   pub inst-done : (t : Ty) → Finds y c p (inst_type y.kinds (type_at y.types o) t) → Synthesises z c z.kinds (types_of z) (Term.Inst e t) p
   inst-done t f =
       let n = subst (NumberOf c.types p) (ap₂ (λ k q. inst_type k q t) s.grows.same_kinds (at-number s)) f.is_number in
@@ -61,6 +62,7 @@ module _ (z y c : Scope) (e : Term) (o p : Option ℕ) (s : Synthesises z y z.ki
         held = with-parts _ n (λ u q. later f.grows (let r = inst-yes z.kinds (synth_in z.kinds (types_of z) e) t u q in held-some (Ty.All r.0 r.1) s r.2));
       }
 
+  -- the type of a selection, from that of the record
   pub get-done : (l : Label) → Grows y c → NumberOf c.types p (get_type (type_at y.types o) l) → Synthesises z c z.kinds (types_of z) (Term.Get e l) p
   get-done l g f =
       let n = subst (NumberOf c.types p) (ap (λ q. get_type q l) (at-number s)) f in
@@ -70,6 +72,7 @@ module _ (z y c : Scope) (e : Term) (o p : Option ℕ) (s : Synthesises z y z.ki
         held = with-parts _ n (λ u q. later g (let r = get-yes (synth_in z.kinds (types_of z) e) l u q in held-some (Ty.Fields r.0) s r.1));
       }
 
+  -- the type of an unrolled value, from that of the value
   pub unroll-done : Finds y c p (unroll_type (type_at y.types o)) → Synthesises z c z.kinds (types_of z) (Term.Unroll e) p
   unroll-done f =
       let n = subst (NumberOf c.types p) (ap unroll_type (at-number s)) f.is_number in
@@ -88,6 +91,7 @@ module _ (z x y c : Scope) (e : Term) (t : Ty) (m o p : Option ℕ) (a : Finds z
   named : type_at y.types m ≡ normal_at z.kinds t Kind.Star
   named = number-at y.types m (normal_at z.kinds t Kind.Star) (number-more x.types y.types m (normal_at z.kinds t Kind.Star) b.grows.begins a.is_number)
 
+  -- the type of an injection, from that of its value and the one that is written
   pub inj-done : (l : Label) → Grows y c → NumberOf c.types p (inj_type l (type_at y.types m) (type_at y.types o)) → Synthesises z c z.kinds (types_of z) (Term.Inj l e t) p
   inj-done l g f =
       let n = subst (NumberOf c.types p) (ap₂ (inj_type l) named (at-number part)) f in
@@ -97,6 +101,7 @@ module _ (z x y c : Scope) (e : Term) (t : Ty) (m o p : Option ℕ) (a : Finds z
         held = with-parts _ n (λ u q. held-more y.types c.types g.begins z.kinds (types_of z) e (let r = inj-yes l (normal_at z.kinds t Kind.Star) (synth_in z.kinds (types_of z) e) u q in held-some r.1 part r.4));
       }
 
+  -- the type of a rolled value, from that of its value and the one that is written
   pub roll-done : Finds y c p (roll_type (type_at y.types m) (type_at y.types o)) → Synthesises z c z.kinds (types_of z) (Term.Roll e t) p
   roll-done f =
       let n = subst (NumberOf c.types p) (ap₂ roll_type named (at-number part)) f.is_number in

@@ -47,6 +47,7 @@ tied-under {to = to} {to' = to'} {s = s} j j' h _ _ (there {k = k} {i = i} x) (t
 -- a type that is normal in both contexts has one kind and one normal form with the types put in
 
 mutual
+  -- a type that is normal in two contexts, with substitutions tied, has one normal form in both
   pub coinc : {from from' to to' : List Kind} {s : ℕ → Ty} {t : Ty} {k l : Kind} → Tied from from' to to' s → Normal from t k → Normal from' t l → (k ≡ l) × (form_at to s t ≡ form_at to' s t)
   coinc h (n_lam {k = k} b) (n_lam c) = let r = coinc (tied-under k k h) b c in (ap (Kind.Arrow k) r.0, ap (Ty.Lam k) r.1)
   coinc h (n_lam b) (n_neutral c) = elim c [ ]
@@ -139,6 +140,7 @@ form-result to s Op.Equal = refl
 form-result to s _ = refl
 
 mutual
+  -- a typed term at types, each in normal form, has the normal form of its type at them
   pub typed-instance : {from to from' to' : List Kind} {vars : List Ty} {s : ℕ → Ty} {e d : Term} {t : Ty} → Tied from from' to to' s → Substitutes from to s → AllNormal from vars → Typed from vars e t → Instance from' to' s e d → Typed to (map (form_at to s) vars) d (form_at to s t)
   typed-instance {to = to} {s = s} h g v (Typed.var a) Instance.var = Typed.var (at-map (form_at to s) a)
   typed-instance h g v Typed.int Instance.int = Typed.int
@@ -195,6 +197,7 @@ tied-self h i k x y = (h i k x, h i k x, refl)
 
 -- the types of term variables under binders
 
+-- the types of term variables, shifted past each of a list of binders
 abbrev pub shifts : List Kind → List Ty → List Ty
 shifts [] vars = vars
 shifts (k ∷ ks) vars = shifts ks (shift_all vars)

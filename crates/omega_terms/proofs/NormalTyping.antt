@@ -31,6 +31,7 @@ recast {ctx} {e = e} {t = t} p h = subst (λ x. Typed ctx x e t) p h
 -- it implies typing
 
 mutual
+  -- normal typing implies typing
   pub typed-sound : {ctx : List Kind} {vars : List Ty} {e : Term} {t : Ty} → Typed ctx vars e t → HasType ctx vars e t
   typed-sound (Typed.var h) = HasType.var h
   typed-sound Typed.int = HasType.int
@@ -195,6 +196,7 @@ normal-result Op.Equal = n_bool
 normal-result _ = n_int
 
 mutual
+  -- normal typing gives normal types
   pub typed-normal : {ctx : List Kind} {vars : List Ty} {e : Term} {t : Ty} → AllNormal ctx vars → Typed ctx vars e t → Normal ctx t Kind.Star
   typed-normal v (Typed.var h) = all-at v h
   typed-normal v Typed.int = n_int
@@ -231,6 +233,7 @@ shift-append [] others = refl
 shift-append (t ∷ vars) others = ap (λ x. rename suc t ∷ x) (shift-append vars others)
 
 mutual
+  -- a typed term stays so with more term variables outside
   pub typed-more : {ctx : List Kind} {vars : List Ty} {e : Term} {t : Ty} (others : List Ty) → Typed ctx vars e t → Typed ctx (vars ++ others) e t
   typed-more others (Typed.var h) = Typed.var (at-more others h)
   typed-more others Typed.int = Typed.int

@@ -19,6 +19,7 @@ abbrev raised_variable : ℕ → ℕ → ℕ → ℕ → Term
 raised_variable b i j n = Term.Var (bump b j n)
 
 mutual
+  -- the walk that raises indexes is the shift
   pub walk-raises : (a b i j : ℕ) (e : Term) → walked (raised_type a) (raised_variable b) i j e ≡ ren_term (bump a i) (bump b j) e
   walk-raises a b i j (Term.Var n) = refl
   walk-raises a b i j (Term.Int z) = refl

@@ -14,6 +14,7 @@ two-lifts : (r s : ℕ → ℕ) → (λ i. lift (lift r) (lift (lift s) i)) ≡ 
 two-lifts r s = lift-lift (lift r) (lift s) ∙ ap lift (lift-lift r s)
 
 mutual
+  -- renamings of a term compose
   pub ren-ren_term : (q p r s : ℕ → ℕ) (e : Term) → ren_term q r (ren_term p s e) ≡ ren_term (λ i. q (p i)) (λ i. r (s i)) e
   ren-ren_term q p r s (Term.Var n) = refl
   ren-ren_term q p r s (Term.Int z) = refl

@@ -30,6 +30,7 @@ cast-type {ctx} {vars} {e} p h = subst (λ x. HasType ctx vars e x) p h
 -- renaming
 
 mutual
+  -- renaming of both kinds of variables keeps typing
   pub rename-type : {ctx other : List Kind} {vars others : List Ty} {e : Term} {t : Ty} (q r : ℕ → ℕ) → Maps ctx other q → RenVars vars others q r → HasType ctx vars e t → HasType other others (ren_term q r e) (rename q t)
   rename-type q r f g (HasType.var {n = n} {t = t} h) = HasType.var (g n t h)
   rename-type q r f g HasType.int = HasType.int
@@ -89,6 +90,7 @@ substitute-result s Op.Equal = refl
 substitute-result s _ = refl
 
 mutual
+  -- substitution for both kinds of variables keeps typing
   pub substitute-type : {ctx other : List Kind} {vars others : List Ty} {e : Term} {t : Ty} (s : ℕ → Ty) (w : ℕ → Term) → Substitutes ctx other s → SubVars vars other others s w → HasType ctx vars e t → HasType other others (sub_term s w e) (substitute s t)
   substitute-type s w f g (HasType.var {n = n} {t = t} h) = g n t h
   substitute-type s w f g HasType.int = HasType.int
@@ -150,6 +152,7 @@ result-kind Op.Less = k_bool
 result-kind Op.Equal = k_bool
 result-kind _ = k_int
 
+-- a closed type chosen for each kind
 abbrev pub some_type : Kind → Ty
 some_type Kind.Star = Ty.Int
 some_type (Kind.Arrow j l) = Ty.Lam j (some_type l)
@@ -164,6 +167,7 @@ pub kind-unshift : {ctx : List Kind} {t : Ty} {k j : Kind} → HasKind (j ∷ ct
 kind-unshift {ctx} {t} {k} {j} h = subst (λ u. HasKind ctx u k) (single-rename t (some_type j)) (kind-substitute (single (some_type j)) (single-substitutes (some-kind ctx j)) h)
 
 mutual
+  -- the type of a term has kind *
   pub type-kind : {ctx : List Kind} {vars : List Ty} {e : Term} {t : Ty} → GoodVars ctx vars → HasType ctx vars e t → HasKind ctx t Kind.Star
   type-kind g (HasType.var {n = n} {t = t} h) = g n t h
   type-kind g HasType.int = k_int
@@ -186,6 +190,7 @@ mutual
   type-kind g (HasType.unroll {body = body} h) = let k = type-kind g h in kind-substitute (single (Ty.Mu body)) (single-substitutes k) (mu-kinds k)
   type-kind g (HasType.conv h c) = (conv-kinds c).1
 
+  -- so have the types of fields, at distinct labels
   pub types-kind : {ctx : List Kind} {vars : List Ty} {f : TermRow} {r : Row} → GoodVars ctx vars → FieldsHave ctx vars f r → HasKinds ctx r
   types-kind g FieldsHave.end = k_end
   types-kind g (FieldsHave.more h d i) = k_more d (type-kind g h) (types-kind g i)
@@ -208,6 +213,7 @@ pub conv-same : (ctx : List Kind) (vars : List Ty) → ConvVars ctx vars vars
 conv-same ctx vars n t h = HasType.var h
 
 mutual
+  -- term variables may be given convertible types
   pub revars : {ctx : List Kind} {vars others : List Ty} {e : Term} {t : Ty} → GoodVars ctx vars → ConvVars ctx vars others → HasType ctx vars e t → HasType ctx others e t
   revars v g (HasType.var {n = n} {t = t} h) = g n t h
   revars v g HasType.int = HasType.int

@@ -21,6 +21,7 @@ lift-keeps n r h zero p = refl
 lift-keeps n r h (suc i) p = ap suc (h i (omega arith))
 
 mutual
+  -- a renaming that leaves the first indexes leaves a term whose free indexes are among them
   pub ren_term-unchanged : (n m : ℕ) (q r : ℕ → ℕ) (e : Term) → Keeps n q → Keeps m r → type_bound e ≤ n → term_bound e ≤ m → ren_term q r e ≡ e
   ren_term-unchanged n m q r (Term.Var i) g h p o = ap Term.Var (h i (omega arith))
   ren_term-unchanged n m q r (Term.Int z) g h p o = refl
@@ -78,6 +79,7 @@ up_term-keeps n w h zero p = refl
 up_term-keeps n w h (suc i) p = ap (ren_term same_index suc) (h i (omega arith))
 
 mutual
+  -- a substitution that leaves the first indexes leaves a term whose free indexes are among them
   pub sub_term-unchanged : (n m : ℕ) (s : ℕ → Ty) (w : ℕ → Term) (e : Term) → KeepsTypes n s → KeepsTerms m w → type_bound e ≤ n → term_bound e ≤ m → sub_term s w e ≡ e
   sub_term-unchanged n m s w (Term.Var i) g h p o = h i (omega arith)
   sub_term-unchanged n m s w (Term.Int z) g h p o = refl

@@ -116,6 +116,7 @@ normal-apply : {ctx : List Kind} {f t g a : Ty} {k l : Kind} → Normal ctx g (K
 normal-apply {k = k} (n_lam nb) c m = good-beta {F = hsubst k} (good-args (Kind.Arrow k Kind.Star)).0 nb c m
 
 mutual
+  -- the normaliser gives the normal form of each type of a kind
   pub normal-gives : {ctx : List Kind} {t : Ty} {k : Kind} → HasKind ctx t k → NormalForm ctx t k (normal ctx t)
   normal-gives (k_var {ctx = ctx} {i = i} {k = k} x) = subst (λ j. NormalForm ctx (Ty.Var i) k (eta j (Ty.Var i))) (lookup-kind_at x) (eta-normal k (n_var x))
   normal-gives k_int = (n_int, c_refl k_int)

@@ -113,6 +113,7 @@ fresh-complete l (Row.More m t rest) f = rw (not-eq (label_cmp l m) (λ s. f.0 (
 -- ---- the two directions
 
 mutual
+  -- the kind that the recursion finds is the type's
   pub kind_in-sound : (ctx : List Kind) (t : Ty) (k : Kind) → kind_in ctx t ≡ Some k → HasKind ctx t k
   kind_in-sound ctx (Ty.Var i) k e = k_var (found-lookup ctx i k e)
   kind_in-sound ctx Ty.Int k e = let s : Kind.Star ≡ k = cc in subst (HasKind ctx Ty.Int) s k_int
@@ -151,6 +152,7 @@ mutual
       k_more (fresh-sound l r q.0) (kind_in-sound ctx t Kind.Star (is_star-yes (kind_in ctx t) p.0)) (all_star-sound ctx r q.1 p.1)
 
 mutual
+  -- the recursion finds the kind of a type
   pub kind_in-complete : {ctx : List Kind} {t : Ty} {k : Kind} → HasKind ctx t k → kind_in ctx t ≡ Some k
   kind_in-complete (k_var x) = lookup-found x
   kind_in-complete k_int = refl

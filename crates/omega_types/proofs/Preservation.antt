@@ -36,6 +36,7 @@ fresh-rename r l Row.End f = tt
 fresh-rename r l (Row.More m t rest) f = (f.0, fresh-rename r l rest f.1)
 
 mutual
+  -- renaming keeps kinds
   pub kind-rename : {ctx other : List Kind} {t : Ty} {k : Kind} (r : ℕ → ℕ) → Maps ctx other r → HasKind ctx t k → HasKind other (rename r t) k
   kind-rename r h (k_var {i = i} {k = k} x) = k_var (h i k x)
   kind-rename r h k_int = k_int
@@ -55,6 +56,7 @@ mutual
   kinds-rename r h (k_more {l = l} {rest = rest} f t ts) = k_more (fresh-rename r l rest f) (kind-rename r h t) (kinds-rename r h ts)
 
 mutual
+  -- renaming keeps types normal
   pub normal-rename : {ctx other : List Kind} {t : Ty} {k : Kind} (r : ℕ → ℕ) → Maps ctx other r → Normal ctx t k → Normal other (rename r t) k
   normal-rename r h (n_lam {k = k} b) = n_lam (normal-rename (lift r) (lift-maps k h) b)
   normal-rename r h n_int = n_int
@@ -72,11 +74,13 @@ mutual
   normals-rename r h n_end = n_end
   normals-rename r h (n_more {l = l} {rest = rest} f t ts) = n_more (fresh-rename r l rest f) (normal-rename r h t) (normals-rename r h ts)
 
+  -- renaming keeps types neutral
   pub neutral-rename : {ctx other : List Kind} {t : Ty} {k : Kind} (r : ℕ → ℕ) → Maps ctx other r → Neutral ctx t k → Neutral other (rename r t) k
   neutral-rename r h (n_var {i = i} {k = k} x) = n_var (h i k x)
   neutral-rename r h (n_apply n a) = n_apply (neutral-rename r h n) (normal-rename r h a)
 
 mutual
+  -- renaming keeps conversion
   pub conv-rename : {ctx other : List Kind} {s t : Ty} {k : Kind} (r : ℕ → ℕ) → Maps ctx other r → Conv ctx s t k → Conv other (rename r s) (rename r t) k
   conv-rename r h (c_refl t) = c_refl (kind-rename r h t)
   conv-rename r h (c_sym c) = c_sym (conv-rename r h c)
@@ -118,6 +122,7 @@ fresh-substitute s l Row.End f = tt
 fresh-substitute s l (Row.More m t rest) f = (f.0, fresh-substitute s l rest f.1)
 
 mutual
+  -- a substitution of types of the right kinds keeps kinds
   pub kind-substitute : {ctx other : List Kind} {t : Ty} {k : Kind} (s : ℕ → Ty) → Substitutes ctx other s → HasKind ctx t k → HasKind other (substitute s t) k
   kind-substitute s h (k_var {i = i} {k = k} x) = h i k x
   kind-substitute s h k_int = k_int
@@ -139,6 +144,7 @@ mutual
 -- kinds of convertible and of normal types
 
 mutual
+  -- convertible types have the kind at which they are convertible
   pub conv-kinds : {ctx : List Kind} {s t : Ty} {k : Kind} → Conv ctx s t k → HasKind ctx s k × HasKind ctx t k
   conv-kinds (c_refl h) = (h, h)
   conv-kinds (c_sym c) = let h = conv-kinds c in (h.1, h.0)
@@ -159,6 +165,7 @@ mutual
   convs-kinds (c_more f g c d) = let p = conv-kinds c in let q = convs-kinds d in (k_more f p.0 q.0, k_more g p.1 q.1)
 
 mutual
+  -- a normal type has its kind
   pub normal-kind : {ctx : List Kind} {t : Ty} {k : Kind} → Normal ctx t k → HasKind ctx t k
   normal-kind (n_lam b) = k_lam (normal-kind b)
   normal-kind n_int = k_int
@@ -176,6 +183,7 @@ mutual
   normals-kinds n_end = k_end
   normals-kinds (n_more f t ts) = k_more f (normal-kind t) (normals-kinds ts)
 
+  -- so has a neutral one
   pub neutral-kind : {ctx : List Kind} {t : Ty} {k : Kind} → Neutral ctx t k → HasKind ctx t k
   neutral-kind (n_var x) = k_var x
   neutral-kind (n_apply n a) = k_apply (neutral-kind n) (normal-kind a)
@@ -183,6 +191,7 @@ mutual
 -- conversion goes with substitution
 
 mutual
+  -- a substitution of types of the right kinds keeps conversion
   pub conv-substitute : {ctx other : List Kind} {t u : Ty} {k : Kind} (s : ℕ → Ty) → Substitutes ctx other s → Conv ctx t u k → Conv other (substitute s t) (substitute s u) k
   conv-substitute s h (c_refl t) = c_refl (kind-substitute s h t)
   conv-substitute s h (c_sym c) = c_sym (conv-substitute s h c)
@@ -204,6 +213,7 @@ mutual
 
 -- convertible substitutions give convertible types
 
+-- two substitutions give each variable convertible types of its kind
 abbrev pub Convertible : List Kind → List Kind → (ℕ → Ty) → (ℕ → Ty) → Type 0
 Convertible ctx other s q = (i : ℕ) (k : Kind) → Lookup ctx i k → Conv other (s i) (q i) k
 
@@ -213,6 +223,7 @@ under-convertible l h _ _ here = c_refl (k_var here)
 under-convertible {other = other} l h _ _ (there {k = k} {i = i} x) = conv-rename suc (maps-suc l other) (h i k x)
 
 mutual
+  -- convertible substitutions in one type give convertible types
   pub substitute-convertible : {ctx other : List Kind} {t : Ty} {k : Kind} (s q : ℕ → Ty) → Convertible ctx other s q → HasKind ctx t k → Conv other (substitute s t) (substitute q t) k
   substitute-convertible s q h (k_var {i = i} {k = k} x) = h i k x
   substitute-convertible s q h k_int = c_refl k_int

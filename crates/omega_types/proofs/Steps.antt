@@ -68,6 +68,7 @@ walked-rename r d t h = walked-substitute (λ e. vars (r e)) 0 d t (λ e _. unde
 
 -- a walk that leaves what is bound inside leaves what mentions nothing else
 mutual
+  -- a walk that leaves what is bound inside leaves a type without free indexes from there on
   pub walked-closed : (f : ℕ → ℕ → Ty) (d : ℕ) (t : Ty) → ((e i : ℕ) → i < e → f e i ≡ Ty.Var i) → bound_of t ≤ d → walked_ty f d t ≡ t
   walked-closed f d (Ty.Var i) h p = h d i (omega (arith, p))
   walked-closed f d Ty.Int h p = refl

@@ -12,6 +12,7 @@ lift-same n r h zero p = refl
 lift-same n r h (suc i) p = ap suc (h i (omega arith))
 
 mutual
+  -- a renaming that leaves the first indexes leaves a type whose free indexes are among them
   pub rename-unchanged : (n : ℕ) (r : ℕ → ℕ) (t : Ty) → ((i : ℕ) → i < n → r i ≡ i) → bound_of t ≤ n → rename r t ≡ t
   rename-unchanged n r (Ty.Var i) h p = ap Ty.Var (h i (omega arith))
   rename-unchanged n r Ty.Int h p = refl
@@ -35,6 +36,7 @@ under-same n s h zero p = refl
 under-same n s h (suc i) p = ap (rename suc) (h i (omega arith))
 
 mutual
+  -- a substitution that leaves the first indexes leaves a type whose free indexes are among them
   pub substitute-unchanged : (n : ℕ) (s : ℕ → Ty) (t : Ty) → ((i : ℕ) → i < n → s i ≡ Ty.Var i) → bound_of t ≤ n → substitute s t ≡ t
   substitute-unchanged n s (Ty.Var i) h p = h i (omega arith)
   substitute-unchanged n s Ty.Int h p = refl

@@ -6,7 +6,7 @@ use Rattle.package_judgments.proofs.Verdicts.{pack_type-view}
 use Rattle.sig_package_laws.proofs.PackageClaims.{one_normal_package_type}
 use Rattle.package_laws.specs.SharedType.{OneSharedType}
 
--- signatures that match each other share a package type
+-- the package type of a signature is that of each one that it matches both ways, rooted and ordered alike
 pub one_shared_type : OneSharedType
 one_shared_type ctx x t ok p y u f g right a b same q =
     let v = pack_type-view p in

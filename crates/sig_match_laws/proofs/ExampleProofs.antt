@@ -30,6 +30,7 @@ use Rattle.sig_laws.specs.Good.{OkSig, OkRight}
 abbrev path_t : SigPath
 path_t = Item.Part name_t ∷ []
 
+-- the body of the example, a structure of the hidden type
 abbrev pub body_t : Sig
 body_t = Sig.Str (SigRow.More name_t (Sig.Typ (Ty.Var zero) Kind.Star) SigRow.End)
 

@@ -43,9 +43,11 @@ mutual
   alike-sym h (str fs) = str (alike-sym_row h fs)
   alike-sym h (fun s x) = fun (alike-sym h s) (alike-sym_abs h x)
 
+  -- signatures that hide types and are alike are so the other way round
   pub alike-sym_abs : {R S : Between} {ctx : List Kind} {x y : Abs} → ((c : List Kind) (t : Ty) (k : Kind) (u : Ty) → R c t k u → S c u k t) → AlikeAbs R ctx x y → AlikeAbs S ctx y x
   alike-sym_abs h (ex s) = ex (alike-sym h s)
 
+  -- so are the fields of structures
   pub alike-sym_row : {R S : Between} {ctx : List Kind} {x y : SigRow} → ((c : List Kind) (t : Ty) (k : Kind) (u : Ty) → R c t k u → S c u k t) → AlikeRow R ctx x y → AlikeRow S ctx y x
   alike-sym_row h end = end
   alike-sym_row h (more s fs) = more (alike-sym h s) (alike-sym_row h fs)
@@ -102,6 +104,7 @@ conv-form_abs c f = alike-trans_abs (λ c t k u v r q. (q.0, c_trans r q.1)) c f
 -- normal forms of signatures
 
 mutual
+  -- the normal form of a signature is the one that the function gives
   pub form_sig-same : {ctx : List Kind} {x n : Sig} → NormalSigForm ctx x n → n ≡ normal_sig ctx x
   form_sig-same (val r) = ap Sig.Val (form-is r)
   form_sig-same (typ {k = k} r) = ap (λ u. Sig.Typ u k) (form-is r)
@@ -109,6 +112,7 @@ mutual
   form_sig-same (str fs) = ap Sig.Str (form_row-same fs)
   form_sig-same (fun {ks = ks} {e = e} s x) = ap₂ (Sig.Fun e ks) (form_sig-same s) (form_abs-same x)
 
+  -- so is that of a signature that hides types
   pub form_abs-same : {ctx : List Kind} {x n : Abs} → NormalAbsForm ctx x n → n ≡ normal_abs ctx x
   form_abs-same (ex {ks = ks} s) = ap (Abs.Ex ks) (form_sig-same s)
 
@@ -125,6 +129,7 @@ pub form_abs-unique : {ctx : List Kind} {x n m : Abs} → NormalAbsForm ctx x n 
 form_abs-unique f g = form_abs-same f ∙ sym (form_abs-same g)
 
 mutual
+  -- the normal form of a signature is normal
   pub form_sig-normal : {ctx : List Kind} {x n : Sig} → NormalSigForm ctx x n → NormalSig ctx n
   form_sig-normal (val r) = r.0
   form_sig-normal (typ r) = r.0
@@ -132,6 +137,7 @@ mutual
   form_sig-normal (str fs) = form_row-normal fs
   form_sig-normal (fun s x) = (form_sig-normal s, form_abs-normal x)
 
+  -- so is that of a signature that hides types
   pub form_abs-normal : {ctx : List Kind} {x n : Abs} → NormalAbsForm ctx x n → NormalAbs ctx n
   form_abs-normal (ex s) = form_sig-normal s
 
@@ -141,6 +147,7 @@ mutual
 
 -- a normal one is its own
 mutual
+  -- a normal signature is a normal form of itself
   pub normal_sig-form : (ctx : List Kind) (x : Sig) → NormalSig ctx x → NormalSigForm ctx x x
   normal_sig-form ctx (Sig.Val t) n = val (n, c_refl (normal-kind n))
   normal_sig-form ctx (Sig.Typ t k) n = typ (n, c_refl (normal-kind n))
@@ -148,6 +155,7 @@ mutual
   normal_sig-form ctx (Sig.Str fs) n = str (normal_row-form ctx fs n)
   normal_sig-form ctx (Sig.Fun e ks s x) n = fun (normal_sig-form (extend ctx ks) s n.0) (normal_abs-form (extend ctx ks) x n.1)
 
+  -- so is one that hides types
   pub normal_abs-form : (ctx : List Kind) (x : Abs) → NormalAbs ctx x → NormalAbsForm ctx x x
   normal_abs-form ctx (Abs.Ex ks s) n = ex (normal_sig-form (extend ctx ks) s n)
 
@@ -157,6 +165,7 @@ mutual
 
 -- each signature whose types have their kinds has one
 mutual
+  -- what the function gives of a well kinded signature is its normal form
   pub conv_sig-gives : {ctx : List Kind} {x y : Sig} → ConvSig ctx x y → NormalSigForm ctx x (normal_sig ctx x)
   conv_sig-gives (val r) = val (normal-gives (conv-kinds r).0)
   conv_sig-gives (typ r) = typ (normal-gives (conv-kinds r).0)
@@ -164,6 +173,7 @@ mutual
   conv_sig-gives (str fs) = str (conv_row-gives fs)
   conv_sig-gives (fun s x) = fun (conv_sig-gives s) (conv_abs-gives x)
 
+  -- so is what it gives of one that hides types
   pub conv_abs-gives : {ctx : List Kind} {x y : Abs} → ConvAbs ctx x y → NormalAbsForm ctx x (normal_abs ctx x)
   conv_abs-gives (ex s) = ex (conv_sig-gives s)
 
@@ -192,6 +202,7 @@ normal_abs-self ctx x n = sym (form_abs-same (normal_abs-form ctx x n))
 
 -- convertible substitutions in convertible signatures
 mutual
+  -- convertible substitutions in convertible signatures give convertible ones
   pub conv_sig-substitute : {ctx other : List Kind} {x y : Sig} (f g : ℕ → Ty) → Convertible ctx other f g → ConvSig ctx x y → ConvSig other (substitute_sig f x) (substitute_sig g y)
   conv_sig-substitute f g h (val r) = val (c_trans (substitute-convertible f g h (conv-kinds r).0) (conv-substitute g (λ i k x. (conv-kinds (h i k x)).1) r))
   conv_sig-substitute f g h (typ r) = typ (c_trans (substitute-convertible f g h (conv-kinds r).0) (conv-substitute g (λ i k x. (conv-kinds (h i k x)).1) r))
@@ -199,6 +210,7 @@ mutual
   conv_sig-substitute f g h (str fs) = str (conv_row-substitute f g h fs)
   conv_sig-substitute f g h (fun {ks = ks} s x) = fun (conv_sig-substitute (unders ks f) (unders ks g) (unders-convertible ks h) s) (conv_abs-substitute (unders ks f) (unders ks g) (unders-convertible ks h) x)
 
+  -- so they do where the signatures hide types
   pub conv_abs-substitute : {ctx other : List Kind} {x y : Abs} (f g : ℕ → Ty) → Convertible ctx other f g → ConvAbs ctx x y → ConvAbs other (substitute_abs f x) (substitute_abs g y)
   conv_abs-substitute f g h (ex {ks = ks} s) = ex (conv_sig-substitute (unders ks f) (unders ks g) (unders-convertible ks h) s)
 
@@ -212,6 +224,7 @@ substitutes-convertible h i k x = c_refl (h i k x)
 
 -- renaming keeps normal signatures normal
 mutual
+  -- renaming keeps a signature normal
   pub normal_sig-rename : {ctx other : List Kind} (r : ℕ → ℕ) → Maps ctx other r → (x : Sig) → NormalSig ctx x → NormalSig other (rename_sig r x)
   normal_sig-rename r h (Sig.Val t) n = normal-rename r h n
   normal_sig-rename r h (Sig.Typ t k) n = normal-rename r h n
@@ -219,9 +232,11 @@ mutual
   normal_sig-rename r h (Sig.Str fs) n = normal_row-rename r h fs n
   normal_sig-rename r h (Sig.Fun e ks s x) n = (normal_sig-rename (lifts ks r) (lifts-maps ks h) s n.0, normal_abs-rename (lifts ks r) (lifts-maps ks h) x n.1)
 
+  -- so for one that hides types
   pub normal_abs-rename : {ctx other : List Kind} (r : ℕ → ℕ) → Maps ctx other r → (x : Abs) → NormalAbs ctx x → NormalAbs other (rename_abs r x)
   normal_abs-rename r h (Abs.Ex ks s) n = normal_sig-rename (lifts ks r) (lifts-maps ks h) s n
 
+  -- so for the fields of a structure
   pub normal_row-rename : {ctx other : List Kind} (r : ℕ → ℕ) → Maps ctx other r → (x : SigRow) → NormalSigRow ctx x → NormalSigRow other (rename_sig_row r x)
   normal_row-rename r h SigRow.End n = tt
   normal_row-rename r h (SigRow.More l s rest) n = (normal_sig-rename r h s n.0, normal_row-rename r h rest n.1)
@@ -232,6 +247,7 @@ abbrev pub Any : Between
 Any ctx t k u = Unit {0}
 
 mutual
+  -- substitution keeps the shape of a signature
   pub alike-substitute : (ctx : List Kind) (f : ℕ → Ty) (x : Sig) → AlikeSig Any ctx x (substitute_sig f x)
   alike-substitute ctx f (Sig.Val t) = val tt
   alike-substitute ctx f (Sig.Typ t k) = typ tt
@@ -239,9 +255,11 @@ mutual
   alike-substitute ctx f (Sig.Str fs) = str (alike_row-substitute ctx f fs)
   alike-substitute ctx f (Sig.Fun e ks s x) = fun (alike-substitute (extend ctx ks) (unders ks f) s) (alike_abs-substitute (extend ctx ks) (unders ks f) x)
 
+  -- so for one that hides types
   pub alike_abs-substitute : (ctx : List Kind) (f : ℕ → Ty) (x : Abs) → AlikeAbs Any ctx x (substitute_abs f x)
   alike_abs-substitute ctx f (Abs.Ex ks s) = ex (alike-substitute (extend ctx ks) (unders ks f) s)
 
+  -- so for the fields of a structure
   pub alike_row-substitute : (ctx : List Kind) (f : ℕ → Ty) (x : SigRow) → AlikeRow Any ctx x (substitute_sig_row f x)
   alike_row-substitute ctx f SigRow.End = end
   alike_row-substitute ctx f (SigRow.More l s rest) = more (alike-substitute ctx f s) (alike_row-substitute ctx f rest)

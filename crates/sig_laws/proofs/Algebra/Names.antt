@@ -12,6 +12,7 @@ pub data Compared {A : Type 0} (R : A → A → Type 0) : A → A → Type 0 whe
   after : {x y : A} → R y x → Compared R x y
   same : {x y : A} → x ≡ y → Compared R x y
 
+-- one name comes before another
 abbrev pub NameBefore : Name → Name → Type 0
 NameBefore l m = IsTrue (name_before l m)
 

@@ -48,6 +48,7 @@ unders-agree [] P f g h = h
 unders-agree (k ∷ ks) P f g h = unders-agree ks P (under f) (under g) (under-agree (λ i. P (past ks i)) f g h)
 
 mutual
+  -- substitutions that agree on what a signature mentions do the same with it
   pub substitute_sig-agree : (f g : ℕ → Ty) (s : Sig) → ((i : ℕ) → MentionsSig i s → f i ≡ g i) → substitute_sig f s ≡ substitute_sig g s
   substitute_sig-agree f g (Sig.Val t) h = ap Sig.Val (substitute-agree f g t h)
   substitute_sig-agree f g (Sig.Typ t k) h = ap (λ u. Sig.Typ u k) (substitute-agree f g t h)
@@ -77,6 +78,7 @@ lift-from r P v m = go m.0 m.1 m.2
     go (suc j) p e = (j, p, omega (arith, e))
 
 mutual
+  -- a variable that a renamed type mentions comes from one that the type mentions
   pub mentions-rename : (r : ℕ → ℕ) (t : Ty) (v : ℕ) → Mentions v (rename r t) → (j : ℕ) × Mentions j t × (r j ≡ v)
   mentions-rename r (Ty.Var i) _ m_var = (i, m_var, refl)
   mentions-rename r Ty.Int v m = elim m [ ]
@@ -142,6 +144,7 @@ mentions-unders [] f P v m = m
 mentions-unders (k ∷ ks) f P v m = mentions-under f (λ i. P (past ks i)) v (mentions-unders ks (under f) P (suc v) m)
 
 mutual
+  -- a variable that a substituted signature mentions comes from the type put in for one that the signature mentions
   pub mentions_sig-substitute : (f : ℕ → Ty) (s : Sig) (v : ℕ) → MentionsSig v (substitute_sig f s) → (j : ℕ) × MentionsSig j s × Mentions v (f j)
   mentions_sig-substitute f (Sig.Val t) v m = mentions-substitute f t v m
   mentions_sig-substitute f (Sig.Typ t k) v m = mentions-substitute f t v m
@@ -150,6 +153,7 @@ mutual
   mentions_sig-substitute f (Sig.Fun e ks s x) v (inl m) = let q = mentions-unders ks f (λ i. MentionsSig i s) v (mentions_sig-substitute (unders ks f) s (past ks v) m) in (q.0, inl q.1, q.2)
   mentions_sig-substitute f (Sig.Fun e ks s x) v (inr m) = let q = mentions-unders ks f (λ i. MentionsAbs i x) v (mentions_abs-substitute (unders ks f) x (past ks v) m) in (q.0, inr q.1, q.2)
 
+  -- so for a signature that hides types
   pub mentions_abs-substitute : (f : ℕ → Ty) (x : Abs) (v : ℕ) → MentionsAbs v (substitute_abs f x) → (j : ℕ) × MentionsAbs j x × Mentions v (f j)
   mentions_abs-substitute f (Abs.Ex ks s) v m = mentions-unders ks f (λ i. MentionsSig i s) v (mentions_sig-substitute (unders ks f) s (past ks v) m)
 
@@ -160,6 +164,7 @@ mutual
 
 -- a normal signature mentions only what each convertible one does
 mutual
+  -- the normal form of a signature mentions no variable that the signature does not mention
   pub unmentioned_sig : {ctx : List Kind} {s n : Sig} (i : ℕ) → ConvSig ctx s n → NormalSig ctx n → (MentionsSig i s → ⊥) → MentionsSig i n → ⊥
   unmentioned_sig i (val c) n h m = unmentioned n c h m
   unmentioned_sig i (typ c) n h m = unmentioned n c h m
@@ -168,6 +173,7 @@ mutual
   unmentioned_sig i (fun {ks = ks} s x) n h (inl m) = unmentioned_sig (past ks i) s n.0 (λ q. h (inl q)) m
   unmentioned_sig i (fun {ks = ks} s x) n h (inr m) = unmentioned_abs (past ks i) x n.1 (λ q. h (inr q)) m
 
+  -- so for a signature that hides types
   pub unmentioned_abs : {ctx : List Kind} {s n : Abs} (i : ℕ) → ConvAbs ctx s n → NormalAbs ctx n → (MentionsAbs i s → ⊥) → MentionsAbs i n → ⊥
   unmentioned_abs i (ex {ks = ks} s) n h m = unmentioned_sig (past ks i) s n h m
 

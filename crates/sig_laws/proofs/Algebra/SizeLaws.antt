@@ -13,6 +13,7 @@ use Rattle.sig_definitions.specs.Signatures.SigSize.{size, size_abs, size_row}
 use Rattle.sig_laws.proofs.Algebra.AlikeLaws.{alike-substitute, alike_abs-substitute, alike_abs-rename}
 
 mutual
+  -- signatures that are alike have one size
   pub size-alike : {R : Between} {ctx : List Kind} {s t : Sig} → AlikeSig R ctx s t → size s ≡ size t
   size-alike (val r) = refl
   size-alike (typ r) = refl
@@ -20,6 +21,7 @@ mutual
   size-alike (str fs) = ap suc (size_row-alike fs)
   size-alike (fun s x) = ap₂ (λ a b. suc (a + b)) (size-alike s) (size_abs-alike x)
 
+  -- so have those that hide types
   pub size_abs-alike : {R : Between} {ctx : List Kind} {x y : Abs} → AlikeAbs R ctx x y → size_abs x ≡ size_abs y
   size_abs-alike (ex s) = ap suc (size-alike s)
 

@@ -80,6 +80,7 @@ good-at : {ctx : List Kind} {n : Abs} (x : Abs) (f : ℕ → Ty) → ShapeAbs x 
 good-at x f h a = record { normal = form_abs-normal a; shape = shape_abs-alike a (shape_abs-substitute f x h) }
 
 mutual
+  -- the coercion of subtyping leads from the left encoding to the right one, by normal typing
   pub sub-typed : {ctx : List Kind} {s t : Sig} {f : Term} → Good ctx s → Good ctx t → Sub ctx s t f → Typed ctx [] f (Ty.Arrow (enc s) (enc t))
   sub-typed g h Sub.val = Typed.lam (good-normal g) (Typed.var At.here)
   sub-typed g h Sub.typ = Typed.lam (good-normal g) (Typed.var At.here)
@@ -103,6 +104,7 @@ mutual
   sub_result-typed g h (SubResult.both_pure a) = sub-typed (record { normal = g.normal; shape = g.shape }) (record { normal = h.normal; shape = h.shape }) a
   sub_result-typed g h (SubResult.to_impure a) = sub_abs-typed g h a
 
+  -- so where the sides hide types
   pub sub_abs-typed : {ctx : List Kind} {x y : Abs} {f : Term} → GoodAbs ctx x → GoodAbs ctx y → SubAbs ctx x y f → Typed ctx [] f (Ty.Arrow (enc_abs x) (enc_abs y))
   sub_abs-typed {ctx} {y = Abs.Ex js t} g h (SubAbs.plain {s = s} a (MatchPart.made p)) =
       let left : Good ctx s = record { normal = g.normal; shape = g.shape } in
@@ -120,6 +122,7 @@ mutual
       let call = Typed.call (typed-more (opened (k ∷ ks) (enc s) (from ∷ [])) m.typed) (Typed.var (at-opened (enc s) (k ∷ ks) (from ∷ []))) in
       Typed.lam (good_abs-normal g) (typed-opens (k ∷ ks) (good_abs-normal h) (good-normal left) (Typed.var At.here) (cast (sym e) (typed-packs m.found (good-normal raised) call e p)))
 
+  -- the coercion of matching leads to the right side's body at the types found
   pub match-typed : {ctx ks : List Kind} {s t : Sig} {ts : List Ty} {f : Term} → Good ctx s → Good (extend ctx ks) t → Match ctx s (Abs.Ex ks t) ts f → Matched ctx s ks t ts f
   match-typed {s = s} {t = t} g h (Match.at {r = r} {guess = guess} o n a b) =
       let shape = shape-alike a (shape-substitute (puts guess Ty.Var) t h.shape) in

@@ -36,6 +36,7 @@ shown_type-substitute : (f : ℕ → Ty) (t : Ty) (k : Kind) → substitute f (s
 shown_type-substitute f t k = ap (λ v. Ty.All (Kind.Arrow k Kind.Star) (Ty.Arrow (Ty.Apply (Ty.Var zero) v) (Ty.Apply (Ty.Var zero) v))) (substitute-weaken f t)
 
 mutual
+  -- the encoding commutes with substitution
   pub enc-substitute : (f : ℕ → Ty) (s : Sig) → enc (substitute_sig f s) ≡ substitute f (enc s)
   enc-substitute f (Sig.Val t) = refl
   enc-substitute f (Sig.Typ t k) = ap (one_part Label.Typ) (sym (shown_type-substitute f t k))
@@ -45,6 +46,7 @@ mutual
       ap₂ (λ a b. all_over ks (Ty.Arrow a (one_part (result_label e) b))) (enc-substitute (unders ks f) s) (enc_abs-substitute (unders ks f) x) ∙
       sym (all_over-substitute ks f (Ty.Arrow (enc s) (one_part (result_label e) (enc_abs x))))
 
+  -- so for signatures that hide types
   pub enc_abs-substitute : (f : ℕ → Ty) (x : Abs) → enc_abs (substitute_abs f x) ≡ substitute f (enc_abs x)
   enc_abs-substitute f (Abs.Ex ks s) = ap (ex_over ks) (enc-substitute (unders ks f) s) ∙ sym (ex_over-substitute ks f (enc s))
 
@@ -169,6 +171,7 @@ raised_same : (t u : Ty) → rename suc t ≡ rename suc u → t ≡ u
 raised_same t u e = sym (single-rename t Ty.Int) ∙ (ap (substitute (single Ty.Int)) e ∙ single-rename u Ty.Int)
 
 mutual
+  -- signatures of one encoding are the same
   pub enc-injective : (s t : Sig) → enc s ≡ enc t → s ≡ t
   enc-injective (Sig.Val t) (Sig.Val u) e = let g : t ≡ u = cc in ap Sig.Val g
   enc-injective (Sig.Typ t k) (Sig.Typ u j) e =
@@ -186,6 +189,7 @@ mutual
       λ i. Sig.Fun (pe i) (g.0 i) (ps i) (px i)
   enc-injective s t e = let g = other_sort s t e in absurd (omega (arith, g))
 
+  -- so are those that hide types
   pub enc_abs-injective : (x y : Abs) → enc_abs x ≡ enc_abs y → x ≡ y
   enc_abs-injective (Abs.Ex ks s) (Abs.Ex js t) e = let g = ex_over-shows ks js s t e in ap₂ Abs.Ex g.0 (enc-injective s t g.1)
 

@@ -32,12 +32,14 @@ use Rattle.omega_types.specs.Substitution.{rename}
 
 -- shapes
 
+-- the result of a pure functor hides nothing
 abbrev pub Hides : Effect → Abs → Type 0
 Hides Impure x = Unit {0}
 Hides Pure (Abs.Ex [] s) = Unit {0}
 Hides Pure (Abs.Ex (k ∷ ks) s) = ⊥
 
 abbrev mutual
+  -- the names of each structure differ, and the result of each pure functor hides nothing
   pub Shape : Sig → Type 0
   Shape (Sig.Val t) = Unit {0}
   Shape (Sig.Typ t k) = Unit {0}
@@ -45,9 +47,11 @@ abbrev mutual
   Shape (Sig.Str fs) = ShapeRow fs
   Shape (Sig.Fun e ks s x) = Shape s × ShapeAbs x × Hides e x
 
+  -- so for a signature that hides types
   pub ShapeAbs : Abs → Type 0
   ShapeAbs (Abs.Ex ks s) = Shape s
 
+  -- so for the fields of a structure
   pub ShapeRow : SigRow → Type 0
   ShapeRow SigRow.End = Unit {0}
   ShapeRow (SigRow.More l s rest) = NoField l rest × Shape s × ShapeRow rest
@@ -64,6 +68,7 @@ hides-alike Pure (AlikeAbs.ex {ks = []} a) h = tt
 hides-alike Pure (AlikeAbs.ex {ks = k ∷ ks} a) h = h
 
 mutual
+  -- a signature has the shape of one that is like it
   pub shape-alike : {R : Between} {ctx : List Kind} {s t : Sig} → AlikeSig R ctx s t → Shape s → Shape t
   shape-alike (AlikeSig.val a) h = tt
   shape-alike (AlikeSig.typ a) h = tt
@@ -71,6 +76,7 @@ mutual
   shape-alike (AlikeSig.str a) h = shape_row-alike a h
   shape-alike (AlikeSig.fun {e = e} a b) h = (shape-alike a h.0, shape_abs-alike b h.1, hides-alike e b h.2)
 
+  -- so has one that hides types
   pub shape_abs-alike : {R : Between} {ctx : List Kind} {x y : Abs} → AlikeAbs R ctx x y → ShapeAbs x → ShapeAbs y
   shape_abs-alike (AlikeAbs.ex a) h = shape-alike a h
 
@@ -140,6 +146,7 @@ shown_type-normal {ctx} {t} {k} h = n_all (n_arrow u u)
     u = n_neutral (n_apply (n_var here) (normal-rename suc (maps-suc (Kind.Arrow k Kind.Star) ctx) h))
 
 mutual
+  -- the encoding of a normal signature whose structures' names differ is normal
   pub distinct-normal : {ctx : List Kind} (s : Sig) → Distinct s → NormalSig ctx s → Normal ctx (enc s) Kind.Star
   distinct-normal (Sig.Val t) d n = one_part-normal Label.Val n
   distinct-normal (Sig.Typ t k) d n = one_part-normal Label.Typ (shown_type-normal n)
@@ -147,6 +154,7 @@ mutual
   distinct-normal (Sig.Str fs) d n = n_fields (distinct_row-normal fs d n)
   distinct-normal (Sig.Fun e ks s x) d n = all_over-normal ks (n_arrow (distinct-normal s d.0 n.0) (one_part-normal (result_label e) (distinct_abs-normal x d.1 n.1)))
 
+  -- so is that of one that hides types
   pub distinct_abs-normal : {ctx : List Kind} (x : Abs) → DistinctAbs x → NormalAbs ctx x → Normal ctx (enc_abs x) Kind.Star
   distinct_abs-normal (Abs.Ex ks s) d n = ex_over-normal ks (distinct-normal s d n)
 
@@ -162,6 +170,7 @@ mutual
   shape-distinct (Sig.Str fs) h = shape_row-distinct fs h
   shape-distinct (Sig.Fun e ks s x) h = (shape-distinct s h.0, shape_abs-distinct x h.1)
 
+  -- in a signature of the right shape the names of each structure differ
   pub shape_abs-distinct : (x : Abs) → ShapeAbs x → DistinctAbs x
   shape_abs-distinct (Abs.Ex ks s) h = shape-distinct s h
 
@@ -186,6 +195,7 @@ pub one_part-conv : {ctx : List Kind} {t u : Ty} (l : Label) → Conv ctx t u Ki
 one_part-conv l h = c_fields (c_more tt tt h c_end)
 
 mutual
+  -- signatures whose types are related by conversion have convertible encodings
   pub enc-conv : {R : Between} {ctx : List Kind} {s t : Sig} → Converts R → AlikeSig R ctx s t → Shape s → Conv ctx (enc s) (enc t) Kind.Star
   enc-conv v (AlikeSig.val {ctx = ctx} {t = t} {u = u} a) h = one_part-conv Label.Val (v ctx t Kind.Star u a)
   enc-conv v (AlikeSig.typ {ctx = ctx} {t = t} {u = u} {k = k} a) h =
@@ -195,6 +205,7 @@ mutual
   enc-conv v (AlikeSig.str a) h = c_fields (enc_row-conv v a h)
   enc-conv v (AlikeSig.fun {ks = ks} {e = e} a b) h = conv-all_over ks (c_arrow (enc-conv v a h.0) (one_part-conv (result_label e) (enc_abs-conv v b h.1)))
 
+  -- so have those that hide types
   pub enc_abs-conv : {R : Between} {ctx : List Kind} {x y : Abs} → Converts R → AlikeAbs R ctx x y → ShapeAbs x → Conv ctx (enc_abs x) (enc_abs y) Kind.Star
   enc_abs-conv v (AlikeAbs.ex {ks = ks} a) h = conv-ex_over ks (enc-conv v a h)
 
@@ -212,10 +223,12 @@ enc_abs-form {n = n} f h = (enc_abs-normal n (form_abs-normal f) (shape_abs-alik
 
 -- good signatures
 
+-- a signature is normal and of the right shape
 pub record Good (ctx : List Kind) (s : Sig) : Type 0 where
   pub normal : NormalSig ctx s
   pub shape : Shape s
 
+-- so is one that hides types
 pub record GoodAbs (ctx : List Kind) (x : Abs) : Type 0 where
   pub normal : NormalAbs ctx x
   pub shape : ShapeAbs x

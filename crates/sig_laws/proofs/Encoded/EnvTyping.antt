@@ -33,6 +33,7 @@ GoodEntry g (Entry.Value x t) = Normal (kinds g) t Kind.Star
 GoodEntry (Entry.TypeVar k ∷ g) (Entry.TypeParam x) = Unit {0}
 GoodEntry g (Entry.TypeParam x) = ⊥
 
+-- each entry of an environment is good in those outside it
 abbrev pub GoodEnv : Env → Type 0
 GoodEnv [] = Unit {0}
 GoodEnv (entry ∷ g) = GoodEntry g entry × GoodEnv g
@@ -115,6 +116,7 @@ pub kinds-named_fields : (g : Env) (fs : SigRow) → kinds (named_fields g fs) �
 kinds-named_fields g SigRow.End = refl
 kinds-named_fields g (SigRow.More l s rest) = kinds-named_fields (Entry.Named l s ∷ g) rest
 
+-- the types of term variables with those of fields, each an encoding
 abbrev pub field_vars : SigRow → List Ty → List Ty
 field_vars SigRow.End vars = vars
 field_vars (SigRow.More l s rest) vars = field_vars rest (enc s ∷ vars)

@@ -166,6 +166,7 @@ mutual
       let m = reorder-maps o ctx in
       ((normal_sig-rename (renumber ks order) m t p.0, normal_abs-rename (renumber ks order) m y q.0), (shape-rename (renumber ks order) t p.1, shape_abs-rename (renumber ks order) y q.1, tt))
 
+  -- the norm of a normal signature of the right shape is so too
   pub norm_abs-good : {ctx : List Kind} {x y : Abs} → Norm ctx x y → NormalAbs ctx x → ShapeAbs x → NormalAbs ctx y × ShapeAbs y
   norm_abs-good {ctx} (Norm.ex {ks = ks} {t = t} {order = order} a o) n h =
       let p = norm_sig-good a n h in

@@ -31,6 +31,7 @@ use Rattle.sig_laws.proofs.Formed.Shows.{rooted-shows, shows-rooted, shows-subst
 -- the types of a well formed signature have their kinds
 
 mutual
+  -- a well formed signature is well kinded, that is convertible to itself
   pub well_formed-kinds : {ctx : List Kind} {s : Sig} → WellFormed ctx s → ConvSig ctx s s
   well_formed-kinds (WellFormed.val h) = val (c_refl h)
   well_formed-kinds (WellFormed.typ h) = typ (c_refl h)
@@ -43,12 +44,15 @@ mutual
   well_formed_row-kinds WellFormedRow.end = end
   well_formed_row-kinds (WellFormedRow.more s fs) = more (well_formed-kinds s) (well_formed_row-kinds fs)
 
+  -- so is one that hides types
   pub well_formed_abs-kinds : {ctx : List Kind} {x : Abs} → WellFormedAbs ctx x → ConvAbs ctx x x
   well_formed_abs-kinds (abs s) = ex (well_formed-kinds s)
 
+  -- so is an ordered explicit one
   pub explicit-kinds : {ctx : List Kind} {x : Abs} → Explicit ctx x → ConvAbs ctx x x
   explicit-kinds (explicit w r h) = ex (well_formed-kinds w)
 
+  -- so is the body of an ordered explicit one
   pub explicit-body : {ctx ks : List Kind} {s : Sig} → Explicit ctx (Abs.Ex ks s) → ConvSig (extend ctx ks) s s
   explicit-body (explicit w r h) = well_formed-kinds w
 
@@ -113,6 +117,7 @@ rising-alike (more {l = l} a rest) h = (before_all-alike l rest h.0, rising-alik
 -- substitution keeps well-formedness
 
 mutual
+  -- a substitution keeps signatures well formed
   pub well_formed-substitute : {ctx other : List Kind} {s : Sig} (f : ℕ → Ty) → Substitutes ctx other f → WellFormed ctx s → WellFormed other (substitute_sig f s)
   well_formed-substitute f h (WellFormed.val t) = WellFormed.val (kind-substitute f h t)
   well_formed-substitute f h (WellFormed.typ t) = WellFormed.typ (kind-substitute f h t)
@@ -125,9 +130,11 @@ mutual
   well_formed_row-substitute f h WellFormedRow.end = WellFormedRow.end
   well_formed_row-substitute f h (WellFormedRow.more s fs) = WellFormedRow.more (well_formed-substitute f h s) (well_formed_row-substitute f h fs)
 
+  -- so those that hide types
   pub well_formed_abs-substitute : {ctx other : List Kind} {x : Abs} (f : ℕ → Ty) → Substitutes ctx other f → WellFormedAbs ctx x → WellFormedAbs other (substitute_abs f x)
   well_formed_abs-substitute f h (abs {ks = ks} s) = abs (well_formed-substitute (unders ks f) (unders-substitutes ks h) s)
 
+  -- a substitution keeps the results of functors ordered explicit
   pub explicit_results-substitute : {ctx other : List Kind} {s : Sig} (f : ℕ → Ty) → Substitutes ctx other f → ExplicitResults ctx s → ExplicitResults other (substitute_sig f s)
   explicit_results-substitute f h in_val = in_val
   explicit_results-substitute f h in_typ = in_typ
@@ -140,6 +147,7 @@ mutual
   explicit_results_row-substitute f h in_end = in_end
   explicit_results_row-substitute f h (in_more s fs) = in_more (explicit_results-substitute f h s) (explicit_results_row-substitute f h fs)
 
+  -- a substitution keeps signatures ordered explicit
   pub explicit-substitute : {ctx other : List Kind} {x : Abs} (f : ℕ → Ty) → Substitutes ctx other f → Explicit ctx x → Explicit other (substitute_abs f x)
   explicit-substitute f h (explicit {ks = ks} w r e) = explicit
       (well_formed-substitute (unders ks f) (unders-substitutes ks h) w)
@@ -149,6 +157,7 @@ mutual
 -- conversion keeps it
 
 mutual
+  -- conversion keeps signatures well formed
   pub well_formed-conv : {ctx : List Kind} {s t : Sig} → WellFormed ctx s → ConvSig ctx s t → WellFormed ctx t
   well_formed-conv (WellFormed.val h) (val c) = WellFormed.val (conv-kinds c).1
   well_formed-conv (WellFormed.typ h) (typ c) = WellFormed.typ (conv-kinds c).1
@@ -161,9 +170,11 @@ mutual
   well_formed_row-conv WellFormedRow.end end = WellFormedRow.end
   well_formed_row-conv (WellFormedRow.more s fs) (more c d) = WellFormedRow.more (well_formed-conv s c) (well_formed_row-conv fs d)
 
+  -- so those that hide types
   pub well_formed_abs-conv : {ctx : List Kind} {x y : Abs} → WellFormedAbs ctx x → ConvAbs ctx x y → WellFormedAbs ctx y
   well_formed_abs-conv (abs s) (ex c) = abs (well_formed-conv s c)
 
+  -- conversion keeps the results of functors ordered explicit
   pub explicit_results-conv : {ctx : List Kind} {s t : Sig} → ExplicitResults ctx s → ConvSig ctx s t → ExplicitResults ctx t
   explicit_results-conv in_val (val c) = in_val
   explicit_results-conv in_typ (typ c) = in_typ
@@ -176,6 +187,7 @@ mutual
   explicit_results_row-conv in_end end = in_end
   explicit_results_row-conv (in_more s fs) (more c d) = in_more (explicit_results-conv s c) (explicit_results_row-conv fs d)
 
+  -- conversion keeps signatures ordered explicit
   pub explicit-conv : {ctx : List Kind} {x y : Abs} → Explicit ctx x → ConvAbs ctx x y → Explicit ctx y
   explicit-conv (explicit w r e) (ex c) = explicit (well_formed-conv w c) (explicit_results-conv r c) (λ number lt. let q = e number lt in (q.0, root-alike c q.1))
 

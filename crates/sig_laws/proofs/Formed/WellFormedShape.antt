@@ -24,6 +24,7 @@ pub after-differs : (m l : Name) {q : Sig} {fs : SigRow} → BeforeAll m fs → 
 after-differs m l {fs = fs} b h = field-not h (before-no_field m fs b)
 
 mutual
+  -- in a well formed signature names differ, and the results of pure functors hide nothing
   pub well_formed-shape : {ctx : List Kind} {s : Sig} → WellFormed ctx s → Shape s
   well_formed-shape (WellFormed.val h) = tt
   well_formed-shape (WellFormed.typ h) = tt
@@ -36,9 +37,11 @@ mutual
   well_formed_row-shape r WellFormedRow.end = tt
   well_formed_row-shape r (WellFormedRow.more {l = l} {rest = rest} w ws) = (before-no_field l rest r.0, well_formed-shape w, well_formed_row-shape r.1 ws)
 
+  -- so in one that hides types
   pub well_formed_abs-shape : {ctx : List Kind} {x : Abs} → WellFormedAbs ctx x → ShapeAbs x
   well_formed_abs-shape (WellFormedAbs.abs w) = well_formed-shape w
 
+  -- so in an ordered explicit one
   pub explicit-shape : {ctx : List Kind} {x : Abs} → Explicit ctx x → ShapeAbs x
   explicit-shape (Explicit.explicit w e r) = well_formed-shape w
 

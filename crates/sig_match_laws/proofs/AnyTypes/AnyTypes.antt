@@ -68,6 +68,7 @@ at-right : {ctx ks : List Kind} {t : Sig} {ts : List Ty} → Explicit ctx (Abs.E
 at-right {ts = ts} v h = let w = explicit-right v in (well_formed-substitute (puts ts Ty.Var) (at-substitutes h) w.0, explicit_results-substitute (puts ts Ty.Var) (at-substitutes h) w.1)
 
 mutual
+  -- signatures of any types in subtyping have normal forms in subtyping, by a coercion
   pub to-sub : {ctx : List Kind} {s r : Sig} → IsSub ctx s r → WellFormed ctx s → IsRight ctx r → (f : Term) × Sub ctx (normal_sig ctx s) (normal_sig ctx r) f
   to-sub {ctx} (IsSub.val {t = t} c) w v = (same_part (enc (Sig.Val (normal ctx t))), subst (λ u. Sub ctx (Sig.Val (normal ctx t)) (Sig.Val u) (same_part (enc (Sig.Val (normal ctx t))))) (same-normal c) Sub.val)
   to-sub {ctx} (IsSub.typ {t = t} {k = k} c) w v = (same_part (enc (Sig.Typ (normal ctx t) k)), subst (λ u. Sub ctx (Sig.Typ (normal ctx t) k) (Sig.Typ u k) (same_part (enc (Sig.Typ (normal ctx t) k)))) (same-normal c) Sub.typ)
@@ -96,6 +97,7 @@ mutual
   to-result (IsSubResult.both_pure a) w (RightResult.pure v r) = (_, SubResult.both_pure (to-sub a (abs-body w) (v, r)).1)
   to-result (IsSubResult.to_impure a) w (RightResult.impure v) = (_, SubResult.to_impure (to-abs a w v).1)
 
+  -- so have those that hide types
   pub to-abs : {ctx : List Kind} {x y : Abs} → IsSubAbs ctx x y → WellFormedAbs ctx x → Explicit ctx y → (f : Term) × SubAbs ctx (normal_abs ctx x) (normal_abs ctx y) f
   to-abs {ctx} {y = Abs.Ex js r} (IsSubAbs.plain m) w v =
       let fs = normals_of (matches-kinds m) in

@@ -43,6 +43,7 @@ matches-kinds (Matches.at h d) = h
 -- closed under conversion
 
 mutual
+  -- subtyping of signatures of any types is closed under conversion of both sides
   pub sub-conv : {ctx : List Kind} {s r : Sig} → IsSub ctx s r → {t q : Sig} → ConvSig ctx s t → ConvSig ctx r q → IsSub ctx t q
   sub-conv (IsSub.val e) (val c) (val d) = IsSub.val (c_trans (c_sym c) (c_trans e d))
   sub-conv (IsSub.typ e) (typ c) (typ d) = IsSub.typ (c_trans (c_sym c) (c_trans e d))
@@ -59,10 +60,12 @@ mutual
   result-conv (IsSubResult.both_pure a) (ex c) (ex d) = IsSubResult.both_pure (sub-conv a c d)
   result-conv (IsSubResult.to_impure a) c d = IsSubResult.to_impure (abs-conv a c d)
 
+  -- so it is where they hide types
   pub abs-conv : {ctx : List Kind} {x z : Abs} → IsSubAbs ctx x z → {y w : Abs} → ConvAbs ctx x y → ConvAbs ctx z w → IsSubAbs ctx y w
   abs-conv (IsSubAbs.plain m) (ex c) d = IsSubAbs.plain (match-conv m c d)
   abs-conv {ctx} (IsSubAbs.hidden {ks = ks} {k = k} m) (ex c) d = IsSubAbs.hidden (match-conv m c (conv_abs-raise ctx (k ∷ ks) d))
 
+  -- matching of signatures of any types is closed under conversion of both sides
   pub match-conv : {ctx : List Kind} {s : Sig} {x : Abs} {ts : List Ty} → Matches ctx s x ts → {t : Sig} {y : Abs} → ConvSig ctx s t → ConvAbs ctx x y → Matches ctx t y ts
   match-conv (Matches.at h d) c (ex e) = Matches.at h (sub-conv d c (conv-at h e))
 
@@ -73,6 +76,7 @@ right-kinds (RightResult.pure w v) = ex (well_formed-kinds w)
 right-kinds (RightResult.impure x) = explicit-kinds x
 
 mutual
+  -- subtyping of normal signatures is subtyping of any
   pub any-sub : {ctx : List Kind} {s r : Sig} {f : Term} → Sub ctx s r f → OkSig ctx s → IsRightSig ctx r → IsSub ctx s r
   any-sub Sub.val w v = IsSub.val (c_refl (normal-kind w.1))
   any-sub Sub.typ w v = IsSub.typ (c_refl (normal-kind w.1))
@@ -92,10 +96,12 @@ mutual
   any-result (SubResult.both_pure a) w v = IsSubResult.both_pure (any-sub a (good-body w) (good-pure v))
   any-result (SubResult.to_impure a) w v = IsSubResult.to_impure (any-abs a w (good-impure v))
 
+  -- so it is where they hide types
   pub any-abs : {ctx : List Kind} {x y : Abs} {f : Term} → SubAbs ctx x y f → OkAbs ctx x → OkRight ctx y → IsSubAbs ctx x y
   any-abs (SubAbs.plain m p) w v = IsSubAbs.plain (any-match m (good-body w) v)
   any-abs (SubAbs.hidden {ks = ks} {k = k} m p) w v = IsSubAbs.hidden (any-match m (good-body w) (good-raised (k ∷ ks) v))
 
+  -- a match of normal signatures is one of any
   pub any-match : {ctx : List Kind} {s : Sig} {x : Abs} {ts : List Ty} {f : Term} → Match ctx s x ts f → OkSig ctx s → OkRight ctx x → Matches ctx s x ts
   any-match (Match.at o forms n a) w v =
       let c = explicit-body v.0 in

@@ -77,6 +77,7 @@ kinds-substituted f h (OfKinds.next k ks) = OfKinds.next (kind-substitute f h k)
 -- the theorem
 
 mutual
+  -- subtyping of signatures of any types is closed under substitution
   pub sub-substitute : {ctx other : List Kind} {s r : Sig} (f : ℕ → Ty) → Substitutes ctx other f → IsSub ctx s r → IsSub other (substitute_sig f s) (substitute_sig f r)
   sub-substitute f h (IsSub.val c) = IsSub.val (conv-substitute f h c)
   sub-substitute f h (IsSub.typ c) = IsSub.typ (conv-substitute f h c)
@@ -94,6 +95,7 @@ mutual
   result-substitute f h (IsSubResult.both_pure a) = IsSubResult.both_pure (sub-substitute f h a)
   result-substitute f h (IsSubResult.to_impure a) = IsSubResult.to_impure (abs-substitute f h a)
 
+  -- so it is where they hide types
   pub abs-substitute : {ctx other : List Kind} {x y : Abs} (f : ℕ → Ty) → Substitutes ctx other f → IsSubAbs ctx x y → IsSubAbs other (substitute_abs f x) (substitute_abs f y)
   abs-substitute f h (IsSubAbs.plain m) = IsSubAbs.plain (match-substitute f h m)
   abs-substitute {other = other} f h (IsSubAbs.hidden {ks = ks} {k = k} {s = s} {y = y} {ts = ts} m) = IsSubAbs.hidden

@@ -41,10 +41,12 @@ use Rattle.sig_match_laws.specs.MatchClaims.{IsRightSig}
 
 -- what an outcome is to be
 
+-- an outcome of subtyping that is derived: a coercion or a refusal
 pub data SubOk (ctx : List Kind) (s r : Sig) : Outcome → Type 0 where
   sub_ok : {f : Term} → Sub ctx s r f → SubOk ctx s r (Outcome.coerced f)
   sub_no : {q : MatchRefusal} → RefusesSub ctx s r q → SubOk ctx s r (Outcome.refused q)
 
+-- the same where the signatures hide types
 pub data AbsOk (ctx : List Kind) (x y : Abs) : Outcome → Type 0 where
   abs_ok : {f : Term} → SubAbs ctx x y f → AbsOk ctx x y (Outcome.coerced f)
   abs_no : {q : MatchRefusal} → RefusesSubAbs ctx x y q → AbsOk ctx x y (Outcome.refused q)
@@ -63,6 +65,7 @@ SubSound f n = (ctx : List Kind) (s r : Sig) → size s + size r < n → OkSig c
 abbrev pub AbsSound : AbsFn → ℕ → Type 0
 AbsSound f n = (ctx : List Kind) (x y : Abs) → size_abs x + size_abs y < n → OkAbs ctx x → OkRight ctx y → AbsOk ctx x y (f ctx x y)
 
+-- the functions on signatures up to a size give what is derived
 abbrev pub FnsSound : Fns → ℕ → Type 0
 FnsSound F n = SubSound F.0 n × AbsSound F.1 n × MatchSound F.2 n
 

@@ -45,6 +45,7 @@ use Rattle.sig_laws.proofs.Formed.RootNumbers.{root-of}
 
 -- fields
 
+-- what is found for a name in fields: the field, or that there is none
 pub data FieldOk (fs : SigRow) (l : Name) : Option Sig → Type 0 where
   has : {s : Sig} → HasField fs l s → FieldOk fs l (Some s)
   lacks : NoField l fs → FieldOk fs l None
@@ -64,15 +65,18 @@ find_field-ok l (SigRow.More m s rest) = go (dec_name l m) (find_field-ok l rest
 
 -- a match function that is right for small signatures
 
+-- an outcome of matching that is derived: types and a coercion, or a refusal
 pub data MatchOk (ctx : List Kind) (s : Sig) (x : Abs) : MatchOutcome → Type 0 where
   match_ok : {ts : List Ty} {f : Term} → Match ctx s x ts f → MatchOk ctx s x (MatchOutcome.matched ts f)
   refusal_ok : {q : MatchRefusal} → RefusesMatch ctx s x q → MatchOk ctx s x (MatchOutcome.refused q)
 
+-- the function gives derived outcomes of matching for signatures up to a size
 abbrev pub MatchSound : MatchFn → ℕ → Type 0
 MatchSound m n = (ctx : List Kind) (s : Sig) (x : Abs) → size s + size_abs x < n → OkSig ctx s → OkRight ctx x → MatchOk ctx s x (m ctx s x)
 
 -- looking up along a path
 
+-- what is looked up along a path: a type that is found there, or that there is none
 pub data LookOk (ctx : List Kind) (s : Sig) (p : SigPath) (r : Sig) : Option Ty → Type 0 where
   look_found : {t : Ty} → Found ctx s p r t → LookOk ctx s p r (Some t)
   look_none : ((t : Ty) → Found ctx s p r t → ⊥) → LookOk ctx s p r None
@@ -149,6 +153,7 @@ any_types-normal ctx (k ∷ ks) = next (any_type-normal ctx k) (any_types-normal
 pub at-form : {ctx ks : List Kind} {r : Sig} {ts : List Ty} → OkRight ctx (Abs.Ex ks r) → OfKinds ctx ts ks → NormalSigForm ctx (sig_at ts r) (normal_sig ctx (sig_at ts r))
 at-form {ctx} {ks} {r} {ts} v h = let f = puts ts Ty.Var in conv_sig-gives (conv_sig-substitute f f (substitutes-convertible (at-substitutes h)) (explicit-body v.0))
 
+-- what is looked up for the hidden types in order: all of them, or the first that has no root on the left
 pub data LookingsOk (ctx : List Kind) (s : Sig) (ks : List Kind) (r : Sig) (before : List Ty) : Lookings → Type 0 where
   found_ok : {ts rest : List Ty} → ts ≡ before ++ rest → FoundAfter ctx s ks r before rest → NormalTypes ctx ts ks → LookingsOk ctx s ks r before (all_found ts)
   stop_ok : {ts rest : List Ty} {number : ℕ} {p : SigPath} → ts ≡ before ++ rest → FoundAfter ctx s ks r before rest → number ≡ length ts → length ts < length ks → LeastRoot ctx ks r (length ts) p → ((t : Ty) → FoundAt ctx s ks r ts t → ⊥) → LookingsOk ctx s ks r before (stopped_at number p)

@@ -18,6 +18,7 @@ use Rattle.omega_types.proofs.BinderLaws.{past-maps}
 use Rattle.sig_laws.specs.Good.{OkSig, OkAbs, OkRight}
 use Rattle.sig_match_laws.specs.MatchClaims.{IsRightSig}
 
+-- the result of a functor on the right that is of normal types
 abbrev pub GoodResult : List Kind → Effect → Abs → Type 0
 GoodResult ctx d z = RightResult ctx d z × NormalAbs ctx z
 

@@ -118,6 +118,7 @@ match-looked {ts = ts} v m = let q = match-view (explicit-body v.0) m in looked-
 
 -- two lists that are looked up begin alike
 
+-- of two lists that are looked up, one goes on where the other ends, or they are the same
 pub data Compared (ctx : List Kind) (s : Sig) (ks : List Kind) (r : Sig) (before : List Ty) : List Ty → List Ty → Type 0 where
   same : {ts us : List Ty} → ts ≡ us → Compared ctx s ks r before ts us
   shorter : {ts us : List Ty} (t : Ty) → length ts < length us → FoundAt ctx s ks r (before ++ ts) t → Compared ctx s ks r before ts us

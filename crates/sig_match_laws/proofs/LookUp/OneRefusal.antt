@@ -170,6 +170,7 @@ inside-by {ctx} {ks} {s} {r} {n} {ts} {q = q} w v l lt nf one (whole {ts = us} {
     one q (subst (λ z. RefusesSub ctx s z q) h d)
 
 mutual
+  -- subtyping has at most one refusal
   pub sub-refusal : {ctx : List Kind} {s r : Sig} {p : MatchRefusal} → RefusesSub ctx s r p → OkSig ctx s → IsRightSig ctx r → (q : MatchRefusal) → RefusesSub ctx s r q → p ≡ q
   sub-refusal (RefusesSub.forms {ctx = ctx} {s = s} {t = r} n) w v q d = sym (only-forms ctx s r q n (refusal-view d))
   sub-refusal (RefusesSub.values n) w v q d = sym (refusal-view d)
@@ -208,10 +209,12 @@ mutual
   result-one (RefusesResult.both_pure a) w v q d = sub-refusal a (good-body w) (good-pure v) q (result-refusal d)
   result-one (RefusesResult.to_impure a) w v q d = abs-one a w (good-impure v) q (result-refusal d)
 
+  -- so it has between signatures that hide types
   pub abs-one : {ctx : List Kind} {x y : Abs} {p : MatchRefusal} → RefusesSubAbs ctx x y p → OkAbs ctx x → OkRight ctx y → (q : MatchRefusal) → RefusesSubAbs ctx x y q → p ≡ q
   abs-one (RefusesSubAbs.plain a) w v q d = match-one a (good-body w) v q (abs-refusal d)
   abs-one (RefusesSubAbs.hidden {ks = ks} {k = k} a) w v q d = match-one a (good-body w) (good-raised (k ∷ ks) v) q (abs-refusal d)
 
+  -- a match has at most one refusal
   pub match-one : {ctx : List Kind} {s : Sig} {x : Abs} {p : MatchRefusal} → RefusesMatch ctx s x p → OkSig ctx s → OkRight ctx x → (q : MatchRefusal) → RefusesMatch ctx s x q → p ≡ q
   match-one (RefusesMatch.no_root l lt root stop) w v q d = no_root-by w v l lt root stop (match-refusal d)
   match-one (RefusesMatch.inside l e nf a) w v q d = inside-by w v l e nf (λ r b. sub-refusal a w (good-at v (types-kinds (looked-normal w v l e)) nf) r b) (match-refusal d)

@@ -61,6 +61,7 @@ looked-stops {ctx} {ks} {s} {r} {ts} {us} w v a e p b g q = go (compared [] w v 
     go (longer t l f) = absurd (q t f)
 
 mutual
+  -- a refusal of subtyping excludes a coercion
   pub sub-excluded : {ctx : List Kind} {s r : Sig} {q : MatchRefusal} → RefusesSub ctx s r q → OkSig ctx s → IsRightSig ctx r → (f : Term) → Sub ctx s r f → ⊥
   sub-excluded (RefusesSub.forms n) w v f d = n (sub-form d)
   sub-excluded (RefusesSub.values n) w v f d = n (sub-view d).0
@@ -85,10 +86,12 @@ mutual
   result-excluded (RefusesResult.both_pure r) w v f a = sub-excluded r (good-body w) (good-pure v) f (result-view a)
   result-excluded (RefusesResult.to_impure r) w v f a = abs-excluded r w (good-impure v) f (result-view a)
 
+  -- so it does between signatures that hide types
   pub abs-excluded : {ctx : List Kind} {x y : Abs} {q : MatchRefusal} → RefusesSubAbs ctx x y q → OkAbs ctx x → OkRight ctx y → (f : Term) → SubAbs ctx x y f → ⊥
   abs-excluded (RefusesSubAbs.plain r) w v f a = let q = abs-view a in match-excluded r (good-body w) v q.0 q.1 q.2
   abs-excluded (RefusesSubAbs.hidden {ks = ks} {k = k} r) w v f a = let q = abs-view a in match-excluded r (good-body w) (good-raised (k ∷ ks) v) q.0 q.1 q.2
 
+  -- a refusal of matching excludes a match
   pub match-excluded : {ctx : List Kind} {s : Sig} {x : Abs} {q : MatchRefusal} → RefusesMatch ctx s x q → OkSig ctx s → OkRight ctx x → (us : List Ty) (f : Term) → Match ctx s x us f → ⊥
   match-excluded (RefusesMatch.no_root l lt root stop) w v us f m = looked-full w v (match-looked v m) (kinds-length (match-kinds m)) l lt stop
   match-excluded (RefusesMatch.inside {ctx = ctx} {ks = ks} {s = s} {r = r} {n = n} {ts = ts} l e nf d) w v us f m =

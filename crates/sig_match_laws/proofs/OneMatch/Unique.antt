@@ -83,6 +83,7 @@ same_types before (t ∷ rest) (u ∷ others) e g n m roots nr nq h =
 -- the theorem, for one of the two derivations
 
 mutual
+  -- subtyping has at most one coercion
   pub sub-unique : {ctx : List Kind} {s r : Sig} {f : Term} → Sub ctx s r f → WellFormed ctx s → IsRight ctx r → (g : Term) → Sub ctx s r g → f ≡ g
   sub-unique Sub.val w v g d = sym (sub-view d).1
   sub-unique Sub.typ w v g d = sym (sub-view d).2
@@ -112,6 +113,7 @@ mutual
   result-unique (SubResult.both_pure a) w (RightResult.pure v r) g d = sub-unique a (abs-body w) (v, r) g (result-view d)
   result-unique (SubResult.to_impure a) w (RightResult.impure v) g d = abs-unique a w v g (result-view d)
 
+  -- so it has between signatures that hide types
   pub abs-unique : {ctx : List Kind} {x y : Abs} {f : Term} → SubAbs ctx x y f → WellFormedAbs ctx x → Explicit ctx y → (g : Term) → SubAbs ctx x y g → f ≡ g
   abs-unique (SubAbs.plain {ctx = ctx} {s = s} {y = y} {ts = ts} {f = f} m p) w v g d =
       let q = abs-view d in
@@ -122,6 +124,7 @@ mutual
       let u = match-unique m (abs-body w) (abs-raised (k ∷ ks) v) q.0 q.1 q.2 in
       abs_part-unique p g (subst₂ (λ us o. AbsPart (extend ctx (k ∷ ks)) (enc_abs (Abs.Ex (k ∷ ks) s)) (k ∷ ks) us o (raise (k ∷ ks) (enc_abs y)) g) (sym u.0) (sym u.1) q.3)
 
+  -- a match has at most one list of types and one coercion
   pub match-unique : {ctx : List Kind} {s : Sig} {x : Abs} {ts : List Ty} {f : Term} → Match ctx s x ts f → WellFormed ctx s → Explicit ctx x → (us : List Ty) (g : Term) → Match ctx s x us g → (ts ≡ us) × (f ≡ g)
   match-unique (Match.at {ctx = ctx} {ks = ks} {s = s} {t = t} {r = r} {ts = ts} o forms n a) w v us g d =
       let c = explicit-body v in
