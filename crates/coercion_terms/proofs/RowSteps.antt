@@ -16,6 +16,7 @@ use Rattle.omega_terms.specs.Coercions.{result_label, coerced, same_part, meta_p
 use Rattle.omega_terms.proofs.CoercionRows.{same_part_typed, meta_part_typed, fields_part_typed, functor_part_typed}
 use Rattle.coercion_terms.specs.Inner.Rows.{HasSameType, HasMetaType, HasFieldsType, HasFunctorType}
 
+-- each field of a list, selected from the argument and coerced
 abbrev pub coerced_pairs : TermPairs → TermPairs
 coerced_pairs = map (λ x. (x.0, Term.Call x.1 (Term.Get (Term.Var zero) x.0)))
 

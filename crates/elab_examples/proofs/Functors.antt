@@ -43,9 +43,11 @@ use Rattle.elab_examples.proofs.Parts.{own-path, var0, shown-normal, one-instanc
 use Rattle.omega_terms.proofs.InstanceLaws.{type-self}
 use Rattle.omega_types.proofs.BinderPuts.{its-form}
 
+-- a context of one type
 abbrev pub star : List Kind
 star = Kind.Star ∷ []
 
+-- a context of one type constructor
 abbrev pub operators : List Kind
 operators = operator ∷ []
 

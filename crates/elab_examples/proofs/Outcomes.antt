@@ -36,12 +36,15 @@ use Rattle.sig_premise_laws.proofs.Determined.{packed-one}
 use Rattle.module_judgments.proofs.Determined.{seq-one, projected-one}
 use Rattle.sig_laws.proofs.Algebra.PathLaws.{one-field}
 
+-- a module phrase means a module of this effect and signature
 abbrev pub ModShows : Env → Mod → Effect → Abs → Type 0
 ModShows g m f x = (ts : List Ty) × (e : Term) × ModMeans g m (made f x ts e)
 
+-- a binding binds a name to a module of this effect and signature
 abbrev pub BindShows : Env → Bind → Name → Effect → Abs → Type 0
 BindShows g b n f x = (ts : List Ty) × (e : Term) × BindMeans g b n (made f x ts e)
 
+-- bindings mean a module of this effect and signature
 abbrev pub BindsShow : Env → List Name → Binds → Effect → Abs → Type 0
 BindsShow g before bs f x = (ts : List Ty) × (e : Term) × BindsMean g before bs (made f x ts e)
 

@@ -187,6 +187,7 @@ good-included : (g : Env) (ks : List Kind) (fs : SigRow) → IsGoodEnv g → Wel
 good-included g ks fs h w = good-named_fields (with_module g ks include_name (Sig.Str fs)) fs (good-module g ks include_name (Sig.Str fs) h w) (subst (λ c. WellFormedRow c fs) (sym (kinds-type_vars g ks)) (str-fields w))
 
 mutual
+  -- the type that a type phrase means has its kind
   pub type_kind : (g : Env) {a : TyEx} {t : Ty} {k : Kind} → IsGoodEnv g → TyMeans g a t k → HasKind (kinds g) t k
   type_kind g h (TyMeans.ty_path m p) = type-path p
   type_kind g h (TyMeans.ty_int BaseGives.int) = k_int
@@ -209,6 +210,7 @@ mutual
   field_kinds g {names} h FieldTysMean.no_field_tys RecordTypeGives.no_fields = (k_end, fresh_all-end names)
   field_kinds g {names} h (FieldTysMean.next_field_ty {x = x} m a f) (RecordTypeGives.next_field n r) = good-field names (name_of x) n (type_kind g h a) (field_kinds g h f r)
 
+  -- the type of an expression has kind *
   pub exp_kind : (g : Env) {a : Exp} {t : Ty} {e : Term} → IsGoodEnv g → ExpMeans g a t e → HasKind (kinds g) t Kind.Star
   exp_kind g h (ExpMeans.exp_path m p) = value-path p
   exp_kind g h (ExpMeans.exp_int LiteralGives.int) = k_int
@@ -253,6 +255,7 @@ mutual
       lift_explicit e (subst (λ c. Explicit c y) (kinds-type_vars g ks) (sig_explicit (with_module g ks (name_of x) s) (good-module g ks (name_of x) s h (body-of e)) b)) l
   sig_explicit g h (SigMeans.sig_refine a b r) = refined-explicit (sig_explicit g h a) (type_kind g h b) r
 
+  -- a declaration means an ordered explicit signature
   pub decl_explicit : (g : Env) {a : Decl} {x : Abs} → IsGoodEnv g → DeclMeans g a x → Explicit (kinds g) x
   decl_explicit g h (DeclMeans.decl_val {x = x} {t = t} a ValueGives.value) = field_explicit (kinds g) [] (name_of x) (Sig.Val t) (plain_explicit (WellFormed.val (type_kind g h a)) in_val)
   decl_explicit g h (DeclMeans.decl_is {x = x} {t = t} {k = k} a TypeGives.type) = field_explicit (kinds g) [] (name_of x) (Sig.Typ t k) (plain_explicit (WellFormed.typ (type_kind g h a)) in_typ)
@@ -282,12 +285,14 @@ mutual
   module_good g h (ModMeans.mod_seal p s m SealGives.seal) = good-sealed (sig_explicit g h s) m
   module_good g h (ModMeans.mod_unpack e s n UnpackGives.unpack) = good-explicit (norm_abs-explicit n (sig_explicit g h s))
 
+  -- a binding means a module of a well formed signature
   pub bind_good : (g : Env) {a : Bind} {x : Name} {m : Module} → IsGoodEnv g → BindMeans g a x m → GoodModule (kinds g) m
   bind_good g h (BindMeans.bind_val e ValueModule.value) = pure (WellFormed.val (exp_kind g h e)) OfKinds.none
   bind_good g h (BindMeans.bind_ty t TypeModule.type) = pure (WellFormed.typ (type_kind g h t)) OfKinds.none
   bind_good g h (BindMeans.bind_signature s SignatureModule.signature) = pure (WellFormed.meta (sig_explicit g h s)) OfKinds.none
   bind_good g h (BindMeans.bind_module m) = module_good g h m
 
+  -- bindings mean a module of a well formed signature
   pub binds_good : (g : Env) {names : List Name} {a : Binds} {m : Module} → IsGoodEnv g → NamesRise names → BindsMean g names a m → GoodModule (kinds g) m
   binds_good g h o (BindsMean.no_binds c) = pure (WellFormed.str (collected-rising o c) (collected-well_formed h c)) OfKinds.none
   binds_good g {names} h o (BindsMean.next_bind {x = x} {ks = ks} {s = s} {rest = rest} b r q) =

@@ -48,6 +48,7 @@ use Rattle.elab_laws.proofs.PhraseRules.{good-body, in-module, in-include, path-
 use Rattle.sig_laws.proofs.Algebra.FormLaws.{kinds-type_vars}
 
 mutual
+  -- a type phrase means a normal type of its kind
   pub ty-good : {g : Env} {T : TyEx} {t : Ty} {k : Kind} → GoodEnv g → TyMeans g T t k → Normal (kinds g) t k
   ty-good h (TyMeans.ty_path m p) = path-type p
   ty-good h (TyMeans.ty_int BaseGives.int) = n_int
@@ -72,6 +73,7 @@ mutual
       let q = field_tys-good h f r in
       (normals-insert (Label.Name (name_of x)) q.1.0 (ty-good h a) q.0, fresh_all-insert before (name_of x) t row n q.1.1)
 
+  -- an expression's term has its type
   pub exp-good : {g : Env} {E : Exp} {t : Ty} {e : Term} → GoodEnv g → ExpMeans g E t e → Typed (kinds g) (types g) e t
   exp-good h (ExpMeans.exp_path m p) = path-value (mod-good h m) p
   exp-good h (ExpMeans.exp_int LiteralGives.int) = Typed.int
@@ -121,6 +123,7 @@ mutual
   branches-good h n BranchesMean.no_branches = BranchesTyped.no_branches
   branches-good h n (BranchesMean.next_branch m (LabelGives.label p) a f) = BranchesTyped.next_branch p (exp-good (part-normal n p, h) a) (branches-good h n f)
 
+  -- a signature phrase means a good signature
   pub sig-good : {g : Env} {S : SigEx} {x : Abs} → GoodEnv g → SigMeans g S x → GoodAbs (kinds g) x
   sig-good h (SigMeans.sig_path m p) = path-sig (mod-good h m) p
   sig-good h (SigMeans.sig_decls d) = decls-sig (decls-good h d)
@@ -134,6 +137,7 @@ mutual
       lift-good i (good-body (subst (λ c. GoodAbs c (Abs.Ex bs t)) (kinds-type_vars g ks) r)) l
   sig-good h (SigMeans.sig_refine a b r) = refined-good (sig-good h a) r
 
+  -- a declaration means a good signature
   pub decl-good : {g : Env} {d : Decl} {x : Abs} → GoodEnv g → DeclMeans g d x → GoodAbs (kinds g) x
   decl-good h (DeclMeans.decl_val a ValueGives.value) = record { normal = (ty-good h a, tt); shape = (tt, tt, tt) }
   decl-good h (DeclMeans.decl_is a TypeGives.type) = record { normal = (ty-good h a, tt); shape = (tt, tt, tt) }
@@ -150,6 +154,7 @@ mutual
       let q = decls-good (good-named_fields (type_vars g ks) fs (good-type_vars g ks h) m i.shape) r in
       join-decls i n (subst (λ c. GoodDecls c (with_names fs before) (Abs.Ex js (Sig.Str gs))) (kinds-named_fields (type_vars g ks) fs ∙ kinds-type_vars g ks) q)
 
+  -- a module phrase means a good module
   pub mod-good : {g : Env} {m : Mod} {M : Module} → GoodEnv g → ModMeans g m M → GoodModule (kinds g) (types g) M
   mod-good {g} h (ModMeans.mod_name {x = x} (NamedGives.named f)) = let q = find-good g (name_of x) h f in plain-module q.0 q.1
   mod-good h (ModMeans.mod_struct b) = binds-good h tt b
@@ -171,12 +176,14 @@ mutual
       GoodModule.pure i M.found (Typed.call (typed-more (types g) M.typed) q.1)
   mod-good {g} h (ModMeans.mod_unpack {y = Abs.Ex ks t} a s n UnpackGives.unpack) = GoodModule.impure (good-body (norm-good n (sig-good h s))) (exp-good h a)
 
+  -- a binding means a good module
   pub bind-good : {g : Env} {b : Bind} {x : Name} {M : Module} → GoodEnv g → BindMeans g b x M → GoodModule (kinds g) (types g) M
   bind-good {g} h (BindMeans.bind_val a ValueModule.value) = let t = exp-good h a in plain-module (record { normal = typed-normal (env-normal g h) t; shape = tt }) (Typed.fields (TypedFields.more t tt TypedFields.end))
   bind-good h (BindMeans.bind_ty a TypeModule.type) = let n = ty-good h a in plain-module (record { normal = n; shape = tt }) (type_term-typed n)
   bind-good h (BindMeans.bind_signature a SignatureModule.signature) = let i = sig-good h a in plain-module (record { normal = i.normal; shape = i.shape }) (Typed.fields (TypedFields.more (Typed.lam (good_abs-normal i) (Typed.var At.here)) tt TypedFields.end))
   bind-good h (BindMeans.bind_module m) = mod-good h m
 
+  -- bindings after names that rise mean a good module
   pub binds-good : {g : Env} {before : List Name} {bs : Binds} {M : Module} → GoodEnv g → NamesRise before → BindsMean g before bs M → GoodModule (kinds g) (types g) M
   binds-good h r (BindsMean.no_binds c) = let s = collected-typed h r c in plain-module (record { normal = s.normal; shape = s.shape }) (Typed.fields s.typed)
   binds-good {g} {before} h r (BindsMean.next_bind {x = x} {ks = ks} {s = s} b c q) =

@@ -52,6 +52,7 @@ module _ (c : CommandLine) (bytes : List ℕ) (room : ℕ) (old new : Drafted) (
         full = full ∙ same.0;
       }
 
+  -- what is answered leaves the room of the buffer as it was
   pub same_room : (a : Status) → AnswersBytes c bytes out a → new.room ≡ room
   same_room status.Ok w = (grown room old new w.reply.text is_empty w.written.taken).0
   same_room status.Refused w = (grown room old new w.reply.text is_empty w.written.taken).0
@@ -63,6 +64,7 @@ module _ (c : CommandLine) (bytes : List ℕ) (room : ℕ) (old new : Drafted) (
   same_room status.ReadFault w = absurd w
   same_room status.TooLong w = absurd w
 
+  -- what is answered for all bytes is the reply that is written into the room
   pub replied : (a : Status) → AnswersBytes c bytes out a → (a ≡ status.WriteFault → length new.written ≡ new.room) → Replied c bytes room new.written a
   replied status.Ok w full = whole status.Ok w
   replied status.Refused w full = whole status.Refused w

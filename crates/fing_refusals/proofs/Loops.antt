@@ -10,6 +10,7 @@ use Rattle.fing_refusals.specs.declared.pieces.Piece.{Piece}
 use Rattle.fing_refusals.specs.Line.{item_text, more_items_text}
 use Rattle.fing_refusals.specs.Inner.Pieces.{piece_text, pieces_text, PieceInScope, PiecesInScope}
 
+-- a step of a path after a dot
 abbrev pub dotted_text : CodeItem → List ℕ
 dotted_text a = codes "." then item_text (item_of a)
 

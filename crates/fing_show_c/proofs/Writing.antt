@@ -6,9 +6,11 @@ use Rattle.fing_show_c.specs.Inner.Returns.{IsWritten, page_status}
 use Rattle.fing_show_c.specs.declared.answering.Status.TheVariants as status
 
 module _ (v : Verdict) (text written : List ℕ) (count room : ℕ) (same : written ≡ take count text) where
+  -- a text that fits the room is written whole
   pub whole : length text ≤ count → IsWritten v text room written (page_status v)
   whole all = IsWritten.whole (same ∙ take_all count text all)
 
+  -- a text that does not fit the room is cut at its end
   pub cut : count < length text → count ≡ room → IsWritten v text room written status.Cut
   cut short full =
       let parts = sym (take-append-drop count text) ∙ ap (λ (l : List ℕ). l ++ drop count text) (sym same) in

@@ -75,6 +75,7 @@ scope-step us n u before after names more h is p q i =
 pub hidden-kinds : (f : Effect) (a : Abs) (ts : List Ty) (e : Term) → hidden_in (made f a ts e) ≡ kinds_of a
 hidden-kinds f (Abs.Ex ks s) ts e = refl
 
+-- the units at the end are linked behind those that are left
 abbrev pub LinkedAll : List UnitModule → List CodeUnit → Module → Type 0
 LinkedAll all left m = (back : List UnitModule) × (units_of left ++ back ≡ all) × LinkedFrom (units_of left) back m
 

@@ -6,6 +6,7 @@ use Rattle.omega_compact.specs.Tokens.{Token, Open, Close, Word, Quoted, Unended
 use Rattle.omega_compact.specs.Spelling.{is_open, is_close, is_omega, token_text, gap, before, ending, spelled_from, spelled, compacted}
 use Rattle.omega_compact.proofs.Scans.{append_nil, word_begins}
 
+-- all bytes may stand in a word
 abbrev pub all_in_word : List ℕ → Type 0
 all_in_word [] = Unit {0}
 all_in_word (b ∷ bs) = (in_word b ≡ true) × all_in_word bs

@@ -84,6 +84,7 @@ abbrev pub text_spot : Bool → Spot
 text_spot true = Escaped
 text_spot false = InText
 
+-- the tokens of a text of which so many bytes are scanned
 abbrev pub text_left : Bool → ℕ → List ℕ → List Token
 text_left escaped i bs = with_front (take i bs) (tokens_from (text_spot escaped) (drop i bs))
 

@@ -6,6 +6,7 @@ use Rattle.omega_terms.specs.Term.{Term, TermRow}
 use Rattle.omega_terms.specs.Steps.{IsValue, AreValues, HasField, Step, FieldStep, Faults, FieldFaults, Fault, Answer, put_arg}
 
 mutual
+  -- a value does not step
   pub value_step : {v d : Term} → IsValue v → Step v d → ⊥
   value_step IsValue.int s = elim s [ ]
   value_step IsValue.bool s = elim s [ ]
@@ -24,6 +25,7 @@ mutual
   values_step (AreValues.more v w) (FieldStep.there u s) = values_step w s
 
 mutual
+  -- a value is no fault
   pub value_fault : {v : Term} {x : Fault} → IsValue v → Faults v x → ⊥
   value_fault IsValue.int s = elim s [ ]
   value_fault IsValue.bool s = elim s [ ]
@@ -58,6 +60,7 @@ gives_fails : (a : Answer) (e : Term) (x : Fault) → a ≡ Answer.gives e → a
 gives_fails a e x p q = cc
 
 mutual
+  -- a term steps to at most one term
   pub step_step : {e d c : Term} → Step e d → Step e c → d ≡ c
   step_step (Step.call_function {a = a} s) (Step.call_function r) = ap (λ x. Term.Call x a) (step_step s r)
   step_step (Step.call_function s) (Step.call_arg v r) = absurd (value_step v s)
@@ -121,6 +124,7 @@ mutual
   field_step (FieldStep.there {l = l} {e = e} v s) (FieldStep.there w r) = ap (TermRow.More l e) (field_step s r)
 
 mutual
+  -- a term that steps is no fault
   pub step_fault : {e d : Term} {x : Fault} → Step e d → Faults e x → ⊥
   step_fault (Step.call_function s) (Faults.call_function r) = step_fault s r
   step_fault (Step.call_function s) (Faults.call_arg v r) = value_step v s
@@ -164,6 +168,7 @@ mutual
   field_fault (FieldStep.there v s) (FieldFaults.there w r) = field_fault s r
 
 mutual
+  -- a term is at most one fault
   pub fault_fault : {e : Term} {x y : Fault} → Faults e x → Faults e y → x ≡ y
   fault_fault (Faults.call_function s) (Faults.call_function r) = fault_fault s r
   fault_fault (Faults.call_function s) (Faults.call_arg v r) = absurd (value_fault v s)

@@ -16,6 +16,7 @@ use Rattle.omega_terms.specs.Typing.{HasType, FieldsHave, BranchesHave, HasPart}
 use Rattle.omega_terms.specs.Steps.{IsValue, AreValues, HasField, Step, FieldStep, Faults, FieldFaults, Fault, Answer, compute, Stuck}
 use Rattle.omega_laws.proofs.Unique.{Own, invert}
 
+-- what progress says of a term: it is a value, steps or faults
 pub data Progress (e : Term) : Type 0 where
   value : IsValue e → Progress e
   steps : (d : Term) → Step e d → Progress e

@@ -126,6 +126,7 @@ roll_type {ctx} {t = t} {b = b} h p i =
     HasType.conv (HasType.roll c (HasType.conv i (c_sym (nf_is (unrolled_kind (conv-kinds c).1))))) (nf_is h)
 
 mutual
+  -- a synthesised type is a type of the term
   pub sound : {ctx : List Kind} {vars : List Ty} {e : Term} {t : Ty} → GoodVars ctx vars → Synth ctx vars e t → HasType ctx vars e t
   sound g (Synth.var h) = HasType.conv (HasType.var h) (nf_is (g _ _ h))
   sound g Synth.int = HasType.int
@@ -184,6 +185,7 @@ same_shift {ctx} from to k g i f n t h =
     (shift r.0, at-shift r.1, sym (ap (normal (k ∷ ctx)) a.is) ∙ (nf_shifted k (g n a.ty a.at) ∙ (ap shift r.2 ∙ sym (nf_shifted k (i n r.0 r.1)))))
 
 mutual
+  -- what is synthesised stays so where the types of term variables have the same normal forms
   pub revar : {ctx : List Kind} {from : List Ty} {e : Term} {t : Ty} (to : List Ty) → GoodVars ctx from → GoodVars ctx to → SameVars ctx from to → Synth ctx from e t → Synth ctx to e t
   revar to g i f (Synth.var h) = let r = f _ _ h in synth_cast (sym r.2) (Synth.var r.1)
   revar to g i f Synth.int = Synth.int
@@ -320,6 +322,7 @@ mutual
 -- ---- what is synthesised is normal, so it is one type
 
 mutual
+  -- a synthesised type is normal
   pub synth-normal : {ctx : List Kind} {vars : List Ty} {e : Term} {t : Ty} → GoodVars ctx vars → Synth ctx vars e t → normal ctx t ≡ t
   synth-normal g (Synth.var h) = nf_nf (g _ _ h)
   synth-normal {ctx} g Synth.int = nf_int ctx

@@ -29,6 +29,7 @@ pub record Onward (whole : Term) (most : ℕ) (fs : List Frame) (m : Move) : Typ
   pub sound : IsSoundMove m
   pub less : work fs + move_work m < most
 
+-- the work that is left in frames and in the focus
 abbrev pub left_work : List Frame → Focus → ℕ
 left_work fs x = work fs + focus_work x
 

@@ -166,6 +166,7 @@ under_type-ren : (w : ℕ → Term) (r : ℕ → ℕ) (v : ℕ → Term) → ((n
 under_type-ren w r v g n = ap (ren_term suc same_index) (g n)
 
 mutual
+  -- a renaming and then a substitution of a term compose
   pub sub_ren_term : (s : ℕ → Ty) (w : ℕ → Term) (q r : ℕ → ℕ) (p : ℕ → Ty) (v : ℕ → Term) → ((n : ℕ) → s (q n) ≡ p n) → ((n : ℕ) → w (r n) ≡ v n) → (e : Term) → sub_term s w (ren_term q r e) ≡ sub_term p v e
   sub_ren_term s w q r p v h g (Term.Var n) = g n
   sub_ren_term s w q r p v h g (Term.Int z) = refl
@@ -262,6 +263,7 @@ under_under_type : (s : ℕ → Ty) (w v u : ℕ → Term) → ((n : ℕ) → su
 under_under_type s w v u g n = sub_under s w (v n) ∙ ap (ren_term suc same_index) (g n)
 
 mutual
+  -- substitutions of a term compose
   pub two_sub_term : (s : ℕ → Ty) (w : ℕ → Term) (p : ℕ → Ty) (v : ℕ → Term) (x : ℕ → Ty) (u : ℕ → Term) → ((n : ℕ) → substitute s (p n) ≡ x n) → ((n : ℕ) → sub_term s w (v n) ≡ u n) → (e : Term) → sub_term s w (sub_term p v e) ≡ sub_term x u e
   two_sub_term s w p v x u h g (Term.Var n) = g n
   two_sub_term s w p v x u h g (Term.Int z) = refl

@@ -6,6 +6,7 @@ use Rattle.omega_spelling.specs.Reading.{passes}
 use Rattle.omega_spelling.specs.Refusals.{lines_cut}
 use Rattle.omega_spelling.proofs.Steps.{and_ok}
 
+-- a byte that does not end a line
 abbrev pub no_end : ℕ → Bool
 no_end b = not (b == 10)
 

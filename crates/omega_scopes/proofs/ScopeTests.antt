@@ -41,6 +41,7 @@ index-in n i wide e = let lt = below i n e in (lt, omega arith)
 -- types
 
 mutual
+  -- a type that passes the test has its variables in scope
   pub ty-sound : (n : ℕ) (t : Ty) → n < 2 ^ 64 → ty_scoped n t ≡ true → TyInScope n t
   ty-sound n (Ty.Var i) w e = index-in n i w e
   ty-sound n Ty.Int w e = tt
@@ -60,6 +61,7 @@ mutual
   row-sound n (Row.More l t rest) w e = two (ty_scoped n t) (row_scoped n rest) (ty-sound n t w) (row-sound n rest w) e
 
 mutual
+  -- a type with its variables in scope, if its levels fit 64 bits, passes the test
   pub ty-complete : (n : ℕ) (t : Ty) → TyInScope n t → n + ty_depth t < 2 ^ 64 → ty_scoped n t ≡ true
   ty-complete n (Ty.Var i) s h = test i n s.0
   ty-complete n Ty.Int s h = refl

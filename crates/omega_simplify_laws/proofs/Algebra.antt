@@ -130,6 +130,7 @@ two_like f g zero n = f n
 two_like f g (suc i) n = first_like g i n
 
 mutual
+  -- substitutions of like terms keep likeness
   pub sub_like : {n : ℕ} {e d : Term} (s : ℕ → Ty) (w v : ℕ → Term) → LikeTerms w v → Like n e d → Like n (sub_term s w e) (sub_term s v d)
   sub_like {n} s w v f (Like.var {i = i}) = f i n
   sub_like s w v f Like.int = Like.int
@@ -158,6 +159,7 @@ mutual
   sub_are_like s w v f AreLike.end = AreLike.end
   sub_are_like s w v f (AreLike.more p x l) = AreLike.more (sub_like s w v f p) (sub_are_like s w v f x) l
 
+  -- so they keep a function one that gives its argument back
   pub sub_gives_back : {n : ℕ} {e : Term} (s : ℕ → Ty) (w v : ℕ → Term) → LikeTerms w v → GivesBack n e → GivesBack n (sub_term s w e)
   sub_gives_back s w v f (GivesBack.whole p) = GivesBack.whole (sub_like s (up_term w) (up_term v) (like_up f) p)
   sub_gives_back s w v f (GivesBack.parts {k = k} {r = row} {b = b} p) =

@@ -18,6 +18,7 @@ arith_faults : {i j : ℕ} {o : Op} {m n : ℤ} {x y : Term} {z : Fault} → Lik
 arith_faults Like.int Like.int e = Faults.arith e
 
 mutual
+  -- a fault of a term is one of what it is like
   pub faults_too : {n : ℕ} {e d : Term} {x : Fault} → Like n e d → Faults e x → Faults d x
   faults_too Like.var s = elim s [ ]
   faults_too Like.int s = elim s [ ]

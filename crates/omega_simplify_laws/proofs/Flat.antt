@@ -15,6 +15,7 @@ abbrev pub parts_of : Term → Row → TermRow
 parts_of e Row.End = TermRow.End
 parts_of e (Row.More l t r) = TermRow.More l (Term.Get e l) (parts_of e r)
 
+-- the flat functions: the identity, and one that builds the record of its argument's parts
 pub data Flat : Term → Type 0 where
   whole : {t : Ty} → Flat (Term.Lam t (Term.Var zero))
   parts : {r : Row} → Flat (Term.Lam (Ty.Fields r) (Term.Fields (parts_of (Term.Var zero) r)))

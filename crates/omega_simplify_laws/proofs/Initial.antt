@@ -42,6 +42,7 @@ call_start {f} {g} {a} {b} s u = by_test (is_flat g) refl
     by_test false e = record { weight = s.weight + u.weight; like = Like.call s.like u.like (omega arith); gives = λ h. not_flat h }
 
 mutual
+  -- a term is like its simplified term
   pub start : (e : Term) → Start e (simplified e)
   start (Term.Var i) = record { weight = 0; like = Like.var; gives = λ h. not_flat h }
   start (Term.Int z) = record { weight = 0; like = Like.int; gives = λ h. not_flat h }

@@ -55,6 +55,7 @@ call_type {ctx} {vars} {t} {u} f a good h i = by_test (is_flat f) refl
     by_test false e = HasType.call h i
 
 mutual
+  -- a simplified term has each type of the term
   pub kept : {ctx : List Kind} {vars : List Ty} {e : Term} {t : Ty} → GoodVars ctx vars → HasType ctx vars e t → HasType ctx vars (simplified e) t
   kept g (HasType.var h) = HasType.var h
   kept g HasType.int = HasType.int

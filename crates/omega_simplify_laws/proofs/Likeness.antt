@@ -11,6 +11,7 @@ use Rattle.omega_terms.specs.Steps.{AreValues, HasField}
 use Rattle.omega_simplify_laws.proofs.Flat.{parts_of}
 
 mutual
+  -- a term is like another one: calls of functions that give their argument back are left out, at a weight
   pub data Like : ℕ → Term → Term → Type 0 where
     var : {n i : ℕ} → Like n (Term.Var i) (Term.Var i)
     int : {n : ℕ} {z : ℤ} → Like n (Term.Int z) (Term.Int z)
@@ -36,6 +37,7 @@ mutual
     -- a value is still to be taken out of a record
     part : {n i : ℕ} {e d : Term} {l : Label} {g : TermRow} → Like i e (Term.Fields g) → AreValues g → HasField g l d → i < n → Like n (Term.Get e l) d
 
+  -- fields are like others, label by label
   pub data AreLike : ℕ → TermRow → TermRow → Type 0 where
     end : {n : ℕ} → AreLike n TermRow.End TermRow.End
     more : {n i j : ℕ} {l : Label} {e d : Term} {f g : TermRow} → Like i e d → AreLike j f g → i + j ≤ n → AreLike n (TermRow.More l e f) (TermRow.More l d g)

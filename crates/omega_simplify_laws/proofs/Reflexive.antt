@@ -12,6 +12,7 @@ pub record AreLikeThemselves (f : TermRow) : Type 0 where
   pub like : AreLike weight f f
 
 mutual
+  -- a term is like itself
   pub itself : (e : Term) → LikeItself e
   itself (Term.Var i) = record { weight = 0; like = Like.var }
   itself (Term.Int z) = record { weight = 0; like = Like.int }

@@ -38,6 +38,7 @@ shown_more Gen m e d x y f g p = braced _ _ p
 shown_more (Label.Name s) m e d x y f g p = braced _ _ p
 
 mutual
+  -- a value and what it is like are shown alike
   pub shown_like : {n : ℕ} {v d : Term} → IsValue v → Like n v d → shown v ≡ shown d
   shown_like IsValue.int Like.int = refl
   shown_like IsValue.bool Like.bool = refl

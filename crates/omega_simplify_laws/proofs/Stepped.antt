@@ -22,6 +22,7 @@ use Rattle.omega_simplify_laws.proofs.TypedParts.{inj_typed, case_typed, roll_ty
 use Rattle.omega_simplify_laws.proofs.TypedParts.{here_typed, there_typed, arg_typed, rebuilt}
 use Rattle.omega_simplify_laws.proofs.Given.{GivesLess, given_step}
 
+-- what a term comes to by a step is followed: it is like the other term at less weight, or like what that steps to
 pub data Follows (n : ℕ) (c d : Term) : Type 0 where
   stays : {k : ℕ} → Like k c d → k < n → Follows n c d
   steps : {k : ℕ} {e : Term} → Step d e → Like k c e → Follows n c d
@@ -184,6 +185,7 @@ no_fix g = elim g [ ]
 -- ---- each step
 
 mutual
+  -- a step of a term is followed by what it is like
   pub follows : {n : ℕ} {e d c : Term} → Like n e d → IsTyped e → Step e c → Follows n c d
   follows Like.var h s = elim s [ ]
   follows Like.int h s = elim s [ ]

@@ -21,9 +21,11 @@ use Rattle.omega_simplify_laws.proofs.Likeness.{Like, AreLike}
 use Rattle.omega_simplify_laws.proofs.Values.{values_like}
 use Rattle.omega_simplify_laws.proofs.Parts.{Parts}
 
+-- a closed term has a type
 abbrev pub IsTyped : Term → Type 0
 IsTyped e = (t : Ty) × HasType [] [] e t
 
+-- the fields of a closed record have types
 abbrev pub AreTyped : TermRow → Type 0
 AreTyped f = (r : Row) × FieldsHave [] [] f r
 

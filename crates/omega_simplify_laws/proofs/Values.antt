@@ -8,6 +8,7 @@ use Rattle.omega_simplify_laws.proofs.Likeness.{Like, AreLike}
 
 -- what a value is like is a value
 mutual
+  -- what a value is like is a value
   pub value_like : {n : ℕ} {v d : Term} → IsValue v → Like n v d → IsValue d
   value_like IsValue.int Like.int = IsValue.int
   value_like IsValue.bool Like.bool = IsValue.bool
@@ -20,12 +21,14 @@ mutual
   value_like (IsValue.inj v) (Like.inj p) = IsValue.inj (value_like v p)
   value_like (IsValue.roll v) (Like.roll p) = IsValue.roll (value_like v p)
 
+  -- what values are like are values
   pub values_like : {n : ℕ} {f g : TermRow} → AreValues f → AreLike n f g → AreValues g
   values_like AreValues.end AreLike.end = AreValues.end
   values_like (AreValues.more v w) (AreLike.more p q l) = AreValues.more (value_like v p) (values_like w q)
 
 -- a value weighs nothing
 mutual
+  -- a value is like what it is like at any weight
   pub at_any : {n : ℕ} {v d : Term} (k : ℕ) → IsValue v → Like n v d → Like k v d
   at_any k IsValue.int Like.int = Like.int
   at_any k IsValue.bool Like.bool = Like.bool

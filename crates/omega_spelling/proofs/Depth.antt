@@ -126,6 +126,7 @@ pub record Shallow (o c d : ℕ) (rest : List ℕ) : Type 0 where
   pub more : ℕ
   pub later : deep_from Outside (o + more) (c + more) rest ≡ false
 
+-- a text is no deeper than said, and what is behind it starts at the same depth
 abbrev pub Shows : List ℕ → ℕ → Type 0
 Shows text d = (o c : ℕ) (rest : List ℕ) → deep_from Outside o c (text ++ rest) ≡ false → Shallow o c d rest
 
@@ -202,6 +203,7 @@ field-shows l a b da db q sa sb o c rest e =
 
 module _ (v : Version) where
   mutual
+    -- the text of a spelled type shows its depth
     pub ty-shows : (t : Ty) (n : ℕ) → TySpelled v n t → Shows (ty_text n t) (deep t)
     ty-shows (Var i) n ok = var-shows n i ok.1
     ty-shows Int n ok = quiet-shows (codes "int") refl

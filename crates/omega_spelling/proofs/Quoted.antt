@@ -79,6 +79,7 @@ signed-reads = record {
 
 -- ---- texts
 
+-- the sorts of bytes that quoted text tells apart: quotation mark, backslash, line feed, or another byte
 pub data Sorted (b : ℕ) : Type 0 where
   quote : b ≡ 34 → Sorted b
   slash : b ≡ 92 → Sorted b

@@ -122,6 +122,7 @@ max-zero o c a b rest s = let k : max 0 (max a b) ≡ max a b = omega arith in r
 
 module _ (v : Version) where
   mutual
+    -- the text of a spelled term shows its depth
     pub term-shows : (x : Term) (n m : ℕ) → TermSpelled v n m x → Shows (term_text n m x) (term_deep x)
     term-shows (Var i) n m ok = var-shows m i ok.1
     term-shows (Int z) n m ok = signed-shows z ok

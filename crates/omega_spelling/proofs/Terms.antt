@@ -518,6 +518,7 @@ module _ (v : Version) where
   term-zero-again n m (Unroll e) rest ok ends = absurd (omega (arith, ok.1))
   term-zero-again n m (Arith op a b) rest ok ends = absurd (omega (arith, ok.1))
 
+  -- the reader of terms takes just the texts of spelled terms that are not too deep for it
   pub term-reads : (d n m : ℕ) → Reads (term_at v d n m) (term_text n m) (λ t. TermSpelled v n m t × (term_deep t ≤ d))
   term-reads zero n m = record { takes = term-zero-takes n m; again = term-zero-again n m }
   term-reads (suc d) n m = record { takes = term-takes d n m (term-reads d); again = term-again d n m (term-reads d) }

@@ -24,6 +24,7 @@ below-test a b lt = grind (arith, nat_tests)
 
 -- ---- kinds
 
+-- a kind is not too deep for the reader
 abbrev pub KindFits : ℕ → Kind → Type 0
 KindFits d k = kind_deep k ≤ d
 
@@ -117,6 +118,7 @@ later-has Second f n bytes late = refl
 -- ---- types of a version
 
 module _ (v : Version) where
+  -- a type has a spelling and is not too deep for the reader
   abbrev pub TyFits : ℕ → ℕ → Ty → Type 0
   TyFits d n t = TySpelled v n t × (deep t ≤ d)
 
@@ -332,6 +334,7 @@ module _ (v : Version) where
   unfolding ty_at
   leaf-only n bytes x rest e = leaf-takes 0 n bytes x rest e
 
+  -- the reader of types takes just the texts of spelled types that are not too deep for it
   pub ty-reads : (d n : ℕ) → Reads (ty_at v d n) (ty_text n) (λ t. TySpelled v n t × (deep t ≤ d))
   ty-reads zero n = record { takes = leaf-only n; again = leaf-again n }
   ty-reads (suc d) n = record { takes = ty-takes d n (ty-reads d); again = ty-again d n (ty-reads d) }

@@ -8,6 +8,7 @@ use Rattle.omega_spelling.specs.Spelled.{TySpelled, RowSpelled}
 use Rattle.omega_spelling.specs.TermReading.{TermSpelled, TermRowSpelled}
 
 mutual
+  -- a type that is spelled in the first version is so in the second
   pub ty-later : (n : ℕ) (t : Ty) → TySpelled First n t → TySpelled Second n t
   ty-later n (Ty.Var i) s = s
   ty-later n Ty.Int s = tt
@@ -27,6 +28,7 @@ mutual
   row-later n last (Row.More l t r) s = (s.0, s.1, ty-later n t s.2, row-later n (Some l) r s.3)
 
 mutual
+  -- a term that is spelled in the first version is so in the second
   pub term-later : (n m : ℕ) (e : Term) → TermSpelled First n m e → TermSpelled Second n m e
   term-later n m (Term.Var i) s = s
   term-later n m (Term.Int z) s = s

@@ -25,6 +25,7 @@ level-text : (c n i : ℕ) → Counts c n → IndexInScope n i → decimal (leve
 level-text c n i e s = ap decimal (level-exact c n i e s)
 
 mutual
+  -- a type in scope, written by counting binders, is its text
   pub ty-counted : (c n : ℕ) (t : Ty) → Counts c n → TyInScope n t → counted_ty c t ≡ ty_text n t
   ty-counted c n (Ty.Var i) e s = ap (λ (w : List ℕ). codes "a" then w) (level-text c n i e s)
   ty-counted c n Ty.Int e s = refl
@@ -54,6 +55,7 @@ case : {a b p q x y : List ℕ} → a ≡ b → p ≡ q → x ≡ y → case_tex
 case d e f = λ i. case_text (d i) (e i) (f i)
 
 mutual
+  -- a term in scope, written by counting binders, is its text
   pub term-counted : (c d n m : ℕ) (e : Term) → Counts c n → Counts d m → TermInScope n m e → counted_term c d e ≡ term_text n m e
   term-counted c d n m (Term.Var i) u v s = ap (λ (w : List ℕ). codes "x" then w) (level-text d m i v s)
   term-counted c d n m (Term.Int z) u v s = refl

@@ -35,6 +35,7 @@ weight-at [] i d lt = absurd (omega arith)
 weight-at (p ∷ ps) zero d lt = omega arith
 weight-at (p ∷ ps) (suc i) d lt = omega (arith, weight-at ps i d (omega arith))
 
+-- the text of a field of a type
 abbrev pub ty_field_text : ℕ → Label × Ty → List ℕ
 ty_field_text n x = field_text x.0 (counted_ty n x.1)
 
@@ -50,6 +51,7 @@ ty_field-size [] i d lt = absurd (omega arith)
 ty_field-size (x ∷ xs) zero d lt = omega arith
 ty_field-size (x ∷ xs) (suc i) d lt = omega (arith, ty_field-size xs i d (omega arith))
 
+-- the text of a field of a term
 abbrev pub term_field_text : (n m : ℕ) → Label × Term → List ℕ
 term_field_text n m x = field_text x.0 (counted_term n m x.1)
 

@@ -9,11 +9,13 @@ use Rattle.omega_terms.specs.Fields.{term_row}
 use Rattle.omega_write.specs.declared.trees.Piece.{Piece}
 use Rattle.omega_write.specs.declared.trees.Piece.TheVariants as piece
 
+-- the size of a kind
 abbrev pub kind_size : Kind → ℕ
 kind_size Kind.Star = 1
 kind_size (Kind.Arrow a b) = kind_size a + kind_size b + 1
 
 abbrev mutual
+  -- the size of a type, as the writer counts it
   pub ty_size : Ty → ℕ
   ty_size (Ty.Var i) = 1
   ty_size Ty.Int = 1
@@ -28,11 +30,13 @@ abbrev mutual
   ty_size (Ty.Lam k b) = kind_size k + ty_size b + 1
   ty_size (Ty.Apply f a) = ty_size f + ty_size a + 1
 
+  -- the size of a row of types
   pub row_size : Row → ℕ
   row_size Row.End = 0
   row_size (Row.More l t rest) = ty_size t + row_size rest + 1
 
 abbrev mutual
+  -- the size of a term, as the writer counts it
   pub term_size : Term → ℕ
   term_size (Term.Var i) = 1
   term_size (Term.Int z) = 1
@@ -54,6 +58,7 @@ abbrev mutual
   term_size (Term.Roll e t) = term_size e + ty_size t + 1
   term_size (Term.Unroll e) = term_size e + 1
 
+  -- the size of a row of terms
   pub term_row_size : TermRow → ℕ
   term_row_size TermRow.End = 0
   term_row_size (TermRow.More l e rest) = term_size e + term_row_size rest + 1
@@ -70,6 +75,7 @@ weight (piece.TyFields n f) = 6 * row_size (row f.now) + 1
 weight (piece.Term here e) = 6 * term_size e.now + 1
 weight (piece.TermFields here f) = 6 * term_row_size (term_row f.now) + 1
 
+-- the weight of pieces that are still to be written
 abbrev pub weights : List Piece → ℕ
 weights [] = 0
 weights (p ∷ ps) = weight p + weights ps

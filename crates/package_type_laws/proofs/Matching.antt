@@ -89,6 +89,7 @@ mutual
   norm-both {ctx} (NormSig.impure {ks = ks} {s = s} {t = t} {x = x} {y = y} {order = order} m o n) (WellFormed.impure (explicit w f e) v) =
       impure-both ctx ks (reordered ks order) (renumber ks order) (unnumber ks order) (undone-renumber o ctx) (renumber-outside o) s t x y (norm-both m w) (norm_abs-both n v)
 
+  -- a signature and its norm match each other
   pub norm_abs-both : {ctx : List Kind} {x y : Abs} → Norm ctx x y → WellFormedAbs ctx x → BothAbs ctx x y
   norm_abs-both {ctx} (Norm.ex {ks = ks} {s = s} {t = t} {order = order} m o) (abs w) =
       ex-both ctx ks (reordered ks order) (renumber ks order) (unnumber ks order) (undone-renumber o ctx) (renumber-outside o) s t (norm-both m w)

@@ -49,6 +49,7 @@ module _ (ctx ks js : List Kind) (r : ℕ → ℕ) (h : Maps (extend ctx ks) (ex
       sig_at-under ks js (renamed ks r) s (kinds-fit (kinds-renamed ctx (extend ctx js) ks r h)) ∙
       (ap (λ f. substitute_sig f s) puts-all ∙ substitute-vars_sig r s)
 
+  -- a signature at the renamed variables of the binders is the renamed signature
   pub abs-renamed : (x : Abs) → abs_at_under js (renamed ks r) x ≡ rename_abs r x
   abs-renamed x = ap (λ f. substitute_abs f x) puts-all ∙ substitute-vars_abs r x
 

@@ -12,6 +12,7 @@ use Rattle.parse_grammar.proofs.Checks.{leads_ok, ranks_ok}
 use Rattle.parse_grammar.specs.Reading.{Run, got, stop, next, ahead, by_token, by_rule, run, lead, need, reads, read_all}
 use Rattle.parse_grammar.proofs.Front.{Got, Stopped, sound, stopped}
 
+-- a run ends: it gives values and the tokens left, or it stops
 abbrev pub Ends : ℕ → List Symbol → List Token → Type 0
 Ends f ss ts = ((vs : Values ss) × (rest : List Token) × (run f ss ts ≡ got vs rest)) ⊎ ((left : List Token) × (run f ss ts ≡ stop left))
 

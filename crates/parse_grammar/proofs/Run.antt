@@ -11,6 +11,7 @@ use Rattle.parse_grammar.proofs.Checks.{rules_ok, predicts}
 use Rattle.parse_grammar.specs.Choosing.{Chosen}
 use Rattle.parse_grammar.specs.Reading.{got, next, ahead, by_token, by_rule, run}
 
+-- how many nodes and leaves trees have
 abbrev pub size : {ss : List Symbol} → Trees ss → ℕ
 size end = 1
 size (leaf t e ts) = suc (size ts)

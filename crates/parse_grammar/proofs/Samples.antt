@@ -18,6 +18,7 @@ any_what a_name = what.Ident []
 any_what a_number = what.Int (pos 0)
 any_what a_text = what.Text []
 
+-- a token of each terminal
 abbrev pub any_token : Terminal → Token
 any_token k = record { what = any_what k; span = record { from = 0; to = 0 } }
 
@@ -158,6 +159,7 @@ parts_of_E = (node sums parts_of_ES (node no_compare parts_of_Compare end))
 pub parts_of_Lam : Trees (rhs lam_value)
 parts_of_Lam = (leaf (any_token (a_mark LeftParen)) refl (leaf (any_token a_name) refl (leaf (any_token (a_mark Colon)) refl (node ty_chain parts_of_T (leaf (any_token (a_mark RightParen)) refl (leaf (any_token (a_mark DoubleArrow)) refl (node exp_compare parts_of_E end)))))))
 
+-- a phrase of each class, the least deep one
 abbrev pub any_phrase : (n : Class) → Trees (phrase n ∷ [])
 any_phrase Units = node no_units parts_of_Units end
 any_phrase OneUnit = node unit_module parts_of_OneUnit end

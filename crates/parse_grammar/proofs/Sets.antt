@@ -4,10 +4,12 @@ use Rattle.std.proofs.Common.{◌≡◌, ℕ, ◌&&◌, ◌||◌, Bool, true, fa
 use Rattle.parse_grammar.specs.Grammar.{Class, Symbol, token, phrase, Rule, rhs}
 use Rattle.parse_grammar.specs.Tables.{number_of, can_be_empty, firsts_of, follow, predicted, is_in}
 
+-- all numbers of a list pass a test
 abbrev pub all : (ℕ → Bool) → List ℕ → Bool
 all p [] = true
 all p (x ∷ xs) = p x && all p xs
 
+-- a property holds of each number of a list
 abbrev pub Each : (ℕ → Type 0) → List ℕ → Type 0
 Each P [] = Unit {0}
 Each P (x ∷ xs) = P x × Each P xs
@@ -30,9 +32,11 @@ all_empty [] = true
 all_empty (token t ∷ ss) = false
 all_empty (phrase n ∷ ss) = can_be_empty n && all_empty ss
 
+-- a phrase of a class may begin with a token, or be empty before it
 abbrev pub begins : Class → ℕ → ℕ → Bool
 begins n k j = is_in j (firsts_of n) || (can_be_empty n && eqb j k)
 
+-- a production begins as its class may, at tokens that it predicts
 abbrev pub rule_ok : {n : Class} → Rule n → ℕ → Bool
 rule_ok {n} r k = fits (rhs r) k && all (λ j. begins n k j && is_in j (predicted r)) (starts (rhs r) k)
 

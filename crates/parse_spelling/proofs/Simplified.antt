@@ -41,6 +41,7 @@ module _ (v : Version) where
     simplified_row-legible last TermRow.End h = tt
     simplified_row-legible last (TermRow.More l e rest) h = (h.0, h.1, simplified-legible e h.2, simplified_row-legible (Some l) rest h.3)
 
+  -- what is emitted for a legible term is legible
   pub emits-legible : {whole e : Term} → Emits whole e → TermLegible v whole → TermLegible v e
   emits-legible Emits.as_it_is h = h
   emits-legible {whole} Emits.simpler h = simplified-legible whole h

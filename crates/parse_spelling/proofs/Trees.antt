@@ -273,6 +273,7 @@ module _ (v : Version) where
       let q = split-keywords (spelling cs) (spelling ts) k in
       (act-spelled r (values cs) (trees-spelled cs p.0 q.0), trees-spelled ts p.1 q.1)
 
+  -- what a phrase of spelled tokens gives is spelled
   pub phrase-spelled : {n : Class} {tokens : List Token} {x : Value n} → TokensSpelled tokens → KeywordsSpelled v tokens → Phrase n tokens x
       → ValueSpelled v n x
   phrase-spelled {n} h k p =

@@ -37,6 +37,7 @@ mutual
   row_mention-below i _ (m_rest {rest = rest} m) = omega (arith, row_mention-below i rest m)
 
 mutual
+  -- an index that a signature mentions is below its bound
   pub sig_mention-below : (i : ℕ) (s : Sig) → MentionsSig i s → i < bound_sig s
   sig_mention-below i (Sig.Val t) m = mention-below i t m
   sig_mention-below i (Sig.Typ t k) m = mention-below i t m
@@ -45,6 +46,7 @@ mutual
   sig_mention-below i (Sig.Fun e ks s x) (inl m) = omega (arith, sig_mention-below (past ks i) s m, past-length ks i)
   sig_mention-below i (Sig.Fun e ks s x) (inr m) = omega (arith, abs_mention-below (past ks i) x m, past-length ks i)
 
+  -- so is one that a signature which hides types mentions
   pub abs_mention-below : (i : ℕ) (x : Abs) → MentionsAbs i x → i < bound_abs x
   abs_mention-below i (Abs.Ex ks s) m = omega (arith, sig_mention-below (past ks i) s m, past-length ks i)
 

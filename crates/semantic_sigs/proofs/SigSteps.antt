@@ -44,6 +44,7 @@ abs-sinks ks depth h x = ap (λ g. abs_in g x) (sinks-sunk ks depth h)
 
 -- fields with each part changed
 
+-- a change of each field of a structure
 abbrev pub map_sigs : (Sig → Sig) → SigPairs → SigPairs
 map_sigs f = map (λ x. (x.0, f x.1))
 

@@ -108,6 +108,7 @@ module _ (before after : List Kind) (k : Kind) (u : Ty) where
       params-moved s p (own (before ++ after) j) fixing (fixing-substitutes ctx h) (well_formed-kinds w)
       (λ z m. subst (ParamsAvoid (inside ctx) s p) (sym (kept-only z f.1 m)) (y (own (before ++ (k ∷ after)) f.0) (own_falls (before ++ (k ∷ after)) n f.0 (kept-order e f.1 le)))))
 
+  -- fixing a hidden type keeps a signature ordered explicit
   pub fixed_explicit : (ctx : List Kind) (s : Sig) → HasKind ctx u k → Explicit ctx (Abs.Ex (before ++ (k ∷ after)) s) → Explicit ctx (Abs.Ex (before ++ after) (substitute_sig fixing s))
   fixed_explicit ctx s h (explicit w r e) = explicit
       (well_formed-substitute fixing (fixing-substitutes ctx h) w)

@@ -44,6 +44,7 @@ params-moved {ctx} {other} s p v f h w a ds js q on =
 
 -- more fields
 
+-- each field of the one structure is one of the other
 abbrev pub FieldsIn : SigRow → SigRow → Type 0
 FieldsIn fs gs = (l : Name) (s : Sig) → HasField fs l s → HasField gs l s
 

@@ -48,10 +48,12 @@ term-deeper depth h e = ap (λ n. term_in (sunk n h) e) (sym (next depth))
 abbrev pub filling : (ℕ → Head) → ℕ → Ty → Ty
 filling h depth t = ty_in (sunk depth h) t
 
+-- a walk that leaves each term variable as it is
 abbrev pub staying : ℕ → ℕ → ℕ → Term
 staying types terms index = Term.Var index
 
 mutual
+  -- the walk that puts types in is the change of variables in a term
   pub walk-fills : (h : ℕ → Head) (i j : ℕ) (e : Term) → walked (filling h) staying i j e ≡ term_in (sunk i h) e
   walk-fills h i j (Term.Var n) = refl
   walk-fills h i j (Term.Int z) = refl

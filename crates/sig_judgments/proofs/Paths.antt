@@ -70,6 +70,7 @@ module _ {A : Type 0} (name : A → Name) where
       go (holds q p q_only never) = holds q (PartAt.field h p) (λ r p. q_only r (below r p)) (λ y l. never y (lack_below y l))
       go (refuses y l y_only never) = refuses y (there h l) (λ z m. y_only z (lack_below z m)) (λ q p. never q (below q p))
 
+  -- a path of names leads to a part of a signature, or leaves the structures at a name
   pub leads : (s : Sig) (path : List A) → LeadsOrLacks s path
   leads s [] = holds s PartAt.end (λ q p. leads-end p) (λ x h. lack-end h)
   leads (Sig.Str fs) (x ∷ path) = leads-more fs x path (field-at fs (name x)) (λ t. leads t path)
@@ -110,6 +111,7 @@ own-length k j ks js e =
     let c = past-length js zero in
     omega arith
 
+-- a part shows the hidden type between those before it and those after it
 abbrev pub Shows : List Kind → Sig → List Kind × Kind × List Kind → Type 0
 Shows ks q o = (ks ≡ o.0 ++ (o.1 ∷ o.2)) × (q ≡ own_part o.1 o.2)
 

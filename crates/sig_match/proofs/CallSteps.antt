@@ -71,9 +71,11 @@ match-in_no depth s x ts n e a p b = λ ctx l w v.
 
 -- all hidden variables
 
+-- the first hidden types are found in each context of this depth
 abbrev pub EachFirst : ℕ → Sig → Abs → List Ty → Type 0
 EachFirst depth s x ts = (ctx : List Kind) → length ctx ≡ depth → OkSig ctx s → OkRight ctx x → FirstFound ctx s x ts
 
+-- the root paths of the hidden types, in each context
 abbrev pub EachRoots : Abs → List (Option SigPath) → Type 0
 EachRoots x roots = (ctx : List Kind) → WellFormedAbs ctx x → NormalAbs ctx x → AreRoots ctx x roots
 
@@ -485,6 +487,7 @@ field-missing depth fs l r q g n eq gi = λ ctx c w v gs.
     holds-given (RefusesFields ctx fs (SigRow.More l r gs)) (Some (within (Item.Part l) (clash ctx Missing))) (plain_refusal g)
     (subst (λ o. Gives o (plain_refusal g)) (ap (inside (Item.Part l)) eq ∙ ap (λ d. Some (within (Item.Part l) (Clash d [] Missing))) (sym c)) gi) (RefusesFields.missing n)
 
+-- the coercions of the first right fields, in each context of this depth
 abbrev pub EachParts : ℕ → SigPairs → SigRow → ℕ → TermPairs → Type 0
 EachParts depth xs fs i parts = (ctx : List Kind) → length ctx ≡ depth → OkSig ctx (Sig.Str fs) → IsRightSig ctx (Sig.Str (sig_row xs)) → Parts ctx fs (take i xs) parts × ((q : MatchRefusal) → RefusesFields ctx fs (sig_row (drop i xs)) q → RefusesFields ctx fs (sig_row xs) q)
 

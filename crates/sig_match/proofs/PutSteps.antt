@@ -98,6 +98,7 @@ meta-at x ts _ (AlikeSig.meta {y = y} a) = (y, refl, a)
 under : (js ks : List Kind) (ts : List Ty) (x : Abs) {ctx : List Kind} → AreNormal ctx ts ks → abs_at ts (rename_abs (lifts ks (past js)) x) ≡ abs_at_under js ts x
 under js ks ts x a = substitute-rename_abs (puts ts Ty.Var) (lifts ks (past js)) x ∙ ap (λ f. substitute_abs f x) (puts-lifts (types-fit (forms-types a)) Ty.Var (past js))
 
+-- an instance of a signature at types, in each context
 abbrev pub InstAt : Abs → List Ty → Sig → Type 0
 InstAt z us n = (ctx : List Kind) → NormalAbs ctx z → NormalForms ctx us (kinds_of z) us → IsSigAt ctx (body_of z) us n
 

@@ -160,6 +160,7 @@ field-later ctx fs xs i x f q lt e z r = subst (λ w. RefusesFields ctx fs w q) 
 
 -- the coercions of the fields so far, under their names
 
+-- for each right field the coercion of the left field of its name
 pub data Parts (ctx : List Kind) (fs : SigRow) : SigPairs → TermPairs → Type 0 where
   none : Parts ctx fs [] []
   more : {x : Name × Sig} {xs : SigPairs} {ps : TermPairs} {s : Sig} {f : Term} → HasField fs x.0 s → Sub ctx s x.1 f → Parts ctx fs xs ps → Parts ctx fs (x ∷ xs) ((Label.Name x.0, f) ∷ ps)
@@ -182,6 +183,7 @@ pub parts-next : (ctx : List Kind) (fs : SigRow) (xs : SigPairs) (ps done : Term
 parts-next ctx fs xs ps done i x l f lt e el ed z r =
     subst (Parts ctx fs (take (i + 1) xs)) (sym (ed ∙ ap (λ m. ps ++ ((Label.Name m, f) ∷ [])) el)) (subst (λ ys. Parts ctx fs ys (ps ++ ((Label.Name x.0, f) ∷ []))) (take-next xs i x lt e ∙ ap (λ n. take n xs) (sym (next-index i))) (parts-last x z.1 z.2 r))
 
+-- coercions have the names of the fields, one by one
 pub data Labelled : SigPairs → TermPairs → Type 0 where
   none : Labelled [] []
   more : (x : Name × Sig) (f : Term) {xs : SigPairs} {ps : TermPairs} → Labelled xs ps → Labelled (x ∷ xs) ((Label.Name x.0, f) ∷ ps)

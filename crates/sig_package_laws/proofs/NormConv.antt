@@ -50,6 +50,7 @@ mutual
       let m = reorder-maps o ctx in
       (_, NormSig.impure w.1 (taking-conv w.2 o) v.1, fun (conv_sig-rename (renumber ks order) m w.2) (conv_abs-rename (renumber ks order) m v.2))
 
+  -- the norms of convertible signatures are convertible
   pub norm_abs-conv : {ctx : List Kind} {x y z : Abs} → Norm ctx x y → ConvAbs ctx x z → (u : Abs) × Norm ctx z u × ConvAbs ctx y u
   norm_abs-conv {ctx} (Norm.ex {ks = ks} {order = order} a o) (ex c) =
       let w = norm-conv a c in
@@ -80,6 +81,7 @@ mutual
   same-conv (EachSig.impure x y) (fun c e) (fun d f) = EachSig.impure (same_abs-conv x (ex c) (ex d)) (same_abs-conv y e f)
   same-conv (EachSig.mixed h) (fun c e) (fun d f) = EachSig.mixed h
 
+  -- conversion keeps what is rooted at the same paths
   pub same_abs-conv : {ctx other : List Kind} {x y a b : Abs} → SameAbs ctx other x y → ConvAbs ctx x a → ConvAbs other y b → SameAbs ctx other a b
   same_abs-conv {ctx} {other} (EachAbs.ex {ks = ks} {js = js} (f, g) x) (ex c) (ex d) = EachAbs.ex
       (λ p r. roots-conv other js d (f p (roots-conv ctx ks (conv_sig-sym c) r)), λ p r. roots-conv ctx ks c (g p (roots-conv other js (conv_sig-sym d) r)))

@@ -228,6 +228,7 @@ mutual
       subst₂ (λ z w. NormSig other (Sig.Fun Impure ks (rename_sig (lifts ks r) s) (rename_abs (lifts ks r) x)) (Sig.Fun Impure (reordered ks order) z w)) (renumbered-sig o r t) (renumbered-abs o r y)
       (NormSig.impure (norm-mapped (lifts ks r) (lifts-maps ks h) w a) (taking-mapped r h (well_formed-kinds (norm-well_formed a w)) o) (norm_abs-mapped (lifts ks r) (lifts-maps ks h) v n))
 
+  -- norm commutes with each renaming that keeps kinds
   pub norm_abs-mapped : {ctx other : List Kind} {x y : Abs} (r : ℕ → ℕ) → Maps ctx other r → WellFormedAbs ctx x → Norm ctx x y → Norm other (rename_abs r x) (rename_abs r y)
   norm_abs-mapped {other = other} r h (abs w) (Norm.ex {ks = ks} {s = s} {t = t} {order = order} a o) =
       subst (λ z. Norm other (Abs.Ex ks (rename_sig (lifts ks r) s)) (Abs.Ex (reordered ks order) z)) (renumbered-sig o r t)

@@ -52,6 +52,7 @@ Linked ctx ks s other js t i j = (p : SigPath) × Rooted (extend ctx ks) s (own 
 abbrev pub Placed : (ctx ks : List Kind) → Sig → (other js : List Kind) → Sig → (ℕ → Ty) → Type 0
 Placed ctx ks s other js t f = (i j : ℕ) → i < length ks → j < length js → Linked ctx ks s other js t i j → (k : Kind) × Conv (extend ctx ks) (Ty.Var (own ks i)) (f (own js j)) k
 
+-- the hidden types of two signatures, paired one to one by being rooted at one path
 pub data Pairs (ctx ks : List Kind) (s : Sig) (other js : List Kind) (t : Sig) : Type 0 where
   pairs : (to from : ℕ → ℕ) → Paired ks js to from → ((j : ℕ) → j < length js → Linked ctx ks s other js t (to j) j) → ((i : ℕ) → i < length ks → Linked ctx ks s other js t i (from i)) → Pairs ctx ks s other js t
 

@@ -23,6 +23,7 @@ use Rattle.sig_explicit_laws.proofs.Moves.{rooted-renamed}
 use Rattle.sig_laws.proofs.Formed.RootNumbers.{rooted-of}
 
 mutual
+  -- signatures that are rooted alike are so the other way round
   pub same-flip : {ctx other : List Kind} {s t : Sig} → SameSig ctx other s t → SameSig other ctx t s
   same-flip EachSig.val = EachSig.val
   same-flip EachSig.typ = EachSig.typ
@@ -32,6 +33,7 @@ mutual
   same-flip (EachSig.impure a b) = EachSig.impure (same_abs-flip a) (same_abs-flip b)
   same-flip (EachSig.mixed h) = EachSig.mixed (λ e. h (sym e))
 
+  -- so are those that hide types
   pub same_abs-flip : {ctx other : List Kind} {x y : Abs} → SameAbs ctx other x y → SameAbs other ctx y x
   same_abs-flip (EachAbs.ex (f, g) a) = EachAbs.ex (g, f) (same-flip a)
 
@@ -51,6 +53,7 @@ field-renamed r (SigRow.More m s rest) here = (s, here, refl)
 field-renamed r (SigRow.More m s rest) (there n h) = let q = field-renamed r rest h in (q.0, there n q.1, q.2)
 
 mutual
+  -- a renaming that can be undone keeps signatures rooted alike
   pub same-renamed : {ctx other third : List Kind} {s t : Sig} (r q : ℕ → ℕ) → Undone other third r q → SameSig ctx other s t → SameSig ctx third s (rename_sig r t)
   same-renamed r q u EachSig.val = EachSig.val
   same-renamed r q u EachSig.typ = EachSig.typ
@@ -63,6 +66,7 @@ mutual
   same-renamed r q u (EachSig.impure {js = js} a b) = EachSig.impure (same_abs-renamed r q u a) (same_abs-renamed (lifts js r) (lifts js q) (undone-lifts js u) b)
   same-renamed r q u (EachSig.mixed h) = EachSig.mixed h
 
+  -- so for those that hide types
   pub same_abs-renamed : {ctx other third : List Kind} {x y : Abs} (r q : ℕ → ℕ) → Undone other third r q → SameAbs ctx other x y → SameAbs ctx third x (rename_abs r y)
   same_abs-renamed {ctx} {other} {third} r q u (EachAbs.ex {ks = ks} {js = js} (f, g) a) = EachAbs.ex
       (λ p x. let w = f p x in (w.0, w.1, own-renamed other third js r q u w.0 p w.1 w.2), λ p x. g p (x.0, x.1, own-renamed_back other third js r q u x.0 p x.1 x.2))

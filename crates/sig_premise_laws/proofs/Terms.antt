@@ -29,6 +29,7 @@ ty-total : {from mid : List Kind} {q : ℕ → Ty} {t n : Ty} {k : Kind} (to : L
 ty-total {t = t} to s (TyInstance.made n f) h = (normal to (substitute s t), TyInstance.made n (normal-gives (kind-substitute s h (normal-kind n))))
 
 mutual
+  -- a term that has an instance has one at each substitution of types of the right kinds
   pub instance-total : {from mid : List Kind} {q : ℕ → Ty} {e d : Term} (to : List Kind) (s : ℕ → Ty) → Instance from mid q e d → Substitutes from to s → (c : Term) × Instance from to s e c
   instance-total to s (Instance.var {n = n}) h = (Term.Var n, Instance.var)
   instance-total to s (Instance.int {z = z}) h = (Term.Int z, Instance.int)

@@ -117,6 +117,7 @@ pub least-past_sig : (from : ℕ) (ks : List Kind) (s : Sig) → IsLeast (λ x. 
 least-past_sig from ks s h = least-by (λ x. MentionsSig (length ks + from + x) s) (λ x. MentionsSig (past ks (from + x)) s) (least_sig (length ks + from) s) (λ x m. subst (λ n. MentionsSig n s) (past-from ks from x) m) (λ x m. subst (λ n. MentionsSig n s) (sym (past-from ks from x)) m) h
 
 mutual
+  -- the least index at or above a number that a signature mentions is found
   pub least-sig : (from : ℕ) (s : Sig) → IsLeast (λ x. MentionsSig (from + x) s) (least_sig from s)
   least-sig from (Sig.Val t) = least-ty from t
   least-sig from (Sig.Typ t k) = least-ty from t

@@ -10,6 +10,7 @@ use Rattle.sig_definitions.specs.Explicit.SigPath.{SigPath, Item}
 use Rattle.sig_match_laws.specs.RootSearch.{after, or_else}
 use Rattle.sig_roots.specs.Inner.Seek.{is_open, unless_barred, ends, behind, merged}
 
+-- of each hidden type the path that is found, if any
 abbrev pub Found : Type 0
 Found = List (Option SigPath)
 

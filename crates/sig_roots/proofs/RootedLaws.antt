@@ -49,6 +49,7 @@ lam-shape : (count own : ℕ) → spread (suc count + own) zero (suc count) ≡ 
 lam-shape count own = ap (λ f. Ty.Apply f (Ty.Var zero)) (ap (λ i. spread i (suc zero) count) (omega arith) ∙ sym (spread-raised (count + own) zero count))
 
 mutual
+  -- a type that is found to be a variable applied to those of binders is convertible to it
   pub rooted-conv : {c : List Kind} {k : Kind} (count own : ℕ) (t : Ty) → rooted count t ≡ Some own → HasKind c t k → Conv c t (spread (count + own) zero count) k
   rooted-conv {c} count own (Ty.Lam k b) e (k_lam {l = l} h) =
       lam-conv (subst (λ (o : Ty). Conv (k ∷ c) b o l) (lam-shape count own) (rooted-conv (suc count) own b e h))

@@ -17,6 +17,7 @@ use Rattle.sig_text.specs.Inner.Pieces.{field_text, piece_text, pieces_text, Pie
 use Rattle.sig_text.specs.Inner.SigInScope.{SigInScope, SigRowInScope}
 use Rattle.sig_text.specs.SigText.{more_kinds_text, sig_row_text}
 
+-- a kind after a space
 abbrev pub spaced_text : SharedKind → List ℕ
 spaced_text k = codes " " then kind_text (kind_tree k)
 
@@ -43,6 +44,7 @@ weight (piece.Sig n s) = 4 * sig_nodes s.now + 1
 weight (piece.Abs n x) = 4 * abs_nodes x.now + 1
 weight (piece.Fields n f) = 4 * sig_row_nodes (sig_row f.now) + 1
 
+-- the weight of pieces that are still to be written
 abbrev pub weights : List Piece → ℕ
 weights [] = 0
 weights (p ∷ ps) = weight p + weights ps
@@ -61,6 +63,7 @@ scope-at (p ∷ ps) (suc i) d lt s = scope-at ps i d (omega arith) s.1
 
 -- fields
 
+-- the text of a field
 abbrev pub pair_text : ℕ → Name × Sig → List ℕ
 pair_text n x = field_text n x.0 x.1
 

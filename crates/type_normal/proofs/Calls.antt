@@ -48,9 +48,11 @@ abbrev pub contract_calls : ℕ → Part → Ty → ℕ
 contract_calls zero = λ p a. zero
 contract_calls (suc n) = apply_calls (calls_with (contract_calls n))
 
+-- how many calls of itself hereditary substitution makes in a type
 abbrev pub calls : Kind → ℕ → Ty → Ty → ℕ
 calls k = calls_with (contract_calls (height k)) k
 
+-- how many it makes in a row
 abbrev pub row_calls : Kind → ℕ → Ty → Row → ℕ
 row_calls k = row_calls_with (contract_calls (height k)) k
 
@@ -58,6 +60,7 @@ row_calls k = row_calls_with (contract_calls (height k)) k
 abbrev pub under_calls : Kind → ℕ → Ty → Ty → ℕ
 under_calls k i a b = calls k (suc i) (rename suc a) b
 
+-- how many it makes for an operator that meets its argument
 abbrev pub operator_calls : Part → Ty → ℕ
 operator_calls p a = contract_calls (part_height p) p a
 

@@ -45,6 +45,7 @@ filled-same k j t a i n e f g = ap₂ (λ u l. whole u l (args l)) g f ∙ sym (
 -- a part that mentions neither the variable nor a greater index
 
 mutual
+  -- hereditary substitution leaves a type whose free indexes are all below its index
   pub put_in-unchanged : (k : Kind) (A : Args k) (i : ℕ) (a t : Ty) → bound_of t ≤ i → put_in k A i a t ≡ stuck t
   put_in-unchanged k A i a (Ty.Var j) h = ap (fill_part k A a) (slot-below i j (omega arith))
   put_in-unchanged k A i a Ty.Int h = refl

@@ -29,6 +29,7 @@ use Rattle.type_normal.proofs.HeadSteps.{sinks-sunk}
 
 -- renamings
 
+-- a renaming as a change of variables
 abbrev pub renaming : (ℕ → ℕ) → ℕ → Head
 renaming r i = stands (Ty.Var (r i))
 
@@ -46,6 +47,7 @@ sinks-renaming [] r = refl
 sinks-renaming (k ∷ ks) r = ap (sinks ks) (under-renaming r) ∙ sinks-renaming ks (lift r)
 
 mutual
+  -- a change that renames variables renames a type
   pub head-renamed : (r : ℕ → ℕ) (t : Ty) → head_in (renaming r) t ≡ stands (rename r t)
   head-renamed r (Ty.Var i) = refl
   head-renamed r Ty.Int = refl
@@ -80,6 +82,7 @@ pub data GoodHead (ctx : List Kind) (s : Ty) : Head → Kind → Type 0 where
   g_stands : {n : Ty} {k : Kind} → Neutral ctx n k → Conv ctx s n k → GoodHead ctx s (stands n) k
   g_came : {n : Ty} {k : Kind} → Normal ctx n k → Conv ctx s n k → GoodHead ctx s (came n) k
 
+-- a change gives each variable a normal type of its kind, convertible to what is substituted
 abbrev pub Good : List Kind → List Kind → (ℕ → Ty) → (ℕ → Head) → Type 0
 Good ctx other s h = (i : ℕ) (k : Kind) → Lookup ctx i k → GoodHead other (s i) (h i) k
 
@@ -111,6 +114,7 @@ good-apply (g_stands n c) m = g_stands (n_apply n m.0) (c_apply c m.1)
 good-apply (g_came n c) m = good-operator n c m
 
 mutual
+  -- such a change of a normal type gives the normal form of the substitution
   pub in-normal : {ctx other : List Kind} {s : ℕ → Ty} {h : ℕ → Head} {t : Ty} {k : Kind} → Good ctx other s h → Normal ctx t k → NormalForm other (substitute s t) k (ty_in h t)
   in-normal g (n_lam {k = j} b) = let r = in-normal (good-under j g) b in (n_lam r.0, c_lam r.1)
   in-normal g n_int = (n_int, c_refl k_int)

@@ -36,6 +36,7 @@ under-keeps n h k (suc i) lt = ap raised (k i (omega arith))
 
 -- what mentions only indexes that stay is unchanged
 mutual
+  -- a change that leaves the first indexes leaves a type whose free indexes are among them
   pub head-unchanged : (n : ℕ) (h : ℕ → Head) (t : Ty) → Keeps n h → bound_of t ≤ n → head_in h t ≡ stands t
   head-unchanged n h (Ty.Var i) k le = k i (omega arith)
   head-unchanged n h Ty.Int k le = refl

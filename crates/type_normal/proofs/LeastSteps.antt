@@ -69,6 +69,7 @@ first-outside : (i n : ℕ) → is_first (outside i n) ≡ (n == i)
 first-outside i n = grind (arith, nat_tests)
 
 mutual
+  -- the least mention is at an index exactly if the test finds the index mentioned
   pub first-mentioned : (i : ℕ) (t : Ty) → is_first (least_ty i t) ≡ is_mentioned i t
   first-mentioned i (Ty.Var n) = first-outside i n
   first-mentioned i Ty.Int = refl

@@ -24,6 +24,7 @@ same_index_test : (i : ℕ) → (i == i) ≡ true
 same_index_test i = grind (arith, nat_tests)
 
 mutual
+  -- an index that the test finds is mentioned
   pub mentioned-sound : (i : ℕ) (t : Ty) → is_mentioned i t ≡ true → Mentions i t
   mentioned-sound i (Ty.Var n) e = subst (λ m. Mentions i (Ty.Var m)) (same_index n i e) m_var
   mentioned-sound i Ty.Int e = absurd (cc)
@@ -43,6 +44,7 @@ mutual
   mentioned_row-sound i (Row.More l t rest) e = elim (or-cases (is_mentioned i t) (is_mentioned_row i rest) e) [ inl p ↦ m_part (mentioned-sound i t p) | inr p ↦ m_rest (mentioned_row-sound i rest p) ]
 
 mutual
+  -- a mentioned index is found by the test
   pub mentioned-complete : {i : ℕ} {t : Ty} → Mentions i t → is_mentioned i t ≡ true
   mentioned-complete (m_var {i = i}) = same_index_test i
   mentioned-complete (m_from {i = i} {a = a} {b = b} m) = or-left (is_mentioned i a) (is_mentioned i b) (mentioned-complete m)

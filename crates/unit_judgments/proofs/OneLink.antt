@@ -20,10 +20,12 @@ use Rattle.unit_judgments.specs.Link.{Named, LinkGives}
 use Rattle.unit_judgments.proofs.Scopes.{interface-ok}
 use Rattle.unit_judgments.proofs.Sequences.{seq-ok}
 
+-- modules each of which is good under the interfaces of those before it
 abbrev pub GoodNamed : Env → List Named → Type 0
 GoodNamed g [] = Unit {0}
 GoodNamed g (m ∷ ms) = OkModule (kinds g) m.1 × GoodNamed (with_interface g m.0 (sig_in m.1)) ms
 
+-- modules have exactly one link, which is good
 pub record OneLink (g : Env) (names : List Name) (ms : List Named) : Type 0 where
   pub whole : Module
   pub gives : LinkGives g names ms whole

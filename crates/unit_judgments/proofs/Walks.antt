@@ -29,6 +29,7 @@ own-good (UnitUnder under x M ∷ us) before w h =
 
 -- where a unit differs, by a walk
 
+-- the unit of a number stands under other interfaces than those before it
 abbrev pub Walk : List Interface → List UnitModule → ℕ → Type 0
 Walk before [] n = ⊥
 Walk before (u ∷ us) zero = under_of u ≢ before
@@ -96,6 +97,7 @@ interfaces_dec = List-discrete interface_dec
         go (yes a) (no n) = no (λ e. n (ap (λ (k : Interface). k.1) e))
         go (yes a) (yes b) = yes (λ t. (a t, b t))
 
+-- all units stand under the interfaces of those before them, or there is a first one that does not
 abbrev pub FirstWalk : List Interface → List UnitModule → Type 0
 FirstWalk before us = Own before us ⊎ ((n : ℕ) × Walk before us n × ((m : ℕ) → m < n → Walk before us m → ⊥))
 

@@ -27,6 +27,7 @@ use Rattle.unit_laws.proofs.Whole.{first-field}
 abbrev pub after_body : Env → Module → Env
 after_body g M = with_interface g sealing_name (sig_in M)
 
+-- the environment after a unit's body and its sealing
 abbrev pub after_both : Env → (body sealing : Module) → Env
 after_both g M N = with_interface (after_body g M) unit_result (sig_in N)
 

@@ -51,6 +51,7 @@ sealing-refused M p h = Refused.inside (inl (refl, refl)) (Refused.inside (inl (
 
 -- the signature of a unit
 
+-- the body of a module's signature
 abbrev pub body_in : Module → Sig
 body_in (made f (Abs.Ex ks s) ts e) = s
 

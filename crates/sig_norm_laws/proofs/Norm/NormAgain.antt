@@ -82,6 +82,7 @@ mutual
       subst (NormSig ctx (Sig.Fun Impure (reordered ks order) z w)) (same ctx ks t y order o)
       (NormSig.impure (norm-renamed (renumber ks order) (unnumber ks order) u (norm-again a)) (order-again ctx ks t order o) (norm_abs-renamed (renumber ks order) (unnumber ks order) u (norm_abs-again n)))
 
+  -- a norm is its own norm
   pub norm_abs-again : {ctx : List Kind} {x y : Abs} → Norm ctx x y → Norm ctx y y
   norm_abs-again {ctx} (Norm.ex {ks = ks} {t = t} {order = order} a o) =
       let u = undone-renumber o ctx in

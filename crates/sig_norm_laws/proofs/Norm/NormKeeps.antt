@@ -186,6 +186,7 @@ rising-norm NormRow.end h = tt
 rising-norm (NormRow.more {l = l} a rest) h = (before_all-norm l rest h.0, rising-norm rest h.1)
 
 mutual
+  -- norm keeps signatures well formed
   pub norm-well_formed : {ctx : List Kind} {s t : Sig} → NormSig ctx s t → WellFormed ctx s → WellFormed ctx t
   norm-well_formed NormSig.val w = w
   norm-well_formed NormSig.typ w = w
@@ -214,5 +215,6 @@ mutual
   norm_row-results NormRow.end r = r
   norm_row-results (NormRow.more a rest) (in_more r rs) = in_more (norm-results a r) (norm_row-results rest rs)
 
+  -- norm keeps signatures that hide types ordered explicit
   pub norm_abs-explicit : {ctx : List Kind} {x y : Abs} → Norm ctx x y → Explicit ctx x → Explicit ctx y
   norm_abs-explicit (Norm.ex a o) (explicit w r e) = reorder o (norm-well_formed a w) (norm-results a r)

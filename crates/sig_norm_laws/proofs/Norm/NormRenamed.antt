@@ -109,6 +109,7 @@ pub renumbered-abs : {ctx ks : List Kind} {s : Sig} {order : List ℕ} → NewOr
 renumbered-abs {ks = ks} {order = order} o r t = rename-rename_abs (renumber ks order) (lifts ks r) t ∙ (ap (λ f. rename_abs f t) (sym (fun_ext (renumber-lifts o r))) ∙ sym (rename-rename_abs (lifts (reordered ks order) r) (renumber ks order) t))
 
 mutual
+  -- norm commutes with a renaming that can be undone
   pub norm-renamed : {ctx other : List Kind} {s t : Sig} (r q : ℕ → ℕ) → Undone ctx other r q → NormSig ctx s t → NormSig other (rename_sig r s) (rename_sig r t)
   norm-renamed r q u NormSig.val = NormSig.val
   norm-renamed r q u NormSig.typ = NormSig.typ
@@ -119,6 +120,7 @@ mutual
       subst₂ (λ z w. NormSig other (Sig.Fun Impure ks (rename_sig (lifts ks r) s) (rename_abs (lifts ks r) x)) (Sig.Fun Impure (reordered ks order) z w)) (renumbered-sig o r t) (renumbered-abs o r y)
       (NormSig.impure (norm-renamed (lifts ks r) (lifts ks q) (undone-lifts ks u) a) (taking-renamed r q u o) (norm_abs-renamed (lifts ks r) (lifts ks q) (undone-lifts ks u) n))
 
+  -- so for signatures that hide types
   pub norm_abs-renamed : {ctx other : List Kind} {x y : Abs} (r q : ℕ → ℕ) → Undone ctx other r q → Norm ctx x y → Norm other (rename_abs r x) (rename_abs r y)
   norm_abs-renamed {other = other} r q u (Norm.ex {ks = ks} {s = s} {t = t} {order = order} a o) =
       subst (λ z. Norm other (Abs.Ex ks (rename_sig (lifts ks r) s)) (Abs.Ex (reordered ks order) z)) (renumbered-sig o r t)

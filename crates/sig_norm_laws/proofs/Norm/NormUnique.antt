@@ -25,6 +25,7 @@ same-pure : {ks : List Kind} {s t r q : Sig} → s ≡ t → r ≡ q → Path Si
 same-pure {ks} a b i = Sig.Fun Pure ks (a i) (Abs.Ex [] (b i))
 
 mutual
+  -- a signature has at most one norm
   pub norm_unique : {ctx : List Kind} {s t u : Sig} → NormSig ctx s t → NormSig ctx s u → t ≡ u
   norm_unique NormSig.val NormSig.val = refl
   norm_unique NormSig.typ NormSig.typ = refl
@@ -33,6 +34,7 @@ mutual
   norm_unique (NormSig.pure a b) (NormSig.pure c d) = same-pure (norm_unique a c) (norm_unique b d)
   norm_unique (NormSig.impure {ks = ks} a o x) (NormSig.impure b w y) = let e = norm_unique a b in same-fun ks (same-order e o w) e (norm_abs_unique x y)
 
+  -- so has one that hides types
   pub norm_abs_unique : {ctx : List Kind} {x y z : Abs} → Norm ctx x y → Norm ctx x z → y ≡ z
   norm_abs_unique (Norm.ex {ks = ks} a o) (Norm.ex b w) = let e = norm_unique a b in same-abs ks (same-order e o w) e
 

@@ -138,6 +138,7 @@ module _ (ctx ks js : List Kind) (to from : ℕ → ℕ) (p : Paired ks js to fr
   taking-moved {taken} b (done h) = done (λ j u. h (from j) (untaken-back j taken b u))
   taking-moved {taken} b (next c g t) = next (counts-there b c) (λ j q d. g (from j) q (counts-back b d)) (taking-moved ((counts-untaken c).0, b) t)
 
+  -- the order of corresponding hidden types is the corresponding order
   pub order-moved : {order : List ℕ} → NewOrder ctx js s order → NewOrder ctx ks moved (map to order)
   order-moved t = taking-moved tt t
 
@@ -154,6 +155,7 @@ module _ (ctx ks js : List Kind) (to from : ℕ → ℕ) (p : Paired ks js to fr
       go rest (yes e) = ap (λ n. place (to i ∷ map to order) (to n)) e ∙ (place-same (to i) (map to order) ∙ sym (ap (place (i ∷ order)) e ∙ place-same i order))
       go rest (no g) = place-other (to i) (to v) (map to order) (λ e. g (sym (p.from_to v h) ∙ (ap from e ∙ p.from_to i (f zero (omega arith))))) ∙ (ap suc rest ∙ sym (place-other i v order g))
 
+  -- renumbering by the corresponding order, after the shuffle, is renumbering by the order
   pub renumber-moved : {order : List ℕ} → NewOrder ctx js s order → (x : ℕ) → renumber ks (map to order) (shuffle ks js to x) ≡ renumber js order x
   renumber-moved {order} t x = go (split_index js x)
     where
@@ -178,8 +180,10 @@ module _ (ctx ks js : List Kind) (to from : ℕ → ℕ) (p : Paired ks js to fr
       let f : order ≡ map to old = one-order refl (subst (λ z. NewOrder ctx ks z order) e o) (order-moved t) in
       (f, ap (reordered ks) f ∙ reordered-moved old (λ k lt. (nth-untaken k t lt).0))
 
+  -- so it is in signatures
   pub renumbered_sig-same : {order old : List ℕ} → NewOrder ctx js s old → order ≡ map to old → (t : Sig) → rename_sig (renumber ks order) (rename_sig (shuffle ks js to) t) ≡ rename_sig (renumber js old) t
   renumbered_sig-same {order} {old} o e t = rename-rename_sig (renumber ks order) (shuffle ks js to) t ∙ ap (λ f. rename_sig f t) (fun_ext (λ i. ap (λ w. renumber ks w (shuffle ks js to i)) e ∙ renumber-moved o i))
 
+  -- so it is in signatures that hide types
   pub renumbered_abs-same : {order old : List ℕ} → NewOrder ctx js s old → order ≡ map to old → (t : Abs) → rename_abs (renumber ks order) (rename_abs (shuffle ks js to) t) ≡ rename_abs (renumber js old) t
   renumbered_abs-same {order} {old} o e t = rename-rename_abs (renumber ks order) (shuffle ks js to) t ∙ ap (λ f. rename_abs f t) (fun_ext (λ i. ap (λ w. renumber ks w (shuffle ks js to i)) e ∙ renumber-moved o i))

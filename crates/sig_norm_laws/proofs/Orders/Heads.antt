@@ -23,6 +23,7 @@ use Rattle.sig_laws.specs.Decide.{in_var}
 
 -- what a type mentions, a renamed one mentions renamed
 mutual
+  -- a renamed type mentions the renamed variables
   pub rename-mentions : (r : ℕ → ℕ) {i : ℕ} {t : Ty} → Mentions i t → Mentions (r i) (rename r t)
   rename-mentions r m_var = m_var
   rename-mentions r (m_from m) = m_from (rename-mentions r m)

@@ -169,6 +169,7 @@ least-more l s rest Q r (LeastPath.none h) (LeastPath.none g) = LeastPath.none (
     go o (in_rest m z bs t k e f x) w = g o bs t k x w
 
 mutual
+  -- of the paths to types with a known property there is a least one, or none
   pub least_path : (s : Sig) (Q : SigPath → Type 0) {ctx : List Kind} → WellFormed ctx s → Known s Q → LeastPath s Q
   least_path (Sig.Val t) Q w d = LeastPath.none (λ o bs t k x q. part-opens x)
   least_path (Sig.Meta y) Q w d = LeastPath.none (λ o bs t k x q. part-opens x)
@@ -319,6 +320,7 @@ pub data NormOf (ctx : List Kind) (s : Sig) : Type 0 where
 pub data NormOfRow (ctx : List Kind) (fs : SigRow) : Type 0 where
   norm_of : (gs : SigRow) → NormRow ctx fs gs → NormOfRow ctx fs
 
+-- the norm of a signature that hides types exists
 pub data NormOfAbs (ctx : List Kind) (x : Abs) : Type 0 where
   norm_of : (y : Abs) → Norm ctx x y → NormOfAbs ctx x
 
@@ -354,5 +356,6 @@ mutual
   norm_row_exists WellFormedRow.end r = NormOfRow.norm_of SigRow.End NormRow.end
   norm_row_exists (WellFormedRow.more w ws) (in_more r rs) = norm-more (norm_exists w r) (norm_row_exists ws rs)
 
+  -- each ordered explicit signature has a norm
   pub norm_abs_exists : {ctx : List Kind} {x : Abs} → Explicit ctx x → NormOfAbs ctx x
   norm_abs_exists {ctx} (explicit {ks = ks} {s = s} w r e) = norm-abs ctx ks s w e (norm_exists w r)

@@ -38,6 +38,7 @@ root_dec ctx ks s i p bs t k c x = go (dec_lt i (length ks)) (rooted_dec (own ks
     go (yes b) (no r) d = no (λ q. r (rooted-of q))
     go (yes b) (yes r) (no a) = no (λ q. a (avoids-of q))
 
+-- a hidden type has a least root path, or no root path
 pub data Roots (ctx ks : List Kind) (s : Sig) (i : ℕ) : Type 0 where
   found : (p : SigPath) → LeastRoot ctx ks s i p → Roots ctx ks s i
   none : ((p : SigPath) → RootPath ctx ks s i p → ⊥) → Roots ctx ks s i
