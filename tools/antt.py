@@ -33,7 +33,7 @@ def indent(line):
 
 class Item:
     """A name that a file defines: its sort ("data", "record", "abbrev" or "unfoldable", or "" for a lemma), the number of its
-    first line, its lines, and the line of the `mutual` block in which it stands."""
+    first line, its lines, the line of the `mutual` block in which it stands, and the crate of its file."""
 
     def __init__(self, name, sort, number, margin):
         self.name = name
@@ -41,6 +41,7 @@ class Item:
         self.number = number
         self.margin = margin
         self.block = None
+        self.crate = None
         self.lines = []
 
     def __repr__(self):
@@ -118,6 +119,7 @@ class File:
             if begun:
                 item = self.items.setdefault(begun.name, begun)
                 item.block = block
+                item.crate = self.path.relative_to(CRATES).parts[0]
             if item:
                 item.lines.append(line)
 
