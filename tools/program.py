@@ -6,6 +6,7 @@ import resource
 import shutil
 import subprocess
 import tempfile
+import unicodedata
 
 TOP = pathlib.Path(__file__).resolve().parent.parent
 STACK = 8192  # KiB
@@ -92,6 +93,13 @@ class Timer:
 
 
 # What it is tried on
+
+
+def slug(heading):
+    """The name of a heading in links, as code hosts make it."""
+    text = re.sub(r"\[([^\]]*)\]\([^)]*\)", r"\1", heading).replace("`", "").lower()
+    kept = (c for c in text if c in "-_ " or unicodedata.category(c)[0] in "LN")
+    return "".join(kept).strip().replace(" ", "-")
 
 
 def pages():
