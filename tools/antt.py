@@ -33,7 +33,7 @@ def indent(line):
 
 class Item:
     """A name that a file defines: its sort ("data", "record", "abbrev" or "unfoldable", or "" for a lemma), the number of its
-    first line, its lines, the line of the `mutual` block in which it stands, and the crate of its file."""
+    first line, its lines, the line of the `mutual` block in which it stands, and the path of its file."""
 
     def __init__(self, name, sort, number, margin):
         self.name = name
@@ -41,11 +41,15 @@ class Item:
         self.number = number
         self.margin = margin
         self.block = None
-        self.crate = None
+        self.path = None
         self.lines = []
 
     def __repr__(self):
         return f"{self.name}@{self.number}"
+
+    @property
+    def crate(self):
+        return self.path.relative_to(CRATES).parts[0]
 
     @property
     def text(self):
@@ -119,7 +123,7 @@ class File:
             if begun:
                 item = self.items.setdefault(begun.name, begun)
                 item.block = block
-                item.crate = self.path.relative_to(CRATES).parts[0]
+                item.path = self.path
             if item:
                 item.lines.append(line)
 
