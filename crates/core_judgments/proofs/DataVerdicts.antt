@@ -69,7 +69,7 @@ module _ {ctx : List Kind} where
   roll-refused (RollRefuses.no_data m) = absurd m
   roll-refused (RollRefuses.value_type {u = u} n m) = (u, n, m, refl)
 
--- so has that of rolled values
+-- the rule of rolled values has exactly one conclusion or one refusal
 pub one_roll : OneRoll
 one_roll ctx v e t k h =
     equal (λ k (o : Ty × Term). RollGives ctx v e t k o.0 o.1) (RollRefuses ctx v t) (KindDiffer k Kind.Star) (Kind-discrete k Kind.Star) (λ i. go (mu-or-not t) (subst (HasKind ctx t) i h))
@@ -96,7 +96,7 @@ unroll-mu (UnrollGives.unroll n) m = m
 unroll-refused : {t : Ty} {why : DataWhy} → UnrollRefuses t why → IsNoMu t × (why ≡ NotData t)
 unroll-refused (UnrollRefuses.no_data n) = (n, refl)
 
--- so has that of unrolled values
+-- the rule of unrolled values has exactly one conclusion or one refusal
 pub one_unroll : OneUnroll
 one_unroll ctx t e h = go (mu-or-not t)
   where

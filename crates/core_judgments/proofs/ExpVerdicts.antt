@@ -125,7 +125,7 @@ instance-not_all : {f t : Ty} {k : Kind} {why : CoreWhy} → IsNoAll f → Insta
 instance-not_all n (InstanceRefuses.not_polymorphic m) = refl
 instance-not_all n (InstanceRefuses.arg_kind m) = absurd n
 
--- so has that of instances
+-- the rule of instances has exactly one conclusion or one refusal
 pub one_instance : OneInstance
 one_instance ctx f e t j h g = go (all-or-not f)
   where
@@ -157,7 +157,7 @@ get-no_record : {t : Ty} {l : Name} {why : CoreWhy} → IsNoRecord t → GetRefu
 get-no_record n (GetRefuses.no_record m) = refl
 get-no_record n (GetRefuses.no_field m) = absurd n
 
--- so has that of selections
+-- the rule of selections has exactly one conclusion or one refusal
 pub one_get : OneGet
 one_get t e l = go (record-or-not t)
   where
@@ -192,7 +192,7 @@ if-branches : {t u : Ty} {why : CoreWhy} → IfRefuses Ty.Bool t u why → why �
 if-branches (IfRefuses.test_type n) = absurd (n refl)
 if-branches (IfRefuses.branches n) = refl
 
--- so has that of conditionals
+-- the rule of conditionals has exactly one conclusion or one refusal
 pub one_if : OneIf
 one_if s d t e u f =
     equal (λ s (o : Ty × Term). IfGives s d t e u f o.0 o.1) (λ s. IfRefuses s t u) (Differ s Ty.Bool) (dec_ty s Ty.Bool)
@@ -219,7 +219,7 @@ operation-right : {u : Ty} {why : CoreWhy} → OperationRefuses Ty.Int u why →
 operation-right (OperationRefuses.left_type n) = absurd (n refl)
 operation-right (OperationRefuses.right_type n) = refl
 
--- so has that of operations
+-- the rule of operations has exactly one conclusion or one refusal
 pub one_operation : OneOperation
 one_operation op t d u e =
     equal (λ t (o : Ty × Term). OperationGives op t d u e o.0 o.1) (λ t. OperationRefuses t u) (Differ t Ty.Int) (dec_ty t Ty.Int)
@@ -254,7 +254,7 @@ fix-body (FixRefuses.param_kind m) = absurd (m refl)
 fix-body (FixRefuses.result_kind m) = absurd (m refl)
 fix-body (FixRefuses.body_type m) = refl
 
--- so has that of recursive functions
+-- the rule of recursive functions has exactly one conclusion or one refusal
 pub one_fix : OneFix
 one_fix t k u j v e =
     equal (λ k (o : Ty × Term). FixGives t k u j v e o.0 o.1) (λ k. FixRefuses t k u j v) (KindDiffer k Kind.Star) (Kind-discrete k Kind.Star)
@@ -282,7 +282,7 @@ record-later : {before : List Name} {l : Name} {t : Ty} {e : Term} {rest : List 
 record-later h (RecordRefuses.name_again m) = absurd (m h)
 record-later h (RecordRefuses.later_field m r) = r
 
--- so has that of records
+-- the rule of records has exactly one conclusion or one refusal
 pub one_record : OneRecord
 one_record before [] = holds (Row.End, TermRow.End) RecordGives.no_fields record-end (λ r q. record-end-never q)
 one_record before (field l t e ∷ rest) = go (new_dec l before) (one_record (l ∷ before) rest)

@@ -63,7 +63,7 @@ label-no_sum : {t : Ty} {l : Name} {why : CoreWhy} → IsNoSum t → LabelRefuse
 label-no_sum n (LabelRefuses.no_sum m) = refl
 label-no_sum n (LabelRefuses.no_label m) = absurd n
 
--- so has that of labels
+-- the rule of labels has exactly one conclusion or one refusal
 pub one_label : OneLabel
 one_label t l = go (sum-or-not t)
   where
@@ -104,7 +104,7 @@ injection-refused (InjectionRefuses.no_sum m) = absurd m
 injection-refused (InjectionRefuses.no_label m) = inl (m, refl)
 injection-refused (InjectionRefuses.value_type {t = t} h m) = inr (t, h, m, refl)
 
--- so has that of injections
+-- the rule of injections has exactly one conclusion or one refusal
 pub one_injection : OneInjection
 one_injection l v e t k =
     equal (λ k (o : Ty × Term). InjectionGives l v e t k o.0 o.1) (InjectionRefuses l v t) (KindDiffer k Kind.Star) (Kind-discrete k Kind.Star) (λ i. go (sum-or-not t))

@@ -70,7 +70,7 @@ all-same (AllRefuses.body_kind n) = refl
 all-kinds : {k j l : Kind} {t v : Ty} → AllGives k t j v l → j ≡ Kind.Star
 all-kinds AllGives.all = refl
 
--- so has that of universally quantified types
+-- the rule of universally quantified types has exactly one conclusion or one refusal
 pub one_all : OneAll
 one_all k t j = equal (λ j (o : Ty × Kind). AllGives k t j o.0 o.1) (AllRefuses k t) (KindDiffer j Kind.Star) (Kind-discrete j Kind.Star) (λ e. holds (Ty.All k t, Kind.Star) AllGives.all all-only (λ r q. all-never q)) AllRefuses.body_kind (λ n q h. all-same h) (λ o g. all-kinds g)
 
@@ -135,7 +135,7 @@ record-later h (RecordTypeRefuses.name_again m) = absurd (m h)
 record-later h (RecordTypeRefuses.field_kind m d) = absurd (d refl)
 record-later h (RecordTypeRefuses.later_field m r) = r
 
--- so has that of record types
+-- the rule of record types has exactly one conclusion or one refusal
 pub one_record_type : OneRecordType
 one_record_type before [] = holds Row.End RecordTypeGives.no_fields record-end (λ r q. record-end-never q)
 one_record_type before (field l t k ∷ rest) = go (new_dec l before) (Kind-discrete k Kind.Star) (one_record_type (l ∷ before) rest)

@@ -89,7 +89,7 @@ terms-one l m k t u v r a b =
 terms-end : (l m : Label) (t u : Term) → LabelBefore l m → insert_term l t (insert_term m u TermRow.End) ≡ insert_term m u (insert_term l t TermRow.End)
 terms-end l m t u c = term-front l m t u TermRow.End c ∙ sym (term-back m l u t TermRow.End (before-not l m c))
 
--- so may fields of different labels into a row of terms
+-- fields of different labels may be put into a row of terms in either order
 pub swap-term : (l m : Label) (t u : Term) (r : TermRow) → l ≢ m → insert_term l t (insert_term m u r) ≡ insert_term m u (insert_term l t r)
 swap-term l m t u TermRow.End n = go (total_order l m)
   where

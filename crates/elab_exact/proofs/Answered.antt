@@ -212,7 +212,7 @@ mutual
       done g (a_type (TyAt at (TyMu x b)))
       (type-one (with_type g Kind.Star (name_of x)) (tt, (tt, h)) b, λ t p. (mapped _ (one_mu t.0 t.1), λ o r. tt))
 
-  -- so have type arguments of an operator that has a kind
+  -- type arguments of an operator that has a kind have exactly one outcome or exactly one refusal
   pub type_args-one : (g : Env) → OkEnv g → (at : Span) (t : Ty) (k : Kind) (rest : TyExs) → HasKind (kinds g) t k → Exactly g (type_args at t k rest)
   type_args-one g h at t k NoTys w = done g (type_args at t k NoTys) tt
   type_args-one g h at t k (MoreTys a rest) w =
@@ -227,12 +227,12 @@ mutual
         ),
       )
 
-  -- so have fields of a record type
+  -- fields of a record type have exactly one outcome or exactly one refusal
   pub type_fields-one : (g : Env) → OkEnv g → (before : List Name) (rest : FieldTyExs) → Exactly g (type_fields before rest)
   type_fields-one g h before NoFieldTys = done g (type_fields before NoFieldTys) tt
   type_fields-one g h before (MoreFieldTys x a rest) = done g (type_fields before (MoreFieldTys x a rest)) (dec-test _ (new_dec (name_of x) before), λ u n. (type-one g h a, λ t p. (star-one t.1, λ v e. (type_fields-one g h (name_of x ∷ before) rest, λ row q. tt))))
 
-  -- so has an expression
+  -- an expression has exactly one outcome or exactly one refusal
   pub exp-one : (g : Env) → OkEnv g → (a : Exp) → Exactly g (an_exp a)
   exp-one g h (ExpAt at (PathExp m)) = done g (an_exp (ExpAt at (PathExp m))) (mod-one g h m, λ M p. (mapped _ (one_value_path (kinds g) M (kinded (kinds g) M (mod_ok g m M h p))), λ o r. tt))
   exp-one g h (ExpAt at (ExpInt z)) = done g (an_exp (ExpAt at (ExpInt z))) (never-refused (one_literal (Literal.Int z)), λ o r. tt)
@@ -320,14 +320,14 @@ mutual
       done g (an_exp (ExpAt at (ExpUnroll a)))
       (exp-one g h a, λ t p. (mapped _ (one_unroll (kinds g) t.0 t.1 (normal-kind (exp_ok g a t.0 t.1 h p))), λ o r. tt))
 
-  -- so have operators with their operands
+  -- operators with their operands have exactly one outcome or exactly one refusal
   pub operands-one : (g : Env) → OkEnv g → (at : Span) (t : Ty) (e : Term) (rest : OpExps) → Exactly g (operands at t e rest)
   operands-one g h at t e NoOps = done g (operands at t e NoOps) tt
   operands-one g h at t e (MoreOps o b rest) =
       done g (operands at t e (MoreOps o b rest))
       (dec-test _ (dec_ty t Ty.Int), λ u i. (exp-one g h b, λ v p. (mapped _ (one_operation (omega_op o) t e v.0 v.1), λ w j. (operands-one g h (up_to at (exp_span b)) w.0 w.1 rest, λ z q. tt))))
 
-  -- so have arguments of a function whose type has kind *
+  -- arguments of a function whose type has kind * have exactly one outcome or exactly one refusal
   pub args-one : (g : Env) → OkEnv g → (at : Span) (t : Ty) (e : Term) (rest : Args) → HasKind (kinds g) t Kind.Star → Exactly g (args at t e rest)
   args-one g h at t e NoArgs k = done g (args at t e NoArgs) tt
   args-one g h at t e (MoreArgs (ArgExp b) rest) k =
@@ -347,12 +347,12 @@ mutual
         ),
       )
 
-  -- so have fields of a record
+  -- fields of a record have exactly one outcome or exactly one refusal
   pub fields-one : (g : Env) → OkEnv g → (before : List Name) (rest : FieldExps) → Exactly g (fields before rest)
   fields-one g h before NoFieldExps = done g (fields before NoFieldExps) tt
   fields-one g h before (MoreFieldExps x a rest) = done g (fields before (MoreFieldExps x a rest)) (dec-test _ (new_dec (name_of x) before), λ u n. (exp-one g h a, λ t p. (fields-one g h (name_of x ∷ before) rest, λ o q. tt)))
 
-  -- so have branches of a case on a normal type
+  -- branches of a case on a normal type have exactly one outcome or exactly one refusal
   pub branches-one : (g : Env) → OkEnv g
       → (w t : Ty) (before : List Name) (rest : Branches)
       → Normal (kinds g) w Kind.Star
@@ -370,14 +370,14 @@ mutual
         ),
       )
 
-  -- so has a signature phrase
+  -- a signature phrase has exactly one outcome or exactly one refusal
   pub sig-one : (g : Env) → OkEnv g → (a : SigEx) → Exactly g (a_sig a)
   sig-one g h (SigAt at (PathSig m)) = done g (a_sig (SigAt at (PathSig m))) (mod-one g h m, λ M p. (mapped _ (one_sig_path (kinds g) M (kinded (kinds g) M (mod_ok g m M h p))), λ x r. tt))
   sig-one g h (SigAt at (SigDecls ds)) = done g (a_sig (SigAt at (SigDecls ds))) (decls-one g h [] ds, λ x p. tt)
   sig-one g h (SigAt at (SigFun pure x a b)) = done g (a_sig (SigAt at (SigFun pure x a b))) (sig-one g h a, λ y p. functor_sig-ready g h pure x b y (sig_ok g a y h p) (λ k w. sig-one k w b))
   sig-one g h (SigAt at (SigRefine a z path b)) = done g (a_sig (SigAt at (SigRefine a z path b))) (sig-one g h a, λ x p. (type-one g h b, λ u q. refined-ready g z path b x u (sig_ok g a x h p) (type_ok g b u.0 u.1 h q)))
 
-  -- so has a declaration
+  -- a declaration has exactly one outcome or exactly one refusal
   pub decl-one : (g : Env) → OkEnv g → (d : Decl) → Exactly g (a_decl d)
   decl-one g h (DeclAt at (DeclVal x a)) = done g (a_decl (DeclAt at (DeclVal x a))) (type-one g h a, λ t p. (mapped _ (one_value (name_of x) t.0 t.1), λ y r. tt))
   decl-one g h (DeclAt at (DeclTyIs x a)) = done g (a_decl (DeclAt at (DeclTyIs x a))) (type-one g h a, λ t p. (one-the (one_type (name_of x) t.0 t.1), λ y r. tt))
@@ -386,12 +386,12 @@ mutual
   decl-one g h (DeclAt at (DeclSignature x a)) = done g (a_decl (DeclAt at (DeclSignature x a))) (sig-one g h a, λ y p. (one-the (one_signature (name_of x) y), λ z r. tt))
   decl-one g h (DeclAt at (DeclInclude a)) = done g (a_decl (DeclAt at (DeclInclude a))) (sig-one g h a, λ y p. (mapped _ (one_include y), λ z r. tt))
 
-  -- so have declarations after names
+  -- declarations after names have exactly one outcome or exactly one refusal
   pub decls-one : (g : Env) → OkEnv g → (before : List Name) (ds : Decls) → Exactly g (decls before ds)
   decls-one g h before NoDecls = done g (decls before NoDecls) tt
   decls-one g h before (MoreDecls d ds) = done g (decls before (MoreDecls d ds)) (decl-one g h d, λ x p. decls_from-ready g h before d ds x (decl_ok g d x h p) p (λ k w names. decls-one k w names ds))
 
-  -- so has a module phrase
+  -- a module phrase has exactly one outcome or exactly one refusal
   pub mod-one : (g : Env) → OkEnv g → (m : Mod) → Exactly g (a_mod m)
   mod-one g h (ModAt at (ModName x)) = done g (a_mod (ModAt at (ModName x))) (mapped _ (one_named g (name_of x)), λ M r. tt)
   mod-one g h (ModAt at (ModStruct bs)) = done g (a_mod (ModAt at (ModStruct bs))) (binds-one g h [] (tt, tt) bs, λ M p. tt)
@@ -417,7 +417,7 @@ mutual
       done g (a_mod (ModAt at (ModUnpack b a)))
       (exp-one g h b, λ t p. (sig-one g h a, λ x q. (one-the (norm-one (kinds g) x (sig_ok g a x h q)), λ y n. (mapped _ (one_unpack t.0 t.1 y), λ M r. tt))))
 
-  -- so have bindings after names that are found and rise
+  -- bindings after names that are found and rise have exactly one outcome or exactly one refusal
   pub binds-one : (g : Env) → OkEnv g → (before : List Name) → Names g before → (bs : Binds) → Exactly g (binds before bs)
   binds-one g h before bd NoBinds = done g (binds before NoBinds) (one-the (collected-one g before bd.0), λ o c. tt)
   binds-one g h before bd (MoreBinds (BindAt at (BindInclude m)) bs) =
@@ -427,7 +427,7 @@ mutual
       done g (binds before (MoreBinds (BindAt at b) bs))
       (bind-one g h (BindAt at b), λ o p. after_bind-ready g h before bd bs o.0 o.1 (bind_ok g (BindAt at b) o.0 o.1 h p) (λ k w names c. binds-one k w names c bs))
 
-  -- so has a binding
+  -- a binding has exactly one outcome or exactly one refusal
   pub bind-one : (g : Env) → OkEnv g → (b : Bind) → Exactly g (a_bind b)
   bind-one g h (BindAt at (BindVal x a)) = done g (a_bind (BindAt at (BindVal x a))) (exp-one g h a, λ t p. (one-the (one_value_module t.0 t.1), λ M r. tt))
   bind-one g h (BindAt at (BindTy x a)) = done g (a_bind (BindAt at (BindTy x a))) (type-one g h a, λ t p. (one-the (one_type_module t.0 t.1), λ M r. tt))

@@ -72,7 +72,7 @@ exp_ok g a t e h m = let v = typed-env g h in typed-normal (env-normal g v) (exp
 pub sig_ok : (g : Env) (a : SigEx) (x : Abs) → OkEnv g → SigMeans g a x → OkRight (kinds g) x
 sig_ok g a x h m = (sig_explicit g (formed-env g h) m, (sig-good (typed-env g h) m).normal)
 
--- so does a declaration
+-- in a good environment a declaration means a signature that may stand on the right
 pub decl_ok : (g : Env) (d : Decl) (x : Abs) → OkEnv g → DeclMeans g d x → OkRight (kinds g) x
 decl_ok g d x h m = (decl_explicit g (formed-env g h) m, (decl-good (typed-env g h) m).normal)
 
@@ -85,11 +85,11 @@ module-ok (TypedModule.impure g h) (FormedModule.impure w) = ((abs w, g.normal),
 pub mod_ok : (g : Env) (m : Mod) (M : Module) → OkEnv g → ModMeans g m M → OkModule (kinds g) M
 mod_ok g m M h p = module-ok (mod-good (typed-env g h) p) (module_good g (formed-env g h) p)
 
--- so does a binding
+-- in a good environment a binding means a good module
 pub bind_ok : (g : Env) (b : Bind) (x : Name) (M : Module) → OkEnv g → BindMeans g b x M → OkModule (kinds g) M
 bind_ok g b x M h p = module-ok (bind-good (typed-env g h) p) (bind_good g (formed-env g h) p)
 
--- so do bindings after names that rise
+-- in a good environment bindings after names that rise mean a good module
 pub binds_ok : (g : Env) (before : List Name) (bs : Binds) (M : Module) → OkEnv g → NamesRise before → BindsMean g before bs M → OkModule (kinds g) M
 binds_ok g before bs M h r p = module-ok (binds-good (typed-env g h) r p) (binds_good g (formed-env g h) r p)
 

@@ -164,6 +164,6 @@ rest-module g b bs x f (Abs.Ex ks s) ts d before M h n p q =
 pub mod-kinded : (g : Env) (m : Mod) (M : Module) → OkEnv g → ModMeans g m M → KindedModule (kinds g) M
 mod-kinded g m M h p = kinded (kinds g) M (mod_ok g m M h p)
 
--- so has what a binding means
+-- what a binding means has distinct names and normal types of the right kinds
 pub bind-kinded : (g : Env) (b : Bind) (x : Name) (M : Module) → OkEnv g → BindMeans g b x M → KindedModule (kinds g) M
 bind-kinded g b x M h p = kinded (kinds g) M (bind_ok g b x M h p)

@@ -70,11 +70,11 @@ pub left-type_vars : (g : Env) (ks : List Kind) → drop (length ks) (type_vars 
 left-type_vars g [] = refl
 left-type_vars g (k ∷ ks) = tail-drop (length ks) (type_vars (TypeVar k ∷ g) ks) g (TypeVar k) (left-type_vars (TypeVar k ∷ g) ks)
 
--- so is the environment before a module was pushed with the types that its signature hides
+-- the environment before a module and the types that it hides were pushed is left when as many are taken away
 pub left-module : (g : Env) (ks : List Kind) (x : Name) (s : Sig) → drop (length ks + 1) (with_module g ks x s) ≡ g
 left-module g ks x s = rw add-one (left-type_vars g ks)
 
--- so is the environment before the fields of a structure were pushed
+-- the environment before the fields of a structure were pushed is left when as many are taken away
 pub left-fields : (g : Env) (fs : List (Name × Sig)) → drop (length fs) (named_fields g (sig_row fs)) ≡ g
 left-fields g [] = refl
 left-fields g (f ∷ fs) = tail-drop (length fs) (named_fields (Named f.0 f.1 ∷ g) (sig_row fs)) g (Named f.0 f.1) (left-fields (Named f.0 f.1 ∷ g) fs)

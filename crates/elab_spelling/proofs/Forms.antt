@@ -18,7 +18,7 @@ module _ (v : Version) where
   pub form-legible : {ctx : List Kind} {t n : Ty} {k : Kind} → NormalForm ctx t k n → TyLegible v t → TyLegible v n
   form-legible {ctx} {t} f h = subst (TyLegible v) (sym (form-is f)) (normal-legible v ctx t h)
 
-  -- so are the normal forms of legible types
+  -- the normal forms of a list of legible types are legible
   pub forms-legible : {ctx ks : List Kind} {ts ns : List Ty} → NormalForms ctx ts ks ns → TypesLegible v ts → TypesLegible v ns
   forms-legible NormalForms.none h = tt
   forms-legible (NormalForms.next f fs) h = (form-legible f h.0, forms-legible fs h.1)

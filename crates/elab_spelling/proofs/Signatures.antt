@@ -36,11 +36,11 @@ module _ (v : Version) where
     rename_sig-legible r (Sig.Str fs) h = rename_fields-legible r None fs h
     rename_sig-legible r (Sig.Fun f ks s x) h = (rename_sig-legible (lifts ks r) s h.0, rename_abs-legible (lifts ks r) x h.1)
 
-    -- so for one that hides types
+    -- renaming keeps a signature that hides types legible
     pub rename_abs-legible : (r : ℕ → ℕ) (x : Abs) → AbsLegible v x → AbsLegible v (rename_abs r x)
     rename_abs-legible r (Abs.Ex ks s) h = rename_sig-legible (lifts ks r) s h
 
-    -- so for the fields of a structure
+    -- renaming keeps the fields of a structure legible
     pub rename_fields-legible : (r : ℕ → ℕ) (last : Option Label) (fs : SigRow) → FieldsLegible v last fs → FieldsLegible v last (rename_sig_row r fs)
     rename_fields-legible r last SigRow.End h = tt
     rename_fields-legible r last (SigRow.More l s rest) h = (h.0, h.1, rename_sig-legible r s h.2, rename_fields-legible r (Some (Label.Name l)) rest h.3)
@@ -101,7 +101,7 @@ module _ (v : Version) where
     normal_sig-legible ctx (Sig.Str fs) h = normal_fields-legible ctx None fs h
     normal_sig-legible ctx (Sig.Fun f ks s x) h = (normal_sig-legible (extend ctx ks) s h.0, normal_abs-legible (extend ctx ks) x h.1)
 
-    -- so is that of one that hides types
+    -- the normal form of a legible signature that hides types, as the function gives it, is legible
     pub normal_abs-legible : (ctx : List Kind) (x : Abs) → AbsLegible v x → AbsLegible v (normal_abs ctx x)
     normal_abs-legible ctx (Abs.Ex ks s) h = normal_sig-legible (extend ctx ks) s h
 
@@ -130,7 +130,7 @@ module _ (v : Version) where
   pub form_sig-legible : {ctx : List Kind} {s n : Sig} → NormalSigForm ctx s n → SigLegible v s → SigLegible v n
   form_sig-legible f h = conv_sig-legible (form-conv_sig f) (form_sig-normal f) h
 
-  -- so is that of one that hides types
+  -- the normal form of a legible signature that hides types is legible
   pub form_abs-legible : {ctx : List Kind} {x n : Abs} → NormalAbsForm ctx x n → AbsLegible v x → AbsLegible v n
   form_abs-legible f h = conv_abs-legible (form-conv_abs f) (form_abs-normal f) h
 
@@ -165,7 +165,7 @@ module _ (v : Version) where
     enc-legible (Sig.Fun f ks s x) h = all_over-legible v ks (Ty.Arrow (enc s) (one_part (result_label f) (enc_abs x)))
         (enc-legible s h.0, (refl, result_label-spelled v f, enc_abs-legible x h.1, tt))
 
-    -- so is that of one that hides types
+    -- the encoding of a legible signature that hides types is legible
     pub enc_abs-legible : (x : Abs) → AbsLegible v x → TyLegible v (enc_abs x)
     enc_abs-legible (Abs.Ex ks s) h = ex_over-legible v ks (enc s) (enc-legible s h)
 

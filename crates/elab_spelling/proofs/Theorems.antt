@@ -23,7 +23,7 @@ use Rattle.elab_spelling.proofs.Elaborated.{ty-legible, exp-legible, sig-legible
 pub types_are_spelled : TypesAreSpelled
 types_are_spelled v n t = (λ h. spelled-ty v n t h, λ h. ty-spelled v n t h.0 h.1)
 
--- so has a term
+-- a term has a spelling exactly if it is legible and its variables are in scope
 pub terms_are_spelled : TermsAreSpelled
 terms_are_spelled v n m e = (λ h. spelled-term v n m e h, λ h. term-spelled v n m e h.0 h.1)
 
@@ -31,7 +31,7 @@ terms_are_spelled v n m e = (λ h. spelled-term v n m e h, λ h. term-spelled v 
 pub closed_types_in_scope : ClosedTypesInScope
 closed_types_in_scope t k h g = closed-type h g
 
--- so has a closed typed term
+-- a closed typed term that is not too high has its variables in scope
 pub closed_terms_in_scope : ClosedTermsInScope
 closed_terms_in_scope e t h g = closed-term h g
 

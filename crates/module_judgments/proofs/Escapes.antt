@@ -65,7 +65,7 @@ module _ (ctx ks : List Kind) (t : Ty) (k : Kind) (h : HasKind (extend ctx ks) t
   only : (m : Ty) → Outside ctx ks t k m → m ≡ shown
   only m o = sym (normal-self m o) ∙ ap (normal ctx) (sym (back ks m) ∙ ap (substitute (puts (some_types ks) Ty.Var)) (raised m o))
 
-  -- at most one type outside of the hidden types is convertible to a type under them
+  -- a type under hidden types has exactly one normal form outside of them, or none
   pub type-outside : Perhaps (λ n. Outside ctx ks t k n)
   type-outside = go (dec_ty (raise ks shown) within)
     where
@@ -101,7 +101,7 @@ module _ (ctx ks : List Kind) (x : Abs) (h : ConvAbs (extend ctx ks) x x) where
   sig_only : (m : Abs) → SigOutside ctx ks x m → m ≡ sig_shown
   sig_only m o = sym (sig_normal-self m o) ∙ ap (normal_abs ctx) (sym (at-raise_abs ks (some_types ks) m (some-length ks)) ∙ ap (abs_at (some_types ks)) (sig_raised m o))
 
-  -- at most one signature outside of the hidden types is convertible to one under them
+  -- a signature under hidden types has exactly one normal form outside of them, or none
   pub sig-outside : Perhaps (λ n. SigOutside ctx ks x n)
   sig-outside = go (abs_dec (raise_abs ks sig_shown) sig_within)
     where

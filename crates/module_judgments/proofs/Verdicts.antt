@@ -121,12 +121,12 @@ projected-outcome ctx ks f s ts e l part =
     (λ fs i n. subst (λ s. ProjectRefuses (made f (Abs.Ex ks s) ts e) l (NoPart l)) (sym i) (ProjectRefuses.no_part n))
     project-reason
 
--- so has that of projections
+-- the rule of projections has exactly one conclusion or one refusal
 pub one_projected : OneProjected
 one_projected ctx (made f (Abs.Ex ks s) ts e) l ok =
     projected-outcome ctx ks f s ts e l (λ fs t i h. projected-kinded ctx ks f fs ts e l t (subst (λ s. KindedAbs ctx (Abs.Ex ks s)) i ok.0) h)
 
--- so has that of projections from pure modules
+-- the rule of projections from pure modules has exactly one conclusion or one refusal
 pub one_pure_projected : OnePureProjected
 one_pure_projected ctx (Abs.Ex ks s) ts e l = projected-outcome ctx ks Pure s ts e l (λ fs t i h. projected-pure ctx ks fs ts e l t h)
 
@@ -155,7 +155,7 @@ type-reason : {ctx ks : List Kind} {f : Effect} {s : Sig} {ts : List Ty} {e : Te
 type-reason _ (TypePathRefuses.no_type n) = inl ((λ p e. n p.0 p.1 e), refl)
 type-reason _ (TypePathRefuses.escapes {t = t} {k = k} n) = inr ((t, k), refl, n, refl)
 
--- so has that of paths to types
+-- the rule of paths to types has exactly one conclusion or one refusal
 pub one_type_path : OneTypePath
 one_type_path ctx (made f (Abs.Ex ks s) ts e) ok =
     path-verdict (λ p n. (n, p.1)) (sig-type s)
@@ -175,7 +175,7 @@ value-reason : {ctx ks : List Kind} {f : Effect} {s : Sig} {ts : List Ty} {e : T
 value-reason _ (ValuePathRefuses.no_value n) = inl (n, refl)
 value-reason _ (ValuePathRefuses.escapes {t = t} n) = inr (t, refl, n, refl)
 
--- so has that of paths to values
+-- the rule of paths to values has exactly one conclusion or one refusal
 pub one_value_path : OneValuePath
 one_value_path ctx (made f (Abs.Ex ks s) ts e) ok =
     path-verdict (λ t n. (n, value_of f ks e (enc_abs (Abs.Ex ks (Sig.Val t))))) (sig-value s)
@@ -195,7 +195,7 @@ sig-reason : {ctx ks : List Kind} {f : Effect} {s : Sig} {ts : List Ty} {e : Ter
 sig-reason _ (SigPathRefuses.no_signature n) = inl (n, refl)
 sig-reason _ (SigPathRefuses.escapes {x = x} n) = inr (x, refl, n, refl)
 
--- so has that of paths to signatures
+-- the rule of paths to signatures has exactly one conclusion or one refusal
 pub one_sig_path : OneSigPath
 one_sig_path ctx (made f (Abs.Ex ks s) ts e) ok =
     path-verdict (λ x n. n) (sig-meta s)
@@ -335,13 +335,13 @@ one_value_module t e = (made Pure (Abs.Ex [] (Sig.Val t)) [] (value_term e), Val
 type_module-only : {t : Ty} {k : Kind} (m : Module) → TypeGives t k m → m ≡ made Pure (Abs.Ex [] (Sig.Typ t k)) [] (type_term t k)
 type_module-only _ TypeGives.type = refl
 
--- so has that of type bindings
+-- the rule of type bindings has exactly one conclusion
 pub one_type_module : OneTypeModule
 one_type_module t k = (made Pure (Abs.Ex [] (Sig.Typ t k)) [] (type_term t k), TypeGives.type, type_module-only)
 
 signature_module-only : {x : Abs} (m : Module) → SignatureGives x m → m ≡ made Pure (Abs.Ex [] (Sig.Meta x)) [] (sig_term (enc_abs x))
 signature_module-only _ SignatureGives.signature = refl
 
--- so has that of signature bindings
+-- the rule of signature bindings has exactly one conclusion
 pub one_signature_module : OneSignatureModule
 one_signature_module x = (made Pure (Abs.Ex [] (Sig.Meta x)) [] (sig_term (enc_abs x)), SignatureGives.signature, signature_module-only)

@@ -161,7 +161,7 @@ number-node _ c l = elim c [ ]
 pub no-left : (n : TermNode) (o : Op) (a b : Term) → term_of n ≡ a → IsTyped (Term.Arith o a b) → IsValue a → ((z : ℤ) → n ≡ node.Int z → ⊥) → ⊥
 no-left n o a b p h v = number-node n (subst (Canon Form.the_int) (sym p) (left-form o a b h v))
 
--- so is the right operand
+-- the right operand of a typed operation, if a value, is a number
 pub no-right : (n : TermNode) (o : Op) (a b : Term) → term_of n ≡ b → IsTyped (Term.Arith o a b) → IsValue b → ((z : ℤ) → n ≡ node.Int z → ⊥) → ⊥
 no-right n o a b p h v = number-node n (subst (Canon Form.the_int) (sym p) (right-form o a b h v))
 

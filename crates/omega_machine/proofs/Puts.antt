@@ -24,7 +24,7 @@ put-first t (suc n) = refl
 pub put-arg : (a e : Term) → put_term e 0 a ≡ put_arg a e
 put-arg a e = ap (λ w. sub_term Ty.Var w e) (fun_ext (at-first a))
 
--- so is putting a type into a type function's body
+-- putting a type into a type function's body is the substitution for index 0
 pub put-ty : (t : Ty) (e : Term) → put_type e 0 t ≡ put_ty t e
 put-ty t e = ap (λ s. sub_term s Term.Var e) (fun_ext (put-first t))
 

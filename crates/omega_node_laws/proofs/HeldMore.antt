@@ -49,7 +49,7 @@ module _ (ts us : List Ty) (b : Begins ts us) where
     held-more ctx vars (Term.Roll e t) h = (has-more _ h.0, held-more ctx vars e h.1)
     held-more ctx vars (Term.Unroll e) h = (has-more _ h.0, held-more ctx vars e h.1)
 
-    -- so for the fields of a record
+    -- what a list holds of the nodes of a record's fields, a longer one holds too
     pub fields-more : (ctx : List Kind) (vars : List Ty) (row : TermRow) → HeldFields ts ctx vars row → HeldFields us ctx vars row
     fields-more ctx vars TermRow.End h = tt
     fields-more ctx vars (TermRow.More l e rest) h = (held-more ctx vars e h.0, fields-more ctx vars rest h.1)

@@ -41,7 +41,7 @@ pub onto_row : (xs : Pairs) → onto Row.More xs Row.End ≡ row xs
 onto_row [] = refl
 onto_row (y ∷ xs) = ap (Row.More y.0 y.1) (onto_row xs)
 
--- so are terms put in front of the empty row of terms
+-- terms put in front of the empty row of terms are the row of terms
 pub onto_term_row : (xs : TermPairs) → onto TermRow.More xs TermRow.End ≡ term_row xs
 onto_term_row [] = refl
 onto_term_row (y ∷ xs) = ap (TermRow.More y.0 y.1) (onto_term_row xs)

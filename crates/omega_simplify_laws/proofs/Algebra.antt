@@ -123,7 +123,7 @@ pub first_like : {e d : Term} → ((n : ℕ) → Like n e d) → LikeTerms (firs
 first_like f zero n = f n
 first_like f (suc i) n = Like.var
 
--- so are two such pairs, put in for the first two variables
+-- two pairs of like terms, put in for the first two variables, are like terms for all
 pub two_like : {e d f g : Term} → ((n : ℕ) → Like n e d) → ((n : ℕ) → Like n f g) →
     LikeTerms (first_term e (first_term f Term.Var)) (first_term d (first_term g Term.Var))
 two_like f g zero n = f n
@@ -159,7 +159,7 @@ mutual
   sub_are_like s w v f AreLike.end = AreLike.end
   sub_are_like s w v f (AreLike.more p x l) = AreLike.more (sub_like s w v f p) (sub_are_like s w v f x) l
 
-  -- so they keep a function one that gives its argument back
+  -- substitutions of like terms keep a function one that gives its argument back
   pub sub_gives_back : {n : ℕ} {e : Term} (s : ℕ → Ty) (w v : ℕ → Term) → LikeTerms w v → GivesBack n e → GivesBack n (sub_term s w e)
   sub_gives_back s w v f (GivesBack.whole p) = GivesBack.whole (sub_like s (up_term w) (up_term v) (like_up f) p)
   sub_gives_back s w v f (GivesBack.parts {k = k} {r = row} {b = b} p) =

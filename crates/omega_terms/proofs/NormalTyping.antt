@@ -86,7 +86,7 @@ pub lift-vars : {from to : List Ty} {t : Ty} {q r : ℕ → ℕ} → RenVars fro
 lift-vars f zero t At.here = At.here
 lift-vars f (suc n) t (At.there h) = At.there (f n t h)
 
--- so it does below one more type variable
+-- a renaming of variables that keeps types keeps them below one more type variable
 pub under-vars : (from to : List Ty) {q r : ℕ → ℕ} → RenVars from to q r → RenVars (shift_all from) (shift_all to) (lift q) r
 under-vars from to {q} {r} f n t h =
     let s = shift-at from h in
@@ -175,12 +175,12 @@ pub normal-all : {ctx : List Kind} {k : Kind} {b : Ty} → Normal ctx (Ty.All k 
 normal-all (n_all b) = b
 normal-all (n_neutral n) = elim n [ ]
 
--- so is that of an existentially quantified one
+-- the body of a normal existentially quantified type is normal
 pub normal-ex : {ctx : List Kind} {k : Kind} {b : Ty} → Normal ctx (Ty.Ex k b) Kind.Star → Normal (k ∷ ctx) b Kind.Star
 normal-ex (n_ex b) = b
 normal-ex (n_neutral n) = elim n [ ]
 
--- so is that of a recursive one
+-- the body of a normal recursive type is normal
 pub normal-mu : {ctx : List Kind} {b : Ty} → Normal ctx (Ty.Mu b) Kind.Star → Normal (Kind.Star ∷ ctx) b Kind.Star
 normal-mu (n_mu b) = b
 normal-mu (n_neutral n) = elim n [ ]

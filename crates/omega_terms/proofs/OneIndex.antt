@@ -94,11 +94,11 @@ slot-above (suc i) (suc (suc j)) h = ap raised (slot-above i (suc j) (omega arit
 pub put-var_same : (i j : ℕ) (a : Term) → j ≡ i → fill_term a (slot i j) ≡ a
 put-var_same i j a e = ap (λ n. fill_term a (slot i n)) e ∙ ap (fill_term a) (slot-same i)
 
--- it leaves each smaller index
+-- a term put in for a variable leaves each smaller index
 pub put-var_below : (i j : ℕ) (a : Term) → j < i → fill_term a (slot i j) ≡ Term.Var j
 put-var_below i j a h = ap (fill_term a) (slot-below i j h)
 
--- it lowers each greater index by one
+-- a term put in for a variable lowers each greater index by one
 pub put-var_above : (i j : ℕ) (a : Term) → i < j → fill_term a (slot i j) ≡ Term.Var (j - 1)
 put-var_above i j a h = ap (fill_term a) (slot-above i j h)
 

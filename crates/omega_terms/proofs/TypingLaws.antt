@@ -190,7 +190,7 @@ mutual
   type-kind g (HasType.unroll {body = body} h) = let k = type-kind g h in kind-substitute (single (Ty.Mu body)) (single-substitutes k) (mu-kinds k)
   type-kind g (HasType.conv h c) = (conv-kinds c).1
 
-  -- so have the types of fields, at distinct labels
+  -- the types of fields have kind *, at distinct labels
   pub types-kind : {ctx : List Kind} {vars : List Ty} {f : TermRow} {r : Row} → GoodVars ctx vars → FieldsHave ctx vars f r → HasKinds ctx r
   types-kind g FieldsHave.end = k_end
   types-kind g (FieldsHave.more h d i) = k_more d (type-kind g h) (types-kind g i)

@@ -78,7 +78,7 @@ ex-kinds (k_ex b) = b
 pub fields-kinds : {ctx : List Kind} {row : Row} {k : Kind} → HasKind ctx (Ty.Fields row) k → HasKinds ctx row
 fields-kinds (k_fields row) = row
 
--- so have those of a sum type
+-- the parts of a sum type have kind *, at distinct labels
 pub sum-kinds : {ctx : List Kind} {row : Row} {k : Kind} → HasKind ctx (Ty.Sum row) k → HasKinds ctx row
 sum-kinds (k_sum row) = row
 
@@ -108,7 +108,7 @@ all_parts ctx k l b c e =
     let m : normal (k ∷ ctx) b ≡ normal (l ∷ ctx) c = ap body_of n in
     (i, normal-same p (subst (λ j. HasKind (j ∷ ctx) c Kind.Star) (sym i) q) (subst (λ j. normal (k ∷ ctx) b ≡ normal (j ∷ ctx) c) (sym i) m))
 
--- so have existentially quantified ones
+-- convertible existentially quantified types have one kind and convertible bodies
 pub ex_parts : ExParts
 unfolding body_of kind_of
 ex_parts ctx k l b c e =
@@ -163,7 +163,7 @@ fields_parts ctx row other e =
     let h = conv-kinds e in
     rows-same (fields-kinds h.0) (fields-kinds h.1) (ap fields_of (same-normal e))
 
--- so have convertible sum types
+-- convertible sum types have the same labels at convertible parts
 pub sum_parts : SumParts
 unfolding fields_of
 sum_parts ctx row other e =

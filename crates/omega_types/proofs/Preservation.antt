@@ -183,7 +183,7 @@ mutual
   normals-kinds n_end = k_end
   normals-kinds (n_more f t ts) = k_more f (normal-kind t) (normals-kinds ts)
 
-  -- so has a neutral one
+  -- a neutral type has its kind
   pub neutral-kind : {ctx : List Kind} {t : Ty} {k : Kind} → Neutral ctx t k → HasKind ctx t k
   neutral-kind (n_var x) = k_var x
   neutral-kind (n_apply n a) = k_apply (neutral-kind n) (normal-kind a)

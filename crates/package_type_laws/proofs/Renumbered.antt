@@ -65,7 +65,7 @@ sub-renamed {ctx} {other} {s} {t} r h a =
     subst (IsSub other (rename_sig r s)) (substitute-vars_sig r t)
     (subst (λ z. IsSub other z (substitute_sig (λ i. Ty.Var (r i)) t)) (substitute-vars_sig r s) (sub-substitute (λ i. Ty.Var (r i)) (maps-substitutes h) a))
 
--- so it does where they hide types
+-- renaming keeps subtyping of signatures of any types that hide types
 pub sub_abs-renamed : {ctx other : List Kind} {x y : Abs} (r : ℕ → ℕ) → Maps ctx other r → IsSubAbs ctx x y → IsSubAbs other (rename_abs r x) (rename_abs r y)
 sub_abs-renamed {ctx} {other} {x} {y} r h a =
     subst (IsSubAbs other (rename_abs r x)) (substitute-vars_abs r y)
@@ -77,7 +77,7 @@ sub_abs-renamed {ctx} {other} {x} {y} r h a =
 pub sig-undone : (r q : ℕ → ℕ) → ((i : ℕ) → q (r i) ≡ i) → (s : Sig) → rename_sig q (rename_sig r s) ≡ s
 sig-undone r q e s = rename-rename_sig q r s ∙ (ap (λ f. rename_sig f s) (fun_ext e) ∙ rename_sig-id s)
 
--- so it does for one that hides types
+-- undoing a renaming of a signature that hides types gives the signature
 pub abs-undone : (r q : ℕ → ℕ) → ((i : ℕ) → q (r i) ≡ i) → (x : Abs) → rename_abs q (rename_abs r x) ≡ x
 abs-undone r q e x = rename-rename_abs q r x ∙ (ap (λ f. rename_abs f x) (fun_ext e) ∙ rename_abs-id x)
 

@@ -33,11 +33,11 @@ keywords_are_spelled tokens = keywords-spelled tokens
 pub phrases_are_spelled : PhrasesAreSpelled
 phrases_are_spelled v n tokens x h k p = phrase-spelled v h k p
 
--- so has a program of such tokens
+-- a program of such tokens has names, numbers and texts that have a spelling
 pub programs_are_spelled : ProgramsAreSpelled
 programs_are_spelled v bytes tokens program l k p = phrase-spelled v (tokens-spelled l) k p
 
--- so have units of such tokens
+-- units of such tokens have names, numbers and texts that have a spelling
 pub units_are_spelled : UnitsAreSpelled
 units_are_spelled v bytes tokens units l k p = phrase-spelled v (tokens-spelled l) k p
 

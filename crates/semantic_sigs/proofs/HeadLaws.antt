@@ -54,7 +54,7 @@ ty-moved ps depth t = ty-renamed depth (moved ps) t
 pub sig-raised : (by from : ℕ) (s : Sig) → sig_in (sunk from (raising by)) s ≡ rename_sig (bump by from) s
 sig-raised by from s = ap (λ h. sig_in h s) (sunk-raising by from) ∙ sig-renamed (bump by from) s
 
--- so it is in a signature that hides types
+-- the change that raises indexes, in a signature that hides types, is the renaming by the shift
 pub abs-raised : (by from : ℕ) (x : Abs) → abs_in (sunk from (raising by)) x ≡ rename_abs (bump by from) x
 abs-raised by from x = ap (λ h. abs_in h x) (sunk-raising by from) ∙ abs-renamed (bump by from) x
 
@@ -66,7 +66,7 @@ sig-lowered by s = sig-renamed (λ i. i - by) s
 pub sig-moved : (ps : List (Option ℕ)) (s : Sig) → sig_in (sunk 0 (moving ps)) s ≡ rename_sig (moved ps) s
 sig-moved ps s = sig-renamed (moved ps) s
 
--- so it is in a signature that hides types
+-- the change that gives variables new indexes, in a signature that hides types, is that renaming
 pub abs-moved : (ps : List (Option ℕ)) (x : Abs) → abs_in (sunk 0 (moving ps)) x ≡ rename_abs (moved ps) x
 abs-moved ps x = abs-renamed (moved ps) x
 
@@ -74,7 +74,7 @@ abs-moved ps x = abs-renamed (moved ps) x
 pub sig-raised-normal : (by from : ℕ) (given raised : Sig) → raised ≡ rename_sig (bump by from) given → (ctx other : List Kind) → Maps ctx other (bump by from) → NormalSig ctx given → NormalSig other raised
 sig-raised-normal by from given raised e ctx other h n = subst (NormalSig other) (sym e) (normal_sig-rename (bump by from) h given n)
 
--- so is one that hides types
+-- a raised normal signature that hides types is normal
 pub abs-raised-normal : (by from : ℕ) (given raised : Abs) → raised ≡ rename_abs (bump by from) given → (ctx other : List Kind) → Maps ctx other (bump by from) → NormalAbs ctx given → NormalAbs other raised
 abs-raised-normal by from given raised e ctx other h n = subst (NormalAbs other) (sym e) (normal_abs-rename (bump by from) h given n)
 

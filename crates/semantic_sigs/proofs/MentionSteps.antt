@@ -46,7 +46,7 @@ mutual
   sig_mention-below i (Sig.Fun e ks s x) (inl m) = omega (arith, sig_mention-below (past ks i) s m, past-length ks i)
   sig_mention-below i (Sig.Fun e ks s x) (inr m) = omega (arith, abs_mention-below (past ks i) x m, past-length ks i)
 
-  -- so is one that a signature which hides types mentions
+  -- an index that a signature that hides types mentions is below its bound
   pub abs_mention-below : (i : ℕ) (x : Abs) → MentionsAbs i x → i < bound_abs x
   abs_mention-below i (Abs.Ex ks s) m = omega (arith, sig_mention-below (past ks i) s m, past-length ks i)
 

@@ -85,7 +85,7 @@ merge-left SigRow.End gs a r l s h = elim h [ ]
 merge-left (SigRow.More m t fs) gs (next n a) r l s here = insert-here m t (merge fs gs) (merge-none m fs gs (before-no_field m fs r.0) n)
 merge-left (SigRow.More m t fs) gs (next n a) r l s (there d h) = insert-other m t (merge fs gs) d (merge-left fs gs a r.1 l s h)
 
--- so are the fields of the right structure
+-- the fields of the right structure are among those of both
 pub merge-right : (fs gs : SigRow) → Apart fs gs → FieldsIn gs (merge fs gs)
 merge-right SigRow.End gs a l s h = h
 merge-right (SigRow.More m t fs) gs (next n a) l s h = insert-other m t (merge fs gs) (field-not h n) (merge-right fs gs a l s h)

@@ -42,21 +42,21 @@ one_type l t k = (Abs.Ex [] (one_part l (Sig.Typ t k)), TypeGives.type, type-onl
 abstract-only : {l : Name} {k : Kind} (x : Abs) → AbstractGives l k x → x ≡ Abs.Ex (k ∷ []) (one_part l (Sig.Typ (eta k (Ty.Var 0)) k))
 abstract-only _ AbstractGives.abstract = refl
 
--- so has that of hidden types
+-- the rule of hidden types has exactly one conclusion
 pub one_abstract : OneAbstract
 one_abstract l k = (Abs.Ex (k ∷ []) (one_part l (Sig.Typ (eta k (Ty.Var 0)) k)), AbstractGives.abstract, abstract-only)
 
 module-only : {l : Name} {ks : List Kind} {s : Sig} (x : Abs) → ModuleGives l (Abs.Ex ks s) x → x ≡ Abs.Ex ks (one_part l s)
 module-only _ ModuleGives.module_ = refl
 
--- so has that of module declarations
+-- the rule of module declarations has exactly one conclusion
 pub one_module : OneModule
 one_module l (Abs.Ex ks s) = (Abs.Ex ks (one_part l s), ModuleGives.module_, module-only)
 
 signature-only : {l : Name} {y : Abs} (x : Abs) → SignatureGives l y x → x ≡ Abs.Ex [] (one_part l (Sig.Meta y))
 signature-only _ SignatureGives.signature = refl
 
--- so has that of signature declarations
+-- the rule of signature declarations has exactly one conclusion
 pub one_signature : OneSignature
 one_signature l y = (Abs.Ex [] (one_part l (Sig.Meta y)), SignatureGives.signature, signature-only)
 

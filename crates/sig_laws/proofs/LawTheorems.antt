@@ -81,7 +81,7 @@ enc_injective s t e = enc-injective s t e
 pub conv_exactly : ConvExactly
 conv_exactly ctx s t w v = (λ c. enc-conv w c, λ c. conv-enc w v c)
 
--- so for those that hide types
+-- well formed signatures that hide types are convertible exactly where their encodings are
 pub conv_abs_exactly : ConvAbsExactly
 conv_abs_exactly ctx x y w v = (λ c. enc_well_formed-conv w c, λ c. conv-enc_abs w v c)
 
@@ -93,7 +93,7 @@ found_operator ctx ks t u k n m c = operator_found ks n m c
 pub sub_is_typed : SubIsTyped
 sub_is_typed ctx s t f w n v m a = typed-sound (sub-typed (well_formed-good w n) (well_formed-good v m) a)
 
--- so where the sides hide types
+-- the coercion of subtyping between signatures that hide types leads from the left encoding to the right one
 pub sub_abs_is_typed : SubAbsIsTyped
 sub_abs_is_typed ctx x y f w n v m a = typed-sound (sub_abs-typed (well_formed_abs-good w n) (well_formed_abs-good v m) a)
 

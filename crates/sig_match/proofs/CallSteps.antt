@@ -532,7 +532,7 @@ abs-refused depth by under x y raised q eb eu er k = λ ctx c w v.
     let s = abs-under x y w v in
     abs-no ctx x y (plain_refusal q) (subst (λ z. EachMatch under (body_of x) z (Err q)) er k (extend ctx (kinds_of x)) (extend-length ctx (kinds_of x) depth by under c eb eu) s.0 s.1)
 
--- they are in order by that match, with the left types opened and the right ones packed
+-- signatures that hide types are in order by the match under the left types, which opens these and packs the right ones
 pub abs-ok : (depth by under : ℕ) (x y raised : Abs) (m : Matched) (o : Term) → by ≡ length (kinds_of x) → under ≡ by + depth → raised ≡ raise_abs (kinds_of x) y → EachMatch under (body_of x) raised (Ok m) → IsAbsCoercion x m.types m.coercion (enc_abs raised) o → EachSubAbs depth x y (Ok o)
 abs-ok depth by under x y raised m o eb eu er k i = λ ctx c w v.
     let s = abs-under x y w v in

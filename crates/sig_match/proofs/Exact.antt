@@ -28,7 +28,7 @@ no-sub_abs : (ctx : List Kind) (x y : Abs) (o : Option MatchRefusal) → OkAbs c
 no-sub_abs ctx x y None w v h = tt
 no-sub_abs ctx x y (Some q) w v h = (λ f d. abs-excluded h w v f d, λ p r. sym (abs-one h w v p r))
 
--- so is an answer of subtyping between signatures that hide types
+-- an answer of subtyping between signatures that hide types is the only one: one coercion, or one refusal
 pub only-sub_abs : (ctx : List Kind) (x y : Abs) (o : Result Term CodeRefusal) → OkAbs ctx x → OkRight ctx y → SubAbsGives ctx x y o → OnlySubAbs ctx x y o
 only-sub_abs ctx x y (Ok g) w v h = (λ f d. sym (abs-unique h w.0 v.0 f d), λ q r. abs-excluded r w v g h)
 only-sub_abs ctx x y (Err e) w v h = no-sub_abs ctx x y (plain_refusal e) w v h

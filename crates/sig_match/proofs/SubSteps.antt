@@ -287,7 +287,7 @@ encoded-fills (Abs.Ex ks r) v m = (ks, enc r, refl, enc_abs-normal v.0 v.1, type
 pub abs-under : {ctx : List Kind} (x y : Abs) → OkAbs ctx x → OkRight ctx y → OkSig (extend ctx (kinds_of x)) (body_of x) × OkRight (extend ctx (kinds_of x)) (raise_abs (kinds_of x) y)
 abs-under (Abs.Ex ks s) y w v = (good-body w, good-raised ks v)
 
--- they are in order by that match, with the left types opened and the right ones packed
+-- signatures that hide types are in order by the match under the left types, which opens these and packs the right ones
 pub abs-same : (ctx : List Kind) (x y : Abs) (ts : List Ty) (f c : Term) → OkRight ctx y → OkRight (extend ctx (kinds_of x)) (raise_abs (kinds_of x) y) → Match (extend ctx (kinds_of x)) (body_of x) (raise_abs (kinds_of x) y) ts f → IsAbsCoercion x ts f (enc_abs (raise_abs (kinds_of x) y)) c → SubAbs ctx x y c
 abs-same ctx (Abs.Ex [] s) y ts f c v u m k =
     let e : raise_abs [] y ≡ y = rename_abs-id y in
@@ -296,7 +296,7 @@ abs-same ctx (Abs.Ex [] s) y ts f c v u m k =
 abs-same ctx (Abs.Ex (j ∷ ks) s) y ts f c v u m k =
     SubAbs.hidden m (subst (λ t. AbsPart (extend ctx (j ∷ ks)) (enc_abs (Abs.Ex (j ∷ ks) s)) (j ∷ ks) ts f t c) (enc_abs-rename (past (j ∷ ks)) y) (k (extend ctx (j ∷ ks)) (encoded-fills (raise_abs (j ∷ ks) y) u m)))
 
--- they are refused as that match
+-- signatures that hide types are refused as the match under the left types
 pub abs-no : (ctx : List Kind) (x y : Abs) (o : Option MatchRefusal) → Holds (RefusesMatch (extend ctx (kinds_of x)) (body_of x) (raise_abs (kinds_of x) y)) o → Holds (RefusesSubAbs ctx x y) o
 abs-no ctx (Abs.Ex [] s) y o h = holds-map (RefusesMatch ctx s (raise_abs [] y)) (RefusesSubAbs ctx (Abs.Ex [] s) y) o (λ q r. RefusesSubAbs.plain (subst (λ z. RefusesMatch ctx s z q) (rename_abs-id y) r)) h
 abs-no ctx (Abs.Ex (k ∷ ks) s) y o h = holds-map (RefusesMatch (extend ctx (k ∷ ks)) s (raise_abs (k ∷ ks) y)) (RefusesSubAbs ctx (Abs.Ex (k ∷ ks) s) y) o (λ q r. RefusesSubAbs.hidden r) h

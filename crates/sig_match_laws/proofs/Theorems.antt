@@ -31,7 +31,7 @@ one_match ctx s x ts us f g w v m n = match-unique m w v us g n
 pub one_sub : OneSub
 one_sub ctx s r f g w v q d c = sub-unique d w (v, q) g c
 
--- so has subtyping between signatures that hide types
+-- subtyping between signatures that hide types has at most one coercion
 pub one_sub_abs : OneSubAbs
 one_sub_abs ctx x y f g w v d c = abs-unique d w v g c
 
@@ -69,7 +69,7 @@ match_or_refusal ctx s x w v = match-or (match_sig-ok ctx s x w v)
 pub sub_or_refusal : SubOrRefusal
 sub_or_refusal ctx s r w v = sub-or (sub_sig-ok ctx s r w v)
 
--- so there is for signatures that hide types
+-- there is a coercion of subtyping between signatures that hide types or a refusal of it
 pub sub_abs_or_refusal : SubAbsOrRefusal
 sub_abs_or_refusal ctx x y w v = abs-or (sub_abs-ok ctx x y w v)
 
@@ -85,7 +85,7 @@ one_refusal ctx s x p q w v a b = match-one a w v q b
 pub sub_not_both : SubNotBoth
 sub_not_both ctx s r f q w v d a = sub-excluded a w v f d
 
--- so they do for signatures that hide types
+-- a coercion of subtyping between signatures that hide types and a refusal of it exclude each other
 pub sub_abs_not_both : SubAbsNotBoth
 sub_abs_not_both ctx x y f q w v d a = abs-excluded a w v f d
 
@@ -93,7 +93,7 @@ sub_abs_not_both ctx x y f q w v d a = abs-excluded a w v f d
 pub one_sub_refusal : OneSubRefusal
 one_sub_refusal ctx s r p q w v a b = sub-refusal a w v q b
 
--- so has subtyping between signatures that hide types
+-- subtyping between signatures that hide types has at most one refusal
 pub one_sub_abs_refusal : OneSubAbsRefusal
 one_sub_abs_refusal ctx x y p q w v a b = abs-one a w v q b
 
@@ -155,7 +155,7 @@ abs-back w v (abs_ok {f = f} d) (abs_no r) = absurd (abs-excluded r w v f d)
 abs-back w v (abs_no r) (abs_ok {f = f} d) = absurd (abs-excluded r w v f d)
 abs-back w v (abs_no r) (abs_no {q = q} z) = ap Outcome.refused (abs-one r w v q z)
 
--- so does that for signatures that hide types
+-- the function of subtyping between signatures that hide types gives exactly what is derived
 pub sub_abs_gives : SubAbsGives
 sub_abs_gives ctx x y w v = (
   (λ f. (λ e. subst (AbsMeans ctx x y) e (abs-means (sub_abs-ok ctx x y w v)), λ m. abs-back w v (sub_abs-ok ctx x y w v) (abs_ok m))),
@@ -171,11 +171,11 @@ whole n = (λ ctx s r lt w v. sub_sig-ok ctx s r w v, λ ctx x y lt w v. sub_abs
 pub match_sig_step : MatchSigStep
 match_sig_step ctx s x w v = let n = size s + size_abs x in match-back w v (match_sig-ok ctx s x w v) (match_step-ok (sub_sig, sub_abs, match_sig) n (whole n) ctx s x (omega arith) w v)
 
--- so is the function of subtyping
+-- the function of subtyping is one step of itself, of that for hidden types and of that of matching
 pub sub_sig_step : SubSigStep
 sub_sig_step ctx s r w v = let n = size s + size r in sub-back w v (sub_sig-ok ctx s r w v) (sub_step-ok (sub_sig, sub_abs, match_sig) n (whole n) ctx s r (omega arith) w v)
 
--- so is that for signatures that hide types
+-- the function of subtyping between signatures that hide types is one step of itself and of the other two
 pub sub_abs_step : SubAbsStep
 sub_abs_step ctx x y w v = let n = size_abs x + size_abs y in abs-back w v (sub_abs-ok ctx x y w v) (abs_step-ok (sub_sig, sub_abs, match_sig) n (whole n) ctx x y (omega arith) w v)
 

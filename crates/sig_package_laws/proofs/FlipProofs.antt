@@ -97,7 +97,7 @@ g_right = (g_explicit, (flipped-normal, (direct-normal, tt)))
 pub flips : OfKinds (binary ∷ []) (flipped ∷ []) (binary ∷ [])
 flips = OfKinds.next (flipped-kind []) OfKinds.none
 
--- it is its own normal form
+-- the operator with its arguments exchanged is its own normal form
 pub flip-form : NormalForms (binary ∷ []) (flipped ∷ []) (binary ∷ []) (flipped ∷ [])
 flip-form = NormalForms.next (normal-gives (flipped-kind [])) NormalForms.none
 

@@ -17,7 +17,7 @@ norm_of_renamed ctx other r x y h w n = norm_abs-mapped r h w n
 pub one_package_type : OnePackageType
 one_package_type ctx x y n m ex ey a b s hx hy = one_type ex ey a b s hx hy
 
--- so have such signatures of normal types, up to nothing
+-- signatures of normal types that match each other and are rooted alike have the very same package type
 pub one_normal_package_type : OneNormalPackageType
 one_normal_package_type ctx x y n m f g ox oy a b s hx hy = ap enc_abs (same_package ox.1 oy.1 ox.0 oy.0 a b s hx hy)
 
@@ -25,6 +25,6 @@ one_normal_package_type ctx x y n m f g ox oy a b s hx hy = ap enc_abs (same_pac
 pub two_package_types : TwoPackageTypes
 two_package_types = types_differ f_right g_right f_matches g_matches f_norm g_norm two_packages
 
--- so may two that are, where the parameter of a pure functor hides its types in another order
+-- two that are rooted at the same paths may too, where a pure functor's parameter hides its types in another order
 pub order_matters : OrderMatters
 order_matters = types_differ a_right b_right a_matches b_matches a_norm b_norm two_orders

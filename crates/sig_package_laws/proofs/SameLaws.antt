@@ -33,7 +33,7 @@ mutual
   same-flip (EachSig.impure a b) = EachSig.impure (same_abs-flip a) (same_abs-flip b)
   same-flip (EachSig.mixed h) = EachSig.mixed (λ e. h (sym e))
 
-  -- so are those that hide types
+  -- signatures that hide types and are rooted alike are so the other way round
   pub same_abs-flip : {ctx other : List Kind} {x y : Abs} → SameAbs ctx other x y → SameAbs other ctx y x
   same_abs-flip (EachAbs.ex (f, g) a) = EachAbs.ex (g, f) (same-flip a)
 
@@ -66,7 +66,7 @@ mutual
   same-renamed r q u (EachSig.impure {js = js} a b) = EachSig.impure (same_abs-renamed r q u a) (same_abs-renamed (lifts js r) (lifts js q) (undone-lifts js u) b)
   same-renamed r q u (EachSig.mixed h) = EachSig.mixed h
 
-  -- so for those that hide types
+  -- a renaming that can be undone keeps signatures that hide types rooted alike
   pub same_abs-renamed : {ctx other third : List Kind} {x y : Abs} (r q : ℕ → ℕ) → Undone other third r q → SameAbs ctx other x y → SameAbs ctx third x (rename_abs r y)
   same_abs-renamed {ctx} {other} {third} r q u (EachAbs.ex {ks = ks} {js = js} (f, g) a) = EachAbs.ex
       (λ p x. let w = f p x in (w.0, w.1, own-renamed other third js r q u w.0 p w.1 w.2), λ p x. g p (x.0, x.1, own-renamed_back other third js r q u x.0 p x.1 x.2))

@@ -41,7 +41,7 @@ pub good-fields : (g : Env) (fs : SigRow) → OkEnv g → OkRow (kinds g) fs →
 good-fields g SigRow.End h w = h
 good-fields g (SigRow.More l s rest) h w = let q = row-first w.0 in good-fields (Named l s ∷ g) rest ((q.0, w.1.0), h) (q.1, w.1.1)
 
--- so it is with the types that the structure's signature hides before them
+-- a good environment with hidden types and then the fields of a good structure under them is good
 pub good-type_fields : (g : Env) (ks : List Kind) (fs : SigRow) → OkEnv g → OkRow (extend (kinds g) ks) fs → OkEnv (named_fields (type_vars g ks) fs)
 good-type_fields g ks fs h w = good-fields (type_vars g ks) fs (good-type_vars g ks h) (subst (λ ctx. OkRow ctx fs) (sym (kinds-type_vars g ks)) w)
 

@@ -160,7 +160,7 @@ least-closed_sig s from le = go (least_sig from s) (least-sig from s)
     go None h = refl
     go (Some m) h = absurd (let lt = sig_mention-below (from + m) s h.0 in omega (arith, lt, le))
 
--- nor does one that hides types
+-- a signature that hides types mentions nothing at or above its bound
 pub least-closed_abs : (x : Abs) (from : ℕ) → bound_abs x ≤ from → None ≡ least_abs from x
 least-closed_abs x from le = go (least_abs from x) (least-abs from x)
   where

@@ -179,7 +179,7 @@ opened left right done i j x y li lj ex ey w = subst₂ (λ (xs ys : SigPairs). 
 pub left-follows : (left right done : SigPairs) (i j : ℕ) (x y : Name × Sig) → i < length left → j < length right → x ≡ get_or left i x → y ≡ get_or right j y → Walking left right done i j → MayFollow done x.0
 left-follows left right done i j x y li lj ex ey w = may-follow done x (drop (i + 1) left) (opened left right done i j x y li lj ex ey w).0
 
--- so may the right field at hand
+-- the right field at hand may follow those that are done
 pub right-follows : (left right done : SigPairs) (i j : ℕ) (x y : Name × Sig) → i < length left → j < length right → x ≡ get_or left i x → y ≡ get_or right j y → Walking left right done i j → MayFollow done y.0
 right-follows left right done i j x y li lj ex ey w = may-follow done y (drop (j + 1) right) (opened left right done i j x y li lj ex ey w).1
 

@@ -95,7 +95,7 @@ pub good-under : {ctx other : List Kind} {s : ℕ → Ty} {h : ℕ → Head} (l 
 good-under l g _ _ here = g_stands (n_var here) (c_refl (k_var here))
 good-under l g _ _ (there {k = k} {i = i} x) = good-raised l (g i k x)
 
--- so it does below a list of binders
+-- a change that gives normal types of the right kinds does so below a list of binders
 pub good-sinks : {ctx other : List Kind} {s : ℕ → Ty} {h : ℕ → Head} (ks : List Kind) → Good ctx other s h → Good (extend ctx ks) (extend other ks) (unders ks s) (sinks ks h)
 good-sinks [] g = g
 good-sinks (k ∷ ks) g = good-sinks ks (good-under k g)

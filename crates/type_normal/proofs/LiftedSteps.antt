@@ -47,7 +47,7 @@ lifts-nothing r depth t p = walked-closed (λ d i. Ty.Var (lifted d r i)) depth 
 pub walk-lowers : (by from : ℕ) (t : Ty) → walked_ty (λ d i. Ty.Var (lifted d (λ j. j - by) i)) from t ≡ lower_from by from t
 walk-lowers by from t = walk-lifts (λ i. i - by) from t
 
--- it leaves a type without indexes at or above its place
+-- the walk that lowers indexes leaves a type without indexes at or above its place
 pub lowers-nothing : (by from : ℕ) (t : Ty) → bound_of t ≤ from → walked_ty (λ d i. Ty.Var (lifted d (λ j. j - by) i)) from t ≡ t
 lowers-nothing by from t p = lifts-nothing (λ i. i - by) from t p
 
@@ -65,7 +65,7 @@ lower-var_above by depth i h = ap Ty.Var (lifted-above depth (λ j. j - by) i h)
 pub walk-moves : (ps : List (Option ℕ)) (depth : ℕ) (t : Ty) → walked_ty (λ d i. Ty.Var (lifted d (moved ps) i)) depth t ≡ renumbered ps depth t
 walk-moves ps depth t = walk-lifts (moved ps) depth t
 
--- it leaves a type without indexes at or above its place
+-- the walk that gives variables new indexes leaves a type without indexes at or above its place
 pub moves-nothing : (ps : List (Option ℕ)) (depth : ℕ) (t : Ty) → bound_of t ≤ depth → walked_ty (λ d i. Ty.Var (lifted d (moved ps) i)) depth t ≡ t
 moves-nothing ps depth t p = lifts-nothing (moved ps) depth t p
 

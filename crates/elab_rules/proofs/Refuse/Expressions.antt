@@ -30,7 +30,7 @@ pub exp_path-module : {g : Env} {at : Span} {m : Mod} {e : CodeRefusal}
     → RefusedAs g (an_exp (ExpAt at (PathExp m))) e
 exp_path-module h = within (inl (refl, refl)) h
 
--- it is refused where the module is no value
+-- an expression that is a path is refused where the module is no value
 pub exp_path-use : {g : Env} {at : Span} {m : Mod} {M : Module} {e : CodeRefusal}
     → ModMeans g m M
     → ByRule of_mod g at (ValuePathRefuses (kinds g) M) e
@@ -74,14 +74,14 @@ pub exp_fix-param : {g : Env} {at : Span} {c : Exp} {x f : SpanName} {ta tb : Ty
     → RefusedAs g (an_exp (ExpAt at (ExpFix f x ta tb c))) e
 exp_fix-param h = valued (inl (refl, refl)) (λ t k r p q. ((t, k), p, inl q)) h
 
--- it is refused where its result's type is no type of values
+-- a recursive function is refused where its result's type is no type of values
 pub exp_fix-result : {g : Env} {at : Span} {c : Exp} {x f : SpanName} {ta tb : TyEx} {t : Ty} {e : CodeRefusal}
     → TyMeans g ta t Kind.Star
     → NoValueType g tb e
     → RefusedAs g (an_exp (ExpAt at (ExpFix f x ta tb c))) e
 exp_fix-result {t = t} p h = valued (inr ((t, Kind.Star), p, (tt, refl, inl (refl, refl)))) (λ u k r q w. ((t, Kind.Star), p, inr (tt, refl, ((u, k), q, inl w)))) h
 
--- it is refused where its body is
+-- a recursive function is refused where its body is
 pub exp_fix-body : {g : Env} {at : Span} {c : Exp} {x f : SpanName} {ta tb : TyEx} {t u : Ty} {e : CodeRefusal}
     → TyMeans g ta t Kind.Star
     → TyMeans g tb u Kind.Star
@@ -89,7 +89,7 @@ pub exp_fix-body : {g : Env} {at : Span} {c : Exp} {x f : SpanName} {ta tb : TyE
     → RefusedAs g (an_exp (ExpAt at (ExpFix f x ta tb c))) e
 exp_fix-body {t = t} {u = u} p q h = within (inr ((t, Kind.Star), p, (tt, refl, inr ((u, Kind.Star), q, (tt, refl, inl (refl, refl)))))) h
 
--- it is refused by the rule of recursive functions, at the body
+-- a recursive function is refused by its rule, at the body
 pub exp_fix-rule : {g : Env} {at : Span} {c : Exp} {x f : SpanName} {ta tb : TyEx} {t u v : Ty} {d : Term} {e : CodeRefusal}
     → TyMeans g ta t Kind.Star
     → TyMeans g tb u Kind.Star
@@ -106,14 +106,14 @@ pub exp_if-test : {g : Env} {at : Span} {a b c : Exp} {e : CodeRefusal}
     → RefusedAs g (an_exp (ExpAt at (ExpIf a b c))) e
 exp_if-test h = within (inl (refl, refl)) h
 
--- it is refused where the test is of another type than Bool
+-- a conditional is refused where the test is of another type than Bool
 pub exp_if-test_type : {g : Env} {at : Span} {a b c : Exp} {t : Ty} {d : Term} {e : CodeRefusal}
     → ExpMeans g a t d
     → ByTest g (exp_span a) (t ≡ Ty.Bool → ⊥) (Differ t Ty.Bool) e
     → RefusedAs g (an_exp (ExpAt at (ExpIf a b c))) e
 exp_if-test_type {t = t} {d = d} p h = tested (λ r w. ((t, d), p, inl w)) h
 
--- it is refused where its first branch is
+-- a conditional is refused where its first branch is
 pub exp_if-yes : {g : Env} {at : Span} {a b c : Exp} {t : Ty} {d : Term} {e : CodeRefusal}
     → ExpMeans g a t d
     → t ≡ Ty.Bool
@@ -121,7 +121,7 @@ pub exp_if-yes : {g : Env} {at : Span} {a b c : Exp} {t : Ty} {d : Term} {e : Co
     → RefusedAs g (an_exp (ExpAt at (ExpIf a b c))) e
 exp_if-yes {t = t} {d = d} p q h = within (inr ((t, d), p, (tt, q, inl (refl, refl)))) h
 
--- it is refused where its second branch is
+-- a conditional is refused where its second branch is
 pub exp_if-no : {g : Env} {at : Span} {a b c : Exp} {t u : Ty} {d d1 : Term} {e : CodeRefusal}
     → ExpMeans g a t d
     → t ≡ Ty.Bool
@@ -130,7 +130,7 @@ pub exp_if-no : {g : Env} {at : Span} {a b c : Exp} {t u : Ty} {d d1 : Term} {e 
     → RefusedAs g (an_exp (ExpAt at (ExpIf a b c))) e
 exp_if-no {t = t} {u = u} {d = d} {d1 = d1} p q l h = within (inr ((t, d), p, (tt, q, inr ((u, d1), l, inl (refl, refl))))) h
 
--- it is refused by the rule of conditionals, at the first branch
+-- a conditional is refused by its rule, at the first branch
 pub exp_if-rule : {g : Env} {at : Span} {a b c : Exp} {t u v : Ty} {d d1 d2 : Term} {e : CodeRefusal}
     → ExpMeans g a t d
     → t ≡ Ty.Bool
@@ -148,7 +148,7 @@ pub exp_ops-first : {g : Env} {at : Span} {a : Exp} {ops : OpExps} {e : CodeRefu
     → RefusedAs g (an_exp (ExpAt at (ExpOps a ops))) e
 exp_ops-first h = within (inl (refl, refl)) h
 
--- it is refused where its operators and the operands after the first are
+-- an expression with operators is refused where its operators and the operands after the first are
 pub exp_ops-rest : {g : Env} {at : Span} {a : Exp} {ops : OpExps} {t : Ty} {d : Term} {e : CodeRefusal}
     → ExpMeans g a t d
     → RefusedAs g (operands (exp_span a) t d ops) e
@@ -193,7 +193,7 @@ pub exp_apply-function : {g : Env} {at : Span} {a : Exp} {rest : Args} {e : Code
     → RefusedAs g (an_exp (ExpAt at (ExpApply a rest))) e
 exp_apply-function h = within (inl (refl, refl)) h
 
--- it is refused where its arguments are
+-- an application is refused where its arguments are
 pub exp_apply-args : {g : Env} {at : Span} {a : Exp} {rest : Args} {t : Ty} {d : Term} {e : CodeRefusal}
     → ExpMeans g a t d
     → RefusedAs g (args (exp_span a) t d rest) e
@@ -304,14 +304,14 @@ pub exp_get-record : {g : Env} {at : Span} {a : Exp} {x : SpanName} {e : CodeRef
     → RefusedAs g (an_exp (ExpAt at (ExpGet a x))) e
 exp_get-record h = within (inl (refl, refl)) h
 
--- it is refused where this is of no record type
+-- the selection of a field is refused where this is of no record type
 pub exp_get-no_record : {g : Env} {at : Span} {a : Exp} {x : SpanName} {t : Ty} {d : Term} {e : CodeRefusal}
     → ExpMeans g a t d
     → ByTest g (exp_span a) ((r : Row) → t ≡ Ty.Fields r → ⊥) (NotRecord t) e
     → RefusedAs g (an_exp (ExpAt at (ExpGet a x))) e
 exp_get-no_record {t = t} {d = d} p h = tested (λ r w. ((t, d), p, inl w)) h
 
--- it is refused by the rule of selection, at the name
+-- the selection of a field is refused by its rule, at the name
 pub exp_get-rule : {g : Env} {at : Span} {a : Exp} {x : SpanName} {row : Row} {t : Ty} {d : Term} {e : CodeRefusal}
     → ExpMeans g a t d
     → t ≡ Ty.Fields row

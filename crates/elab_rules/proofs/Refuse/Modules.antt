@@ -73,14 +73,14 @@ pub mod_apply-functor : {g : Env} {at : Span} {x z : SpanName} {e : CodeRefusal}
     → RefusedAs g (a_mod (ModAt at (ModApply x z))) e
 mod_apply-functor h = fails (λ r w. inl w) h
 
--- it is refused where what is applied is no functor
+-- the application of a functor is refused where what is applied is no functor
 pub mod_apply-no_functor : {g : Env} {at : Span} {x z : SpanName} {s : Sig} {d : Term} {e : CodeRefusal}
     → find g (name_of x) ≡ Some (s, d)
     → ByRule of_mod g (name_span x) (FunctorRefuses s) e
     → RefusedAs g (a_mod (ModAt at (ModApply x z))) e
 mod_apply-no_functor {s = s} {d = d} p h = fails (λ r w. inr ((s, d), p, inl w)) h
 
--- it is refused where the argument's name is
+-- the application of a functor is refused where the argument's name is
 pub mod_apply-arg : {g : Env} {at : Span} {x z : SpanName} {s : Sig} {f : Effect} {param result : Abs} {d : Term} {e : CodeRefusal}
     → find g (name_of x) ≡ Some (s, d)
     → PartsGive s f param result
@@ -88,7 +88,7 @@ pub mod_apply-arg : {g : Env} {at : Span} {x z : SpanName} {s : Sig} {f : Effect
     → RefusedAs g (a_mod (ModAt at (ModApply x z))) e
 mod_apply-arg {s = s} {f = f} {param = param} {result = result} {d = d} p q h = fails (λ r w. inr ((s, d), p, inr ((f, param, result), q, inl w))) h
 
--- it is refused where the argument does not match the parameter
+-- the application of a functor is refused where the argument does not match the parameter
 pub mod_apply-match : {g : Env} {at : Span} {x z : SpanName} {s t : Sig} {f : Effect} {param result : Abs} {d d1 : Term} {e : CodeRefusal}
     → find g (name_of x) ≡ Some (s, d)
     → PartsGive s f param result
@@ -128,14 +128,14 @@ pub mod_unpack-value : {g : Env} {at : Span} {a : SigEx} {v : Exp} {e : CodeRefu
     → RefusedAs g (a_mod (ModAt at (ModUnpack v a))) e
 mod_unpack-value h = within (inl (refl, refl)) h
 
--- it is refused where its signature is
+-- an unpacked package is refused where its signature is
 pub mod_unpack-sig : {g : Env} {at : Span} {a : SigEx} {v : Exp} {d : Term} {u : Ty} {e : CodeRefusal}
     → ExpMeans g v u d
     → RefusedAs g (a_sig a) e
     → RefusedAs g (a_mod (ModAt at (ModUnpack v a))) e
 mod_unpack-sig {d = d} {u = u} p h = within (inr ((u, d), p, inl (refl, refl))) h
 
--- it is refused by the rule of unpacking, at the value
+-- an unpacked package is refused by its rule, at the value
 pub mod_unpack-rule : {g : Env} {at : Span} {a : SigEx} {v : Exp} {y n : Abs} {d : Term} {u : Ty} {e : CodeRefusal}
     → ExpMeans g v u d
     → SigMeans g a y
@@ -201,14 +201,14 @@ pub include-module : {g : Env} {at : Span} {m : Mod} {bs : Binds} {before : List
     → RefusedAs g (binds before (MoreBinds (BindAt at (BindInclude m)) bs)) e
 include-module h = within (inl (refl, refl)) h
 
--- they are refused where the module is no structure
+-- bindings that begin with an include are refused where the module is no structure
 pub include-no_structure : {g : Env} {at : Span} {m : Mod} {bs : Binds} {before : List Name} {ks : List Kind} {s : Sig} {f : Effect} {d : Term} {ts : List Ty} {e : CodeRefusal}
     → ModMeans g m (made f (Abs.Ex ks s) ts d)
     → ByRule of_mod g (mod_span m) (IncludeRefuses (made f (Abs.Ex ks s) ts d)) e
     → RefusedAs g (binds before (MoreBinds (BindAt at (BindInclude m)) bs)) e
 include-no_structure {ks = ks} {s = s} {f = f} {d = d} {ts = ts} p h = fails (λ r w. (made f (Abs.Ex ks s) ts d, p, inl w)) h
 
--- they are refused where those after the include are
+-- bindings that begin with an include are refused where those after the include are
 pub include-later : {g : Env} {at : Span} {m : Mod} {bs : Binds} {before : List Name} {ks : List Kind} {f : Effect} {d : Term} {fs : SigRow} {ts : List Ty} {e : CodeRefusal}
     → ModMeans g m (made f (Abs.Ex ks (Sig.Str fs)) ts d)
     → RefusedAs (named_fields (with_module g ks include_name (Sig.Str fs)) fs) (binds (with_names fs before) bs) e

@@ -27,7 +27,7 @@ pub sig_path-module : {g : Env} {at : Span} {m : Mod} {e : CodeRefusal}
     → RefusedAs g (a_sig (SigAt at (PathSig m))) e
 sig_path-module h = within (inl (refl, refl)) h
 
--- it is refused where the module is no signature
+-- a signature that is a path is refused where the module is no signature
 pub sig_path-use : {g : Env} {at : Span} {m : Mod} {M : Module} {e : CodeRefusal}
     → ModMeans g m M
     → ByRule of_mod g at (SigPathRefuses (kinds g) M) e
@@ -87,14 +87,14 @@ pub sig_refine-sig : {g : Env} {at : Span} {z : SpanName} {path : List SpanName}
     → RefusedAs g (a_sig (SigAt at (SigRefine a z path ta))) e
 sig_refine-sig h = within (inl (refl, refl)) h
 
--- it is refused where the type is
+-- a signature with a fixed type is refused where the type is
 pub sig_refine-type : {g : Env} {at : Span} {z : SpanName} {path : List SpanName} {a : SigEx} {ta : TyEx} {y : Abs} {e : CodeRefusal}
     → SigMeans g a y
     → RefusedAs g (a_type ta) e
     → RefusedAs g (a_sig (SigAt at (SigRefine a z path ta))) e
 sig_refine-type {y = y} p h = within (inr (y, p, inl (refl, refl))) h
 
--- it is refused by the rule of fixed types
+-- a signature with a fixed type is refused by the rule of fixed types
 pub sig_refine-rule : {g : Env} {at : Span} {z : SpanName} {path : List SpanName} {a : SigEx} {ta : TyEx} {ks : List Kind} {s : Sig} {t : Ty} {k : Kind} {e : CodeRefusal}
     → SigMeans g a (Abs.Ex ks s)
     → TyMeans g ta t k
@@ -110,7 +110,7 @@ pub decl_val-type : {g : Env} {at : Span} {x : SpanName} {ta : TyEx} {e : CodeRe
     → RefusedAs g (a_decl (DeclAt at (DeclVal x ta))) e
 decl_val-type h = within (inl (refl, refl)) h
 
--- it is refused by the rule of values, at the type
+-- the declaration of a value is refused by the rule of values, at the type
 pub decl_val-rule : {g : Env} {at : Span} {x : SpanName} {ta : TyEx} {t : Ty} {k : Kind} {e : CodeRefusal}
     → TyMeans g ta t k
     → ByRule of_sig g (ty_span ta) (ValueRefuses t k) e
@@ -141,7 +141,7 @@ pub decl_include-sig : {g : Env} {at : Span} {a : SigEx} {e : CodeRefusal}
     → RefusedAs g (a_decl (DeclAt at (DeclInclude a))) e
 decl_include-sig h = within (inl (refl, refl)) h
 
--- it is refused by the rule of includes, at the signature
+-- an include of a signature is refused by the rule of includes, at the signature
 pub decl_include-rule : {g : Env} {at : Span} {a : SigEx} {y : Abs} {e : CodeRefusal}
     → SigMeans g a y
     → ByRule of_sig g (sig_span a) (IncludeRefuses y) e

@@ -29,7 +29,7 @@ pub ty_path-module : {g : Env} {at : Span} {m : Mod} {e : CodeRefusal}
     → RefusedAs g (a_type (TyAt at (PathTy m))) e
 ty_path-module h = within (inl (refl, refl)) h
 
--- it is refused where the module is no type
+-- a type that is a path is refused where the module is no type
 pub ty_path-use : {g : Env} {at : Span} {m : Mod} {M : Module} {e : CodeRefusal}
     → ModMeans g m M
     → ByRule of_mod g at (TypePathRefuses (kinds g) M) e
@@ -67,7 +67,7 @@ pub ty_apply-operator : {g : Env} {at : Span} {a : TyEx} {rest : TyExs} {e : Cod
     → RefusedAs g (a_type (TyAt at (TyApply a rest))) e
 ty_apply-operator h = within (inl (refl, refl)) h
 
--- it is refused where its arguments are
+-- an application of types is refused where its arguments are
 pub ty_apply-args : {g : Env} {at : Span} {a : TyEx} {rest : TyExs} {t : Ty} {k : Kind} {e : CodeRefusal}
     → TyMeans g a t k
     → RefusedAs g (type_args (ty_span a) t k rest) e
@@ -125,14 +125,14 @@ pub ty_field-again : {g : Env} {a : TyEx} {fields : FieldTyExs} {x : SpanName} {
     → RefusedAs g (type_fields before (MoreFieldTys x a fields)) e
 ty_field-again h = tested (λ r q. inl q) h
 
--- they are refused where the first one's type is no type of values
+-- fields of a record type are refused where the first one's type is no type of values
 pub ty_field-type : {g : Env} {a : TyEx} {fields : FieldTyExs} {x : SpanName} {before : List Name} {e : CodeRefusal}
     → IsNew (name_of x) before
     → NoValueType g a e
     → RefusedAs g (type_fields before (MoreFieldTys x a fields)) e
 ty_field-type o h = valued (tt, o, inl (refl, refl)) (λ t k r p q. inr (tt, o, ((t, k), p, inl q))) h
 
--- they are refused where those after the first are
+-- fields of a record type are refused where those after the first are
 pub ty_field-later : {g : Env} {a : TyEx} {fields : FieldTyExs} {x : SpanName} {before : List Name} {t : Ty} {e : CodeRefusal}
     → IsNew (name_of x) before
     → TyMeans g a t Kind.Star
@@ -148,7 +148,7 @@ pub ty_all-body : {g : Env} {at : Span} {b : TyEx} {x : SpanName} {k : Kind} {e 
     → RefusedAs g (a_type (TyAt at (TyAll x k b))) e
 ty_all-body h = within (inl (refl, refl)) h
 
--- it is refused by its rule, at the body
+-- a universally quantified type is refused by its rule, at the body
 pub ty_all-rule : {g : Env} {at : Span} {b : TyEx} {x : SpanName} {t : Ty} {k j : Kind} {e : CodeRefusal}
     → TyMeans (with_type g k (name_of x)) b t j
     → ByRule of_core g (ty_span b) (AllRefuses k t j) e

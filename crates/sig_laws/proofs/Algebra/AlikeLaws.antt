@@ -47,7 +47,7 @@ mutual
   pub alike-sym_abs : {R S : Between} {ctx : List Kind} {x y : Abs} → ((c : List Kind) (t : Ty) (k : Kind) (u : Ty) → R c t k u → S c u k t) → AlikeAbs R ctx x y → AlikeAbs S ctx y x
   alike-sym_abs h (ex s) = ex (alike-sym h s)
 
-  -- so are the fields of structures
+  -- fields of structures that are alike are so the other way round
   pub alike-sym_row : {R S : Between} {ctx : List Kind} {x y : SigRow} → ((c : List Kind) (t : Ty) (k : Kind) (u : Ty) → R c t k u → S c u k t) → AlikeRow R ctx x y → AlikeRow S ctx y x
   alike-sym_row h end = end
   alike-sym_row h (more s fs) = more (alike-sym h s) (alike-sym_row h fs)
@@ -89,7 +89,7 @@ conv_abs-trans c d = alike-trans_abs (λ c t k u v r q. c_trans r q) c d
 pub form-conv_sig : {ctx : List Kind} {x y : Sig} → NormalSigForm ctx x y → ConvSig ctx x y
 form-conv_sig c = alike-map (λ c t k u r. r.1) c
 
--- so is one that hides types
+-- a signature that hides types is convertible to its normal form
 pub form-conv_abs : {ctx : List Kind} {x y : Abs} → NormalAbsForm ctx x y → ConvAbs ctx x y
 form-conv_abs c = alike-map_abs (λ c t k u r. r.1) c
 
@@ -112,7 +112,7 @@ mutual
   form_sig-same (str fs) = ap Sig.Str (form_row-same fs)
   form_sig-same (fun {ks = ks} {e = e} s x) = ap₂ (Sig.Fun e ks) (form_sig-same s) (form_abs-same x)
 
-  -- so is that of a signature that hides types
+  -- the normal form of a signature that hides types is the one that the function gives
   pub form_abs-same : {ctx : List Kind} {x n : Abs} → NormalAbsForm ctx x n → n ≡ normal_abs ctx x
   form_abs-same (ex {ks = ks} s) = ap (Abs.Ex ks) (form_sig-same s)
 
@@ -137,7 +137,7 @@ mutual
   form_sig-normal (str fs) = form_row-normal fs
   form_sig-normal (fun s x) = (form_sig-normal s, form_abs-normal x)
 
-  -- so is that of a signature that hides types
+  -- the normal form of a signature that hides types is normal
   pub form_abs-normal : {ctx : List Kind} {x n : Abs} → NormalAbsForm ctx x n → NormalAbs ctx n
   form_abs-normal (ex s) = form_sig-normal s
 
@@ -155,7 +155,7 @@ mutual
   normal_sig-form ctx (Sig.Str fs) n = str (normal_row-form ctx fs n)
   normal_sig-form ctx (Sig.Fun e ks s x) n = fun (normal_sig-form (extend ctx ks) s n.0) (normal_abs-form (extend ctx ks) x n.1)
 
-  -- so is one that hides types
+  -- a normal signature that hides types is a normal form of itself
   pub normal_abs-form : (ctx : List Kind) (x : Abs) → NormalAbs ctx x → NormalAbsForm ctx x x
   normal_abs-form ctx (Abs.Ex ks s) n = ex (normal_sig-form (extend ctx ks) s n)
 
@@ -173,7 +173,7 @@ mutual
   conv_sig-gives (str fs) = str (conv_row-gives fs)
   conv_sig-gives (fun s x) = fun (conv_sig-gives s) (conv_abs-gives x)
 
-  -- so is what it gives of one that hides types
+  -- what the function gives of a well kinded signature that hides types is its normal form
   pub conv_abs-gives : {ctx : List Kind} {x y : Abs} → ConvAbs ctx x y → NormalAbsForm ctx x (normal_abs ctx x)
   conv_abs-gives (ex s) = ex (conv_sig-gives s)
 
@@ -185,7 +185,7 @@ mutual
 pub same-conv_sig : {ctx : List Kind} {x y : Sig} → ConvSig ctx x x → ConvSig ctx y y → normal_sig ctx x ≡ normal_sig ctx y → ConvSig ctx x y
 same-conv_sig {ctx} {x} {y} c d e = conv_sig-trans (form-conv_sig (conv_sig-gives c)) (subst (λ n. ConvSig ctx n y) (sym e) (conv_sig-sym (form-conv_sig (conv_sig-gives d))))
 
--- so are two that hide types
+-- two well kinded signatures that hide types with one normal form are convertible
 pub same-conv_abs : {ctx : List Kind} {x y : Abs} → ConvAbs ctx x x → ConvAbs ctx y y → normal_abs ctx x ≡ normal_abs ctx y → ConvAbs ctx x y
 same-conv_abs {ctx} {x} {y} c d e = conv_abs-trans (form-conv_abs (conv_abs-gives c)) (subst (λ n. ConvAbs ctx n y) (sym e) (conv_abs-sym (form-conv_abs (conv_abs-gives d))))
 
@@ -210,7 +210,7 @@ mutual
   conv_sig-substitute f g h (str fs) = str (conv_row-substitute f g h fs)
   conv_sig-substitute f g h (fun {ks = ks} s x) = fun (conv_sig-substitute (unders ks f) (unders ks g) (unders-convertible ks h) s) (conv_abs-substitute (unders ks f) (unders ks g) (unders-convertible ks h) x)
 
-  -- so they do where the signatures hide types
+  -- convertible substitutions in convertible signatures that hide types give convertible ones
   pub conv_abs-substitute : {ctx other : List Kind} {x y : Abs} (f g : ℕ → Ty) → Convertible ctx other f g → ConvAbs ctx x y → ConvAbs other (substitute_abs f x) (substitute_abs g y)
   conv_abs-substitute f g h (ex {ks = ks} s) = ex (conv_sig-substitute (unders ks f) (unders ks g) (unders-convertible ks h) s)
 
@@ -232,11 +232,11 @@ mutual
   normal_sig-rename r h (Sig.Str fs) n = normal_row-rename r h fs n
   normal_sig-rename r h (Sig.Fun e ks s x) n = (normal_sig-rename (lifts ks r) (lifts-maps ks h) s n.0, normal_abs-rename (lifts ks r) (lifts-maps ks h) x n.1)
 
-  -- so for one that hides types
+  -- renaming keeps a signature that hides types normal
   pub normal_abs-rename : {ctx other : List Kind} (r : ℕ → ℕ) → Maps ctx other r → (x : Abs) → NormalAbs ctx x → NormalAbs other (rename_abs r x)
   normal_abs-rename r h (Abs.Ex ks s) n = normal_sig-rename (lifts ks r) (lifts-maps ks h) s n
 
-  -- so for the fields of a structure
+  -- renaming keeps the fields of a structure normal
   pub normal_row-rename : {ctx other : List Kind} (r : ℕ → ℕ) → Maps ctx other r → (x : SigRow) → NormalSigRow ctx x → NormalSigRow other (rename_sig_row r x)
   normal_row-rename r h SigRow.End n = tt
   normal_row-rename r h (SigRow.More l s rest) n = (normal_sig-rename r h s n.0, normal_row-rename r h rest n.1)
@@ -255,11 +255,11 @@ mutual
   alike-substitute ctx f (Sig.Str fs) = str (alike_row-substitute ctx f fs)
   alike-substitute ctx f (Sig.Fun e ks s x) = fun (alike-substitute (extend ctx ks) (unders ks f) s) (alike_abs-substitute (extend ctx ks) (unders ks f) x)
 
-  -- so for one that hides types
+  -- substitution keeps the shape of a signature that hides types
   pub alike_abs-substitute : (ctx : List Kind) (f : ℕ → Ty) (x : Abs) → AlikeAbs Any ctx x (substitute_abs f x)
   alike_abs-substitute ctx f (Abs.Ex ks s) = ex (alike-substitute (extend ctx ks) (unders ks f) s)
 
-  -- so for the fields of a structure
+  -- substitution keeps the shape of the fields of a structure
   pub alike_row-substitute : (ctx : List Kind) (f : ℕ → Ty) (x : SigRow) → AlikeRow Any ctx x (substitute_sig_row f x)
   alike_row-substitute ctx f SigRow.End = end
   alike_row-substitute ctx f (SigRow.More l s rest) = more (alike-substitute ctx f s) (alike_row-substitute ctx f rest)
@@ -268,10 +268,10 @@ mutual
 pub alike-rename : (ctx : List Kind) (r : ℕ → ℕ) (x : Sig) → AlikeSig Any ctx x (rename_sig r x)
 alike-rename ctx r x = subst (AlikeSig Any ctx x) (substitute-vars_sig r x) (alike-substitute ctx (λ i. Ty.Var (r i)) x)
 
--- so does renaming one that hides types
+-- renaming a signature that hides types keeps its shape
 pub alike_abs-rename : (ctx : List Kind) (r : ℕ → ℕ) (x : Abs) → AlikeAbs Any ctx x (rename_abs r x)
 alike_abs-rename ctx r x = subst (AlikeAbs Any ctx x) (substitute-vars_abs r x) (alike_abs-substitute ctx (λ i. Ty.Var (r i)) x)
 
--- so does renaming the fields of a structure
+-- renaming the fields of a structure keeps their shape
 pub alike_row-rename : (ctx : List Kind) (r : ℕ → ℕ) (x : SigRow) → AlikeRow Any ctx x (rename_sig_row r x)
 alike_row-rename ctx r x = subst (AlikeRow Any ctx x) (substitute-vars_row r x) (alike_row-substitute ctx (λ i. Ty.Var (r i)) x)

@@ -54,7 +54,7 @@ past-substitutes ks ctx i k x = k_var (past-maps ks ctx i k x)
 pub at-substitutes : {ctx : List Kind} {ts : List Ty} {ks : List Kind} → OfKinds ctx ts ks → Substitutes (extend ctx ks) ctx (puts ts Ty.Var)
 at-substitutes {ctx} h = puts-substitutes h (vars-substitutes ctx)
 
--- so are types that stand under further binders
+-- types that stand under further binders, put in for the binders' variables, are a substitution to under these
 pub under-at-substitutes : {ts : List Ty} {ks : List Kind} (ctx js : List Kind) → OfKinds (extend ctx js) ts ks → Substitutes (extend ctx ks) (extend ctx js) (puts ts (λ i. Ty.Var (past js i)))
 under-at-substitutes ctx js h = puts-substitutes h (past-substitutes js ctx)
 
@@ -74,6 +74,6 @@ puts-raise_abs ks ts f x e = substitute-rename_abs (puts ts f) (past ks) x ∙ a
 pub at-raise_sig : (ks : List Kind) (ts : List Ty) (s : Sig) → length ts ≡ length ks → sig_at ts (raise_sig ks s) ≡ s
 at-raise_sig ks ts s e = puts-raise_sig ks ts Ty.Var s e ∙ substitute_sig-id s
 
--- so it is for one that hides types
+-- a signature that hides types raised past binders, at types for their variables, is the signature itself
 pub at-raise_abs : (ks : List Kind) (ts : List Ty) (x : Abs) → length ts ≡ length ks → abs_at ts (raise_abs ks x) ≡ x
 at-raise_abs ks ts x e = puts-raise_abs ks ts Ty.Var x e ∙ substitute_abs-id x

@@ -22,7 +22,7 @@ mutual
   rename-rename_sig r s (Sig.Str fs) = ap Sig.Str (rename-rename_row r s fs)
   rename-rename_sig r s (Sig.Fun e ks p x) = ap₂ (Sig.Fun e ks) (rename-rename_sig (lifts ks r) (lifts ks s) p ∙ ap (λ f. rename_sig f p) (lifts-lifts ks r s)) (rename-rename_abs (lifts ks r) (lifts ks s) x ∙ ap (λ f. rename_abs f x) (lifts-lifts ks r s))
 
-  -- so for one that hides types
+  -- renamings of a signature that hides types compose
   pub rename-rename_abs : (r : ℕ → ℕ) (s : ℕ → ℕ) (x : Abs) → rename_abs r (rename_abs s x) ≡ rename_abs (λ i. r (s i)) x
   rename-rename_abs r s (Abs.Ex ks p) = ap (Abs.Ex ks) (rename-rename_sig (lifts ks r) (lifts ks s) p ∙ ap (λ f. rename_sig f p) (lifts-lifts ks r s))
 
@@ -41,7 +41,7 @@ mutual
   substitute-rename_sig s r (Sig.Str fs) = ap Sig.Str (substitute-rename_row s r fs)
   substitute-rename_sig s r (Sig.Fun e ks p x) = ap₂ (Sig.Fun e ks) (substitute-rename_sig (unders ks s) (lifts ks r) p ∙ ap (λ f. substitute_sig f p) (unders-lifts ks s r)) (substitute-rename_abs (unders ks s) (lifts ks r) x ∙ ap (λ f. substitute_abs f x) (unders-lifts ks s r))
 
-  -- so for one that hides types
+  -- a renaming and then a substitution of a signature that hides types compose
   pub substitute-rename_abs : (s : ℕ → Ty) (r : ℕ → ℕ) (x : Abs) → substitute_abs s (rename_abs r x) ≡ substitute_abs (λ i. s (r i)) x
   substitute-rename_abs s r (Abs.Ex ks p) = ap (Abs.Ex ks) (substitute-rename_sig (unders ks s) (lifts ks r) p ∙ ap (λ f. substitute_sig f p) (unders-lifts ks s r))
 
@@ -78,7 +78,7 @@ mutual
   substitute-substitute_sig s q (Sig.Str fs) = ap Sig.Str (substitute-substitute_row s q fs)
   substitute-substitute_sig s q (Sig.Fun e ks p x) = ap₂ (Sig.Fun e ks) (substitute-substitute_sig (unders ks s) (unders ks q) p ∙ ap (λ f. substitute_sig f p) (unders-unders ks s q)) (substitute-substitute_abs (unders ks s) (unders ks q) x ∙ ap (λ f. substitute_abs f x) (unders-unders ks s q))
 
-  -- so for one that hides types
+  -- substitutions in a signature that hides types compose
   pub substitute-substitute_abs : (s : ℕ → Ty) (q : ℕ → Ty) (x : Abs) → substitute_abs s (substitute_abs q x) ≡ substitute_abs (λ i. substitute s (q i)) x
   substitute-substitute_abs s q (Abs.Ex ks p) = ap (Abs.Ex ks) (substitute-substitute_sig (unders ks s) (unders ks q) p ∙ ap (λ f. substitute_sig f p) (unders-unders ks s q))
 
@@ -97,11 +97,11 @@ mutual
   substitute-vars_sig r (Sig.Str fs) = ap Sig.Str (substitute-vars_row r fs)
   substitute-vars_sig r (Sig.Fun e ks s x) = ap₂ (Sig.Fun e ks) (ap (λ f. substitute_sig f s) (unders-vars ks r) ∙ substitute-vars_sig (lifts ks r) s) (ap (λ f. substitute_abs f x) (unders-vars ks r) ∙ substitute-vars_abs (lifts ks r) x)
 
-  -- so for one that hides types
+  -- a substitution by variables in a signature that hides types is the renaming
   pub substitute-vars_abs : (r : ℕ → ℕ) (x : Abs) → substitute_abs (λ i. Ty.Var (r i)) x ≡ rename_abs r x
   substitute-vars_abs r (Abs.Ex ks s) = ap (Abs.Ex ks) (ap (λ f. substitute_sig f s) (unders-vars ks r) ∙ substitute-vars_sig (lifts ks r) s)
 
-  -- so for the fields of a structure
+  -- a substitution by variables in the fields of a structure is the renaming
   pub substitute-vars_row : (r : ℕ → ℕ) (x : SigRow) → substitute_sig_row (λ i. Ty.Var (r i)) x ≡ rename_sig_row r x
   substitute-vars_row r SigRow.End = refl
   substitute-vars_row r (SigRow.More l s rest) = ap₂ (SigRow.More l) (substitute-vars_sig r s) (substitute-vars_row r rest)
@@ -117,7 +117,7 @@ mutual
   rename_sig-id (Sig.Str fs) = ap Sig.Str (rename_row-id fs)
   rename_sig-id (Sig.Fun e ks s x) = ap₂ (Sig.Fun e ks) (ap (λ f. rename_sig f s) (lifts-id ks) ∙ rename_sig-id s) (ap (λ f. rename_abs f x) (lifts-id ks) ∙ rename_abs-id x)
 
-  -- so for one that hides types
+  -- the identity renaming leaves a signature that hides types as it is
   pub rename_abs-id : (x : Abs) → rename_abs (λ i. i) x ≡ x
   rename_abs-id (Abs.Ex ks s) = ap (Abs.Ex ks) (ap (λ f. rename_sig f s) (lifts-id ks) ∙ rename_sig-id s)
 
@@ -129,6 +129,6 @@ mutual
 pub substitute_sig-id : (x : Sig) → substitute_sig Ty.Var x ≡ x
 substitute_sig-id x = substitute-vars_sig (λ i. i) x ∙ rename_sig-id x
 
--- so it does with one that hides types
+-- the identity substitution leaves a signature that hides types as it is
 pub substitute_abs-id : (x : Abs) → substitute_abs Ty.Var x ≡ x
 substitute_abs-id x = substitute-vars_abs (λ i. i) x ∙ rename_abs-id x

@@ -153,7 +153,7 @@ mutual
   mentions_sig-substitute f (Sig.Fun e ks s x) v (inl m) = let q = mentions-unders ks f (λ i. MentionsSig i s) v (mentions_sig-substitute (unders ks f) s (past ks v) m) in (q.0, inl q.1, q.2)
   mentions_sig-substitute f (Sig.Fun e ks s x) v (inr m) = let q = mentions-unders ks f (λ i. MentionsAbs i x) v (mentions_abs-substitute (unders ks f) x (past ks v) m) in (q.0, inr q.1, q.2)
 
-  -- so for a signature that hides types
+  -- a variable that a substituted signature that hides types mentions comes from the type put in for one
   pub mentions_abs-substitute : (f : ℕ → Ty) (x : Abs) (v : ℕ) → MentionsAbs v (substitute_abs f x) → (j : ℕ) × MentionsAbs j x × Mentions v (f j)
   mentions_abs-substitute f (Abs.Ex ks s) v m = mentions-unders ks f (λ i. MentionsSig i s) v (mentions_sig-substitute (unders ks f) s (past ks v) m)
 
@@ -173,7 +173,7 @@ mutual
   unmentioned_sig i (fun {ks = ks} s x) n h (inl m) = unmentioned_sig (past ks i) s n.0 (λ q. h (inl q)) m
   unmentioned_sig i (fun {ks = ks} s x) n h (inr m) = unmentioned_abs (past ks i) x n.1 (λ q. h (inr q)) m
 
-  -- so for a signature that hides types
+  -- the normal form of a signature that hides types mentions no variable that the signature does not mention
   pub unmentioned_abs : {ctx : List Kind} {s n : Abs} (i : ℕ) → ConvAbs ctx s n → NormalAbs ctx n → (MentionsAbs i s → ⊥) → MentionsAbs i n → ⊥
   unmentioned_abs i (ex {ks = ks} s) n h m = unmentioned_sig (past ks i) s n h m
 

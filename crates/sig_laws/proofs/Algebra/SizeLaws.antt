@@ -21,7 +21,7 @@ mutual
   size-alike (str fs) = ap suc (size_row-alike fs)
   size-alike (fun s x) = ap₂ (λ a b. suc (a + b)) (size-alike s) (size_abs-alike x)
 
-  -- so have those that hide types
+  -- signatures that hide types and are alike have one size
   pub size_abs-alike : {R : Between} {ctx : List Kind} {x y : Abs} → AlikeAbs R ctx x y → size_abs x ≡ size_abs y
   size_abs-alike (ex s) = ap suc (size-alike s)
 
@@ -33,7 +33,7 @@ mutual
 pub size-substitute : (f : ℕ → Ty) (s : Sig) → size (substitute_sig f s) ≡ size s
 size-substitute f s = sym (size-alike (alike-substitute [] f s))
 
--- so for one that hides types
+-- a substitution keeps the size of a signature that hides types
 pub size_abs-substitute : (f : ℕ → Ty) (x : Abs) → size_abs (substitute_abs f x) ≡ size_abs x
 size_abs-substitute f x = sym (size_abs-alike (alike_abs-substitute [] f x))
 

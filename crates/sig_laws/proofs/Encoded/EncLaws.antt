@@ -14,10 +14,10 @@ use Rattle.sig_laws.proofs.Encoded.EncodingLaws.{enc-conv, enc_well_formed-conv,
 pub enc-kind : {ctx : List Kind} {a : Sig} → WellFormed ctx a → HasKind ctx (enc a) Kind.Star
 enc-kind w = (conv-kinds (enc-conv w (well_formed-kinds w))).0
 
--- so has that of a well formed one that hides types
+-- the encoding of a well formed signature that hides types has kind *
 pub enc_abs-kind : {ctx : List Kind} {x : Abs} → WellFormedAbs ctx x → HasKind ctx (enc_abs x) Kind.Star
 enc_abs-kind w = (conv-kinds (enc_well_formed-conv w (well_formed_abs-kinds w))).0
 
--- so has that of an ordered explicit one
+-- the encoding of an ordered explicit signature has kind *
 pub enc_explicit-kind : {ctx : List Kind} {x : Abs} → Explicit ctx x → HasKind ctx (enc_abs x) Kind.Star
 enc_explicit-kind w = (conv-kinds (enc_abs-conv w (explicit-kinds w))).0

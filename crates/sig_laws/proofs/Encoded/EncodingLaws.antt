@@ -46,7 +46,7 @@ mutual
       ap₂ (λ a b. all_over ks (Ty.Arrow a (one_part (result_label e) b))) (enc-substitute (unders ks f) s) (enc_abs-substitute (unders ks f) x) ∙
       sym (all_over-substitute ks f (Ty.Arrow (enc s) (one_part (result_label e) (enc_abs x))))
 
-  -- so for signatures that hide types
+  -- the encoding of signatures that hide types commutes with substitution
   pub enc_abs-substitute : (f : ℕ → Ty) (x : Abs) → enc_abs (substitute_abs f x) ≡ substitute f (enc_abs x)
   enc_abs-substitute f (Abs.Ex ks s) = ap (ex_over ks) (enc-substitute (unders ks f) s) ∙ sym (ex_over-substitute ks f (enc s))
 
@@ -58,7 +58,7 @@ mutual
 pub enc-rename : (r : ℕ → ℕ) (s : Sig) → enc (rename_sig r s) ≡ rename r (enc s)
 enc-rename r s = sym (ap enc (substitute-vars_sig r s)) ∙ (enc-substitute (λ i. Ty.Var (r i)) s ∙ substitute-vars r (enc s))
 
--- so it does for signatures that hide types
+-- the encoding of signatures that hide types commutes with renaming
 pub enc_abs-rename : (r : ℕ → ℕ) (x : Abs) → enc_abs (rename_abs r x) ≡ rename r (enc_abs x)
 enc_abs-rename r x = sym (ap enc_abs (substitute-vars_abs r x)) ∙ (enc_abs-substitute (λ i. Ty.Var (r i)) x ∙ substitute-vars r (enc_abs x))
 
@@ -68,11 +68,11 @@ enc_abs-rename r x = sym (ap enc_abs (substitute-vars_abs r x)) ∙ (enc_abs-sub
 pub enc-normal : {ctx : List Kind} {s : Sig} → WellFormed ctx s → NormalSig ctx s → Normal ctx (enc s) Kind.Star
 enc-normal {s = s} w n = shape_enc-normal s n (well_formed-shape w)
 
--- so is that of one that hides types
+-- the encoding of a normal and well formed signature that hides types is normal
 pub enc_well_formed-normal : {ctx : List Kind} {x : Abs} → WellFormedAbs ctx x → NormalAbs ctx x → Normal ctx (enc_abs x) Kind.Star
 enc_well_formed-normal {x = x} w n = shape_enc_abs-normal x n (well_formed_abs-shape w)
 
--- so is that of a normal and ordered explicit one
+-- the encoding of a normal and ordered explicit signature is normal
 pub enc_abs-normal : {ctx : List Kind} {x : Abs} → Explicit ctx x → NormalAbs ctx x → Normal ctx (enc_abs x) Kind.Star
 enc_abs-normal {x = x} w n = shape_enc_abs-normal x n (explicit-shape w)
 
@@ -82,11 +82,11 @@ enc_abs-normal {x = x} w n = shape_enc_abs-normal x n (explicit-shape w)
 pub enc-conv : {ctx : List Kind} {s t : Sig} → WellFormed ctx s → ConvSig ctx s t → Conv ctx (enc s) (enc t) Kind.Star
 enc-conv w c = shape_enc-conv (λ ctx t k u r. r) c (well_formed-shape w)
 
--- so have those that hide types
+-- convertible signatures that hide types have convertible encodings
 pub enc_well_formed-conv : {ctx : List Kind} {x y : Abs} → WellFormedAbs ctx x → ConvAbs ctx x y → Conv ctx (enc_abs x) (enc_abs y) Kind.Star
 enc_well_formed-conv w c = shape_enc_abs-conv (λ ctx t k u r. r) c (well_formed_abs-shape w)
 
--- so have those that are ordered explicit
+-- convertible ordered explicit signatures have convertible encodings
 pub enc_abs-conv : {ctx : List Kind} {x y : Abs} → Explicit ctx x → ConvAbs ctx x y → Conv ctx (enc_abs x) (enc_abs y) Kind.Star
 enc_abs-conv w c = shape_enc_abs-conv (λ ctx t k u r. r) c (explicit-shape w)
 
@@ -189,7 +189,7 @@ mutual
       λ i. Sig.Fun (pe i) (g.0 i) (ps i) (px i)
   enc-injective s t e = let g = other_sort s t e in absurd (omega (arith, g))
 
-  -- so are those that hide types
+  -- signatures that hide types of one encoding are the same
   pub enc_abs-injective : (x y : Abs) → enc_abs x ≡ enc_abs y → x ≡ y
   enc_abs-injective (Abs.Ex ks s) (Abs.Ex js t) e = let g = ex_over-shows ks js s t e in ap₂ Abs.Ex g.0 (enc-injective s t g.1)
 

@@ -47,11 +47,11 @@ abbrev mutual
   Shape (Sig.Str fs) = ShapeRow fs
   Shape (Sig.Fun e ks s x) = Shape s × ShapeAbs x × Hides e x
 
-  -- so for a signature that hides types
+  -- in a signature that hides types names differ, and the result of each pure functor hides nothing
   pub ShapeAbs : Abs → Type 0
   ShapeAbs (Abs.Ex ks s) = Shape s
 
-  -- so for the fields of a structure
+  -- in the fields of a structure names differ, and the result of each pure functor hides nothing
   pub ShapeRow : SigRow → Type 0
   ShapeRow SigRow.End = Unit {0}
   ShapeRow (SigRow.More l s rest) = NoField l rest × Shape s × ShapeRow rest
@@ -76,7 +76,7 @@ mutual
   shape-alike (AlikeSig.str a) h = shape_row-alike a h
   shape-alike (AlikeSig.fun {e = e} a b) h = (shape-alike a h.0, shape_abs-alike b h.1, hides-alike e b h.2)
 
-  -- so has one that hides types
+  -- a signature that hides types has the shape of one that is like it
   pub shape_abs-alike : {R : Between} {ctx : List Kind} {x y : Abs} → AlikeAbs R ctx x y → ShapeAbs x → ShapeAbs y
   shape_abs-alike (AlikeAbs.ex a) h = shape-alike a h
 
@@ -94,7 +94,7 @@ shape_abs-unalike {R} a h = shape_abs-alike (alike-sym_abs {S = λ c t k u. R c 
 pub shape-substitute : (f : ℕ → Ty) (s : Sig) → Shape s → Shape (substitute_sig f s)
 shape-substitute f s h = shape-alike (alike-substitute [] f s) h
 
--- so for one that hides types
+-- a substitution keeps the shape of a signature that hides types
 pub shape_abs-substitute : (f : ℕ → Ty) (x : Abs) → ShapeAbs x → ShapeAbs (substitute_abs f x)
 shape_abs-substitute f x h = shape_abs-alike (alike_abs-substitute [] f x) h
 
@@ -106,11 +106,11 @@ no_field-rename r l fs h = no_field-alike l (alike_row-rename [] r fs) h
 pub shape-rename : (r : ℕ → ℕ) (s : Sig) → Shape s → Shape (rename_sig r s)
 shape-rename r s h = shape-alike (alike-rename [] r s) h
 
--- so for one that hides types
+-- a renaming keeps the shape of a signature that hides types
 pub shape_abs-rename : (r : ℕ → ℕ) (x : Abs) → ShapeAbs x → ShapeAbs (rename_abs r x)
 shape_abs-rename r x h = shape_abs-alike (alike_abs-rename [] r x) h
 
--- so for the fields of a structure
+-- a renaming keeps the shape of the fields of a structure
 pub shape_row-rename : (r : ℕ → ℕ) (fs : SigRow) → ShapeRow fs → ShapeRow (rename_sig_row r fs)
 shape_row-rename r fs h = shape_row-alike (alike_row-rename [] r fs) h
 
@@ -154,7 +154,7 @@ mutual
   distinct-normal (Sig.Str fs) d n = n_fields (distinct_row-normal fs d n)
   distinct-normal (Sig.Fun e ks s x) d n = all_over-normal ks (n_arrow (distinct-normal s d.0 n.0) (one_part-normal (result_label e) (distinct_abs-normal x d.1 n.1)))
 
-  -- so is that of one that hides types
+  -- the encoding of a normal signature that hides types whose structures' names differ is normal
   pub distinct_abs-normal : {ctx : List Kind} (x : Abs) → DistinctAbs x → NormalAbs ctx x → Normal ctx (enc_abs x) Kind.Star
   distinct_abs-normal (Abs.Ex ks s) d n = ex_over-normal ks (distinct-normal s d n)
 
@@ -182,7 +182,7 @@ mutual
 pub enc-normal : {ctx : List Kind} (s : Sig) → NormalSig ctx s → Shape s → Normal ctx (enc s) Kind.Star
 enc-normal s n h = distinct-normal s (shape-distinct s h) n
 
--- so is that of one that hides types
+-- the encoding of a normal signature that hides types of the right shape is normal
 pub enc_abs-normal : {ctx : List Kind} (x : Abs) → NormalAbs ctx x → ShapeAbs x → Normal ctx (enc_abs x) Kind.Star
 enc_abs-normal x n h = distinct_abs-normal x (shape_abs-distinct x h) n
 
@@ -205,7 +205,7 @@ mutual
   enc-conv v (AlikeSig.str a) h = c_fields (enc_row-conv v a h)
   enc-conv v (AlikeSig.fun {ks = ks} {e = e} a b) h = conv-all_over ks (c_arrow (enc-conv v a h.0) (one_part-conv (result_label e) (enc_abs-conv v b h.1)))
 
-  -- so have those that hide types
+  -- signatures that hide types whose types are related by conversion have convertible encodings
   pub enc_abs-conv : {R : Between} {ctx : List Kind} {x y : Abs} → Converts R → AlikeAbs R ctx x y → ShapeAbs x → Conv ctx (enc_abs x) (enc_abs y) Kind.Star
   enc_abs-conv v (AlikeAbs.ex {ks = ks} a) h = conv-ex_over ks (enc-conv v a h)
 
@@ -217,7 +217,7 @@ mutual
 pub enc-form : {ctx : List Kind} {s n : Sig} → NormalSigForm ctx s n → Shape s → NormalForm ctx (enc s) Kind.Star (enc n)
 enc-form {n = n} f h = (enc-normal n (form_sig-normal f) (shape-alike f h), enc-conv (λ ctx t k u a. a.1) f h)
 
--- so for signatures that hide types
+-- the normal form of an encoded signature that hides types is the encoding of its normal form
 pub enc_abs-form : {ctx : List Kind} {x n : Abs} → NormalAbsForm ctx x n → ShapeAbs x → NormalForm ctx (enc_abs x) Kind.Star (enc_abs n)
 enc_abs-form {n = n} f h = (enc_abs-normal n (form_abs-normal f) (shape_abs-alike f h), enc_abs-conv (λ ctx t k u a. a.1) f h)
 
@@ -228,7 +228,7 @@ pub record Good (ctx : List Kind) (s : Sig) : Type 0 where
   pub normal : NormalSig ctx s
   pub shape : Shape s
 
--- so is one that hides types
+-- a signature that hides types is normal and of the right shape
 pub record GoodAbs (ctx : List Kind) (x : Abs) : Type 0 where
   pub normal : NormalAbs ctx x
   pub shape : ShapeAbs x
@@ -241,7 +241,7 @@ good-rename {s = s} r m g = record { normal = normal_sig-rename r m s g.normal; 
 pub good-normal : {ctx : List Kind} {s : Sig} → Good ctx s → Normal ctx (enc s) Kind.Star
 good-normal {s = s} g = enc-normal s g.normal g.shape
 
--- so is that of a good one that hides types
+-- the encoding of a good signature that hides types is normal
 pub good_abs-normal : {ctx : List Kind} {x : Abs} → GoodAbs ctx x → Normal ctx (enc_abs x) Kind.Star
 good_abs-normal {x = x} g = enc_abs-normal x g.normal g.shape
 

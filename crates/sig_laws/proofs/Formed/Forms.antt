@@ -57,7 +57,7 @@ kinds_dec (x ∷ xs) (y ∷ ys) = go (Kind-discrete x y) (kinds_dec xs ys)
 pub abs_dec : (x y : Abs) → Dec (x ≡ y)
 abs_dec = Abs-discrete dec_ty Kind-discrete effect_dec kinds_dec dec_name
 
--- so it is for signatures
+-- whether two signatures are the same is decided
 pub sig_dec : (x y : Sig) → Dec (x ≡ y)
 sig_dec = Sig-discrete dec_ty Kind-discrete effect_dec kinds_dec dec_name
 

@@ -44,15 +44,15 @@ mutual
   well_formed_row-kinds WellFormedRow.end = end
   well_formed_row-kinds (WellFormedRow.more s fs) = more (well_formed-kinds s) (well_formed_row-kinds fs)
 
-  -- so is one that hides types
+  -- a well formed signature that hides types is well kinded
   pub well_formed_abs-kinds : {ctx : List Kind} {x : Abs} → WellFormedAbs ctx x → ConvAbs ctx x x
   well_formed_abs-kinds (abs s) = ex (well_formed-kinds s)
 
-  -- so is an ordered explicit one
+  -- an ordered explicit signature is well kinded
   pub explicit-kinds : {ctx : List Kind} {x : Abs} → Explicit ctx x → ConvAbs ctx x x
   explicit-kinds (explicit w r h) = ex (well_formed-kinds w)
 
-  -- so is the body of an ordered explicit one
+  -- the body of an ordered explicit signature is well kinded
   pub explicit-body : {ctx ks : List Kind} {s : Sig} → Explicit ctx (Abs.Ex ks s) → ConvSig (extend ctx ks) s s
   explicit-body (explicit w r h) = well_formed-kinds w
 
@@ -130,7 +130,7 @@ mutual
   well_formed_row-substitute f h WellFormedRow.end = WellFormedRow.end
   well_formed_row-substitute f h (WellFormedRow.more s fs) = WellFormedRow.more (well_formed-substitute f h s) (well_formed_row-substitute f h fs)
 
-  -- so those that hide types
+  -- a substitution keeps signatures that hide types well formed
   pub well_formed_abs-substitute : {ctx other : List Kind} {x : Abs} (f : ℕ → Ty) → Substitutes ctx other f → WellFormedAbs ctx x → WellFormedAbs other (substitute_abs f x)
   well_formed_abs-substitute f h (abs {ks = ks} s) = abs (well_formed-substitute (unders ks f) (unders-substitutes ks h) s)
 
@@ -170,7 +170,7 @@ mutual
   well_formed_row-conv WellFormedRow.end end = WellFormedRow.end
   well_formed_row-conv (WellFormedRow.more s fs) (more c d) = WellFormedRow.more (well_formed-conv s c) (well_formed_row-conv fs d)
 
-  -- so those that hide types
+  -- conversion keeps signatures that hide types well formed
   pub well_formed_abs-conv : {ctx : List Kind} {x y : Abs} → WellFormedAbs ctx x → ConvAbs ctx x y → WellFormedAbs ctx y
   well_formed_abs-conv (abs s) (ex c) = abs (well_formed-conv s c)
 
@@ -202,7 +202,7 @@ pub conv_sig-rename : {ctx other : List Kind} {s t : Sig} (r : ℕ → ℕ) → 
 conv_sig-rename {other = other} {s = s} {t = t} r h c =
     subst₂ (ConvSig other) (substitute-vars_sig r s) (substitute-vars_sig r t) (conv_sig-substitute (λ i. Ty.Var (r i)) (λ i. Ty.Var (r i)) (substitutes-convertible (maps-substitutes h)) c)
 
--- so for signatures that hide types
+-- renaming keeps conversion of signatures that hide types
 pub conv_abs-rename : {ctx other : List Kind} {s t : Abs} (r : ℕ → ℕ) → Maps ctx other r → ConvAbs ctx s t → ConvAbs other (rename_abs r s) (rename_abs r t)
 conv_abs-rename {other = other} {s = s} {t = t} r h c =
     subst₂ (ConvAbs other) (substitute-vars_abs r s) (substitute-vars_abs r t) (conv_abs-substitute (λ i. Ty.Var (r i)) (λ i. Ty.Var (r i)) (substitutes-convertible (maps-substitutes h)) c)

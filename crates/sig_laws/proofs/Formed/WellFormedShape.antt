@@ -37,11 +37,11 @@ mutual
   well_formed_row-shape r WellFormedRow.end = tt
   well_formed_row-shape r (WellFormedRow.more {l = l} {rest = rest} w ws) = (before-no_field l rest r.0, well_formed-shape w, well_formed_row-shape r.1 ws)
 
-  -- so in one that hides types
+  -- in a well formed signature that hides types names differ, and the results of pure functors hide nothing
   pub well_formed_abs-shape : {ctx : List Kind} {x : Abs} → WellFormedAbs ctx x → ShapeAbs x
   well_formed_abs-shape (WellFormedAbs.abs w) = well_formed-shape w
 
-  -- so in an ordered explicit one
+  -- in an ordered explicit signature names differ, and the results of pure functors hide nothing
   pub explicit-shape : {ctx : List Kind} {x : Abs} → Explicit ctx x → ShapeAbs x
   explicit-shape (Explicit.explicit w e r) = well_formed-shape w
 
@@ -49,7 +49,7 @@ mutual
 pub well_formed-good : {ctx : List Kind} {s : Sig} → WellFormed ctx s → NormalSig ctx s → Good ctx s
 well_formed-good w n = record { normal = n; shape = well_formed-shape w }
 
--- so is one that hides types
+-- a well formed and normal signature that hides types is good
 pub well_formed_abs-good : {ctx : List Kind} {x : Abs} → WellFormedAbs ctx x → NormalAbs ctx x → GoodAbs ctx x
 well_formed_abs-good w n = record { normal = n; shape = well_formed_abs-shape w }
 

@@ -97,7 +97,7 @@ mutual
   to-result (IsSubResult.both_pure a) w (RightResult.pure v r) = (_, SubResult.both_pure (to-sub a (abs-body w) (v, r)).1)
   to-result (IsSubResult.to_impure a) w (RightResult.impure v) = (_, SubResult.to_impure (to-abs a w v).1)
 
-  -- so have those that hide types
+  -- signatures of any types that hide types in subtyping have normal forms in subtyping, by a coercion
   pub to-abs : {ctx : List Kind} {x y : Abs} → IsSubAbs ctx x y → WellFormedAbs ctx x → Explicit ctx y → (f : Term) × SubAbs ctx (normal_abs ctx x) (normal_abs ctx y) f
   to-abs {ctx} {y = Abs.Ex js r} (IsSubAbs.plain m) w v =
       let fs = normals_of (matches-kinds m) in

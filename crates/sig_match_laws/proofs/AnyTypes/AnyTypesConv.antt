@@ -60,7 +60,7 @@ mutual
   result-conv (IsSubResult.both_pure a) (ex c) (ex d) = IsSubResult.both_pure (sub-conv a c d)
   result-conv (IsSubResult.to_impure a) c d = IsSubResult.to_impure (abs-conv a c d)
 
-  -- so it is where they hide types
+  -- subtyping of signatures that hide types is closed under conversion of both sides
   pub abs-conv : {ctx : List Kind} {x z : Abs} → IsSubAbs ctx x z → {y w : Abs} → ConvAbs ctx x y → ConvAbs ctx z w → IsSubAbs ctx y w
   abs-conv (IsSubAbs.plain m) (ex c) d = IsSubAbs.plain (match-conv m c d)
   abs-conv {ctx} (IsSubAbs.hidden {ks = ks} {k = k} m) (ex c) d = IsSubAbs.hidden (match-conv m c (conv_abs-raise ctx (k ∷ ks) d))
@@ -96,7 +96,7 @@ mutual
   any-result (SubResult.both_pure a) w v = IsSubResult.both_pure (any-sub a (good-body w) (good-pure v))
   any-result (SubResult.to_impure a) w v = IsSubResult.to_impure (any-abs a w (good-impure v))
 
-  -- so it is where they hide types
+  -- subtyping of normal signatures that hide types is subtyping of any
   pub any-abs : {ctx : List Kind} {x y : Abs} {f : Term} → SubAbs ctx x y f → OkAbs ctx x → OkRight ctx y → IsSubAbs ctx x y
   any-abs (SubAbs.plain m p) w v = IsSubAbs.plain (any-match m (good-body w) v)
   any-abs (SubAbs.hidden {ks = ks} {k = k} m p) w v = IsSubAbs.hidden (any-match m (good-body w) (good-raised (k ∷ ks) v))

@@ -95,7 +95,7 @@ mutual
   result-substitute f h (IsSubResult.both_pure a) = IsSubResult.both_pure (sub-substitute f h a)
   result-substitute f h (IsSubResult.to_impure a) = IsSubResult.to_impure (abs-substitute f h a)
 
-  -- so it is where they hide types
+  -- subtyping of signatures that hide types is closed under substitution
   pub abs-substitute : {ctx other : List Kind} {x y : Abs} (f : ℕ → Ty) → Substitutes ctx other f → IsSubAbs ctx x y → IsSubAbs other (substitute_abs f x) (substitute_abs f y)
   abs-substitute f h (IsSubAbs.plain m) = IsSubAbs.plain (match-substitute f h m)
   abs-substitute {other = other} f h (IsSubAbs.hidden {ks = ks} {k = k} {s = s} {y = y} {ts = ts} m) = IsSubAbs.hidden

@@ -10,6 +10,6 @@ use Rattle.sig_match_laws.proofs.AnyTypes.AnyTypesSubst.{sub-substitute, abs-sub
 pub sub_substitute : SubSubstitute
 sub_substitute ctx other s r f g w v h d = to-sub (sub-substitute g h (any-sub d w v)) (well_formed-substitute g h w.0) (well_formed-substitute g h v.0.0, explicit_results-substitute g h v.0.1)
 
--- so it is where the signatures hide types
+-- subtyping of normal signatures that hide types is kept by substitution, normal forms being taken afterwards
 pub sub_abs_substitute : SubAbsSubstitute
 sub_abs_substitute ctx other x y f g w v h d = to-abs (abs-substitute g h (any-abs d w v)) (well_formed_abs-substitute g h w.0) (explicit-substitute g h v.0)

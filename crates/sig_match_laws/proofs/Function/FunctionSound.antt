@@ -46,7 +46,7 @@ pub data SubOk (ctx : List Kind) (s r : Sig) : Outcome → Type 0 where
   sub_ok : {f : Term} → Sub ctx s r f → SubOk ctx s r (Outcome.coerced f)
   sub_no : {q : MatchRefusal} → RefusesSub ctx s r q → SubOk ctx s r (Outcome.refused q)
 
--- the same where the signatures hide types
+-- an outcome of subtyping between signatures that hide types that is derived: a coercion or a refusal
 pub data AbsOk (ctx : List Kind) (x y : Abs) : Outcome → Type 0 where
   abs_ok : {f : Term} → SubAbs ctx x y f → AbsOk ctx x y (Outcome.coerced f)
   abs_no : {q : MatchRefusal} → RefusesSubAbs ctx x y q → AbsOk ctx x y (Outcome.refused q)
@@ -237,7 +237,7 @@ fns-ok (suc n) = let h = fns-ok n in (sub_step-ok (fns n) n h, abs_step-ok (fns 
 pub sub_sig-ok : (ctx : List Kind) (s r : Sig) → OkSig ctx s → IsRightSig ctx r → SubOk ctx s r (sub_sig ctx s r)
 sub_sig-ok ctx s r w v = (fns-ok (suc (size s + size r))).0 ctx s r (omega arith) w v
 
--- so does the function of subtyping between signatures that hide types
+-- the function of subtyping between signatures that hide types gives a coercion or a refusal that is derived
 pub sub_abs-ok : (ctx : List Kind) (x y : Abs) → OkAbs ctx x → OkRight ctx y → AbsOk ctx x y (sub_abs ctx x y)
 sub_abs-ok ctx x y w v = (fns-ok (suc (size_abs x + size_abs y))).1 ctx x y (omega arith) w v
 

@@ -38,14 +38,14 @@ good-right_param g = ((explicit-right (right-functor g.0.0 g.0.1).0).0, g.1.0)
 pub good-right_result : {ctx js : List Kind} {d : Effect} {t : Sig} {z : Abs} → IsRightSig ctx (Sig.Fun d js t z) → GoodResult (extend ctx js) d z
 good-right_result g = ((right-functor g.0.0 g.0.1).1, g.1.1)
 
--- so may the body of a pure functor's result
+-- the body of a pure functor's result on the right may stand on the right
 pub good-pure : {ctx : List Kind} {r : Sig} → GoodResult ctx Pure (Abs.Ex [] r) → IsRightSig ctx r
 good-pure g = (go g.0, g.1)
   where
     go : {ctx : List Kind} {r : Sig} → RightResult ctx Pure (Abs.Ex [] r) → IsRight ctx r
     go (RightResult.pure w v) = (w, v)
 
--- so may the result of an impure functor
+-- the result of an impure functor on the right may stand on the right
 pub good-impure : {ctx : List Kind} {z : Abs} → GoodResult ctx Impure z → OkRight ctx z
 good-impure g = (go g.0, g.1)
   where

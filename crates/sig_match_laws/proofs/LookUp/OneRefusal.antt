@@ -209,7 +209,7 @@ mutual
   result-one (RefusesResult.both_pure a) w v q d = sub-refusal a (good-body w) (good-pure v) q (result-refusal d)
   result-one (RefusesResult.to_impure a) w v q d = abs-one a w (good-impure v) q (result-refusal d)
 
-  -- so it has between signatures that hide types
+  -- subtyping between signatures that hide types has at most one refusal
   pub abs-one : {ctx : List Kind} {x y : Abs} {p : MatchRefusal} → RefusesSubAbs ctx x y p → OkAbs ctx x → OkRight ctx y → (q : MatchRefusal) → RefusesSubAbs ctx x y q → p ≡ q
   abs-one (RefusesSubAbs.plain a) w v q d = match-one a (good-body w) v q (abs-refusal d)
   abs-one (RefusesSubAbs.hidden {ks = ks} {k = k} a) w v q d = match-one a (good-body w) (good-raised (k ∷ ks) v) q (abs-refusal d)

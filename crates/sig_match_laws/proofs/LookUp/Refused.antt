@@ -86,7 +86,7 @@ mutual
   result-excluded (RefusesResult.both_pure r) w v f a = sub-excluded r (good-body w) (good-pure v) f (result-view a)
   result-excluded (RefusesResult.to_impure r) w v f a = abs-excluded r w (good-impure v) f (result-view a)
 
-  -- so it does between signatures that hide types
+  -- a refusal of subtyping between signatures that hide types excludes a coercion
   pub abs-excluded : {ctx : List Kind} {x y : Abs} {q : MatchRefusal} → RefusesSubAbs ctx x y q → OkAbs ctx x → OkRight ctx y → (f : Term) → SubAbs ctx x y f → ⊥
   abs-excluded (RefusesSubAbs.plain r) w v f a = let q = abs-view a in match-excluded r (good-body w) v q.0 q.1 q.2
   abs-excluded (RefusesSubAbs.hidden {ks = ks} {k = k} r) w v f a = let q = abs-view a in match-excluded r (good-body w) (good-raised (k ∷ ks) v) q.0 q.1 q.2

@@ -113,7 +113,7 @@ mutual
   result-unique (SubResult.both_pure a) w (RightResult.pure v r) g d = sub-unique a (abs-body w) (v, r) g (result-view d)
   result-unique (SubResult.to_impure a) w (RightResult.impure v) g d = abs-unique a w v g (result-view d)
 
-  -- so it has between signatures that hide types
+  -- subtyping between signatures that hide types has at most one coercion
   pub abs-unique : {ctx : List Kind} {x y : Abs} {f : Term} → SubAbs ctx x y f → WellFormedAbs ctx x → Explicit ctx y → (g : Term) → SubAbs ctx x y g → f ≡ g
   abs-unique (SubAbs.plain {ctx = ctx} {s = s} {y = y} {ts = ts} {f = f} m p) w v g d =
       let q = abs-view d in

@@ -85,6 +85,6 @@ fields-at (SubFields.more g a rest) (there n h) = fields-at rest h
 pub match_part-unique : {ctx : List Kind} {from to : Ty} {ts : List Ty} {f g : Term} → MatchPart ctx from ts f to g → (h : Term) → MatchPart ctx from ts f to h → g ≡ h
 match_part-unique {ctx} {from} {to} {ts} {f} (MatchPart.made {e = e} p) _ (MatchPart.made {e = d} q) = ap (Term.Lam from) (packs-same p q)
 
--- so it does where the left side's types are opened first
+-- a match under opened types gives at most one coercion that opens them and packs its own
 pub abs_part-unique : {inner ks : List Kind} {from to : Ty} {ts : List Ty} {f g : Term} → AbsPart inner from ks ts f to g → (h : Term) → AbsPart inner from ks ts f to h → g ≡ h
 abs_part-unique {inner} {ks} {from} {to} {ts} {f} (AbsPart.made {e = e} p) _ (AbsPart.made {e = d} q) = ap (λ c. Term.Lam from (opens ks (Term.Var 0) from c)) (packs-same p q)

@@ -104,7 +104,7 @@ renumber-lifts {ks = ks} {order = order} t r i = go (split_index ks i)
 pub renumbered-sig : {ctx ks : List Kind} {s : Sig} {order : List ℕ} → NewOrder ctx ks s order → (r : ℕ → ℕ) (t : Sig) → rename_sig (renumber ks order) (rename_sig (lifts ks r) t) ≡ rename_sig (lifts (reordered ks order) r) (rename_sig (renumber ks order) t)
 renumbered-sig {ks = ks} {order = order} o r t = rename-rename_sig (renumber ks order) (lifts ks r) t ∙ (ap (λ f. rename_sig f t) (sym (fun_ext (renumber-lifts o r))) ∙ sym (rename-rename_sig (lifts (reordered ks order) r) (renumber ks order) t))
 
--- so it does for signatures that hide types
+-- renumbering commutes with a renaming from outside, in signatures that hide types
 pub renumbered-abs : {ctx ks : List Kind} {s : Sig} {order : List ℕ} → NewOrder ctx ks s order → (r : ℕ → ℕ) (t : Abs) → rename_abs (renumber ks order) (rename_abs (lifts ks r) t) ≡ rename_abs (lifts (reordered ks order) r) (rename_abs (renumber ks order) t)
 renumbered-abs {ks = ks} {order = order} o r t = rename-rename_abs (renumber ks order) (lifts ks r) t ∙ (ap (λ f. rename_abs f t) (sym (fun_ext (renumber-lifts o r))) ∙ sym (rename-rename_abs (lifts (reordered ks order) r) (renumber ks order) t))
 
@@ -120,7 +120,7 @@ mutual
       subst₂ (λ z w. NormSig other (Sig.Fun Impure ks (rename_sig (lifts ks r) s) (rename_abs (lifts ks r) x)) (Sig.Fun Impure (reordered ks order) z w)) (renumbered-sig o r t) (renumbered-abs o r y)
       (NormSig.impure (norm-renamed (lifts ks r) (lifts ks q) (undone-lifts ks u) a) (taking-renamed r q u o) (norm_abs-renamed (lifts ks r) (lifts ks q) (undone-lifts ks u) n))
 
-  -- so for signatures that hide types
+  -- norm of signatures that hide types commutes with a renaming that can be undone
   pub norm_abs-renamed : {ctx other : List Kind} {x y : Abs} (r q : ℕ → ℕ) → Undone ctx other r q → Norm ctx x y → Norm other (rename_abs r x) (rename_abs r y)
   norm_abs-renamed {other = other} r q u (Norm.ex {ks = ks} {s = s} {t = t} {order = order} a o) =
       subst (λ z. Norm other (Abs.Ex ks (rename_sig (lifts ks r) s)) (Abs.Ex (reordered ks order) z)) (renumbered-sig o r t)

@@ -34,7 +34,7 @@ mutual
   norm_unique (NormSig.pure a b) (NormSig.pure c d) = same-pure (norm_unique a c) (norm_unique b d)
   norm_unique (NormSig.impure {ks = ks} a o x) (NormSig.impure b w y) = let e = norm_unique a b in same-fun ks (same-order e o w) e (norm_abs_unique x y)
 
-  -- so has one that hides types
+  -- a signature that hides types has at most one norm
   pub norm_abs_unique : {ctx : List Kind} {x y z : Abs} → Norm ctx x y → Norm ctx x z → y ≡ z
   norm_abs_unique (Norm.ex {ks = ks} a o) (Norm.ex b w) = let e = norm_unique a b in same-abs ks (same-order e o w) e
 

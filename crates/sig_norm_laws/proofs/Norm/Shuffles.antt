@@ -180,10 +180,10 @@ module _ (ctx ks js : List Kind) (to from : ℕ → ℕ) (p : Paired ks js to fr
       let f : order ≡ map to old = one-order refl (subst (λ z. NewOrder ctx ks z order) e o) (order-moved t) in
       (f, ap (reordered ks) f ∙ reordered-moved old (λ k lt. (nth-untaken k t lt).0))
 
-  -- so it is in signatures
+  -- in signatures, renumbering by the corresponding order, after the shuffle, is renumbering by the order
   pub renumbered_sig-same : {order old : List ℕ} → NewOrder ctx js s old → order ≡ map to old → (t : Sig) → rename_sig (renumber ks order) (rename_sig (shuffle ks js to) t) ≡ rename_sig (renumber js old) t
   renumbered_sig-same {order} {old} o e t = rename-rename_sig (renumber ks order) (shuffle ks js to) t ∙ ap (λ f. rename_sig f t) (fun_ext (λ i. ap (λ w. renumber ks w (shuffle ks js to i)) e ∙ renumber-moved o i))
 
-  -- so it is in signatures that hide types
+  -- in signatures that hide types, renumbering by the corresponding order, after the shuffle, is that by the order
   pub renumbered_abs-same : {order old : List ℕ} → NewOrder ctx js s old → order ≡ map to old → (t : Abs) → rename_abs (renumber ks order) (rename_abs (shuffle ks js to) t) ≡ rename_abs (renumber js old) t
   renumbered_abs-same {order} {old} o e t = rename-rename_abs (renumber ks order) (shuffle ks js to) t ∙ ap (λ f. rename_abs f t) (fun_ext (λ i. ap (λ w. renumber ks w (shuffle ks js to i)) e ∙ renumber-moved o i))

@@ -202,7 +202,7 @@ typ-kind (typ c) = (conv-kinds c).0
 pub param-kinds : {ctx ks : List Kind} {e : Effect} {s z : Sig} {x : Abs} → ConvSig ctx (Sig.Fun e ks s x) z → ConvSig (extend ctx ks) s s
 param-kinds (fun c d) = conv_sig-trans c (conv_sig-sym c)
 
--- so is its result
+-- the result of a well kinded functor is well kinded
 pub result-kinds : {ctx ks is : List Kind} {e : Effect} {s r z : Sig} → ConvSig ctx (Sig.Fun e ks s (Abs.Ex is r)) z → ConvSig (extend (extend ctx ks) is) r r
 result-kinds (fun c (ex d)) = conv_sig-trans d (conv_sig-sym d)
 
@@ -245,7 +245,7 @@ finish ctx ks js bs cs t u k j (fixed e c) (moved {u = v} x d) h = agree-result 
 pub same-hidden : {ks js : List Kind} {s t : Sig} → Path Abs (Abs.Ex ks s) (Abs.Ex js t) → ks ≡ js
 same-hidden e = cc
 
--- they have the same body
+-- signatures that are the same have the same body
 pub same-body : {ks js : List Kind} {s t : Sig} → Path Abs (Abs.Ex ks s) (Abs.Ex js t) → s ≡ t
 same-body e = cc
 
