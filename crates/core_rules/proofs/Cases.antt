@@ -1,4 +1,5 @@
 -- The branches of a case one after the other, and in the order of the sum's labels.
+-- Main results: branches-next, branches-end, labels-missing, labels-end.
 use Rattle.std.proofs.Common.{◌≡◌, ◌≢◌, Bool, true, false, cond, List, [], ◌∷◌, ◌++◌, Option, Some, None, MatchOption, is_some, refl, sym, ap, ◌∙◌, subst, inl, inr, ◌⊎◌}
 use Rattle.std.proofs.lemmas.Cmp.{nat_list_cmp_total, tied_itself}
 use Rattle.std.specs.BTreeMap.{insert_entry}

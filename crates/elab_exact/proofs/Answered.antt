@@ -1,4 +1,5 @@
 -- In a good environment each phrase means exactly one thing or is refused in exactly one way.
+-- Main results: type-one, exp-one, sig-one, mod-one, binds-one.
 use Rattle.std.specs.Prelude.{List, [], ◌∷◌, ◌≡◌, Bool, true, false, Some}
 use Rattle.std.proofs.Math.Path.{refl, sym, subst, ap, ◌∙◌}
 use Rattle.omega_kinds.specs.Kind.{Kind, Kind-discrete}

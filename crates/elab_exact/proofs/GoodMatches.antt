@@ -1,4 +1,5 @@
 -- The types that a refusal of matching tells are normal where it tells them.
+-- Main results: refused-match.
 use Rattle.std.specs.Prelude.{List, ◌∷◌, ◌≡◌, length}
 use Rattle.std.proofs.Math.Path.{refl}
 use Rattle.omega_kinds.specs.Kind.{Kind}

@@ -1,4 +1,5 @@
 -- Where the refusal of a fixed type stands: at exactly one place.
+-- Main results: placed.
 use Rattle.std.specs.Prelude.{List, [], ◌∷◌, ◌≡◌}
 use Rattle.std.proofs.Math.Path.{refl, sym, subst, ap, ◌∙◌}
 use Rattle.omega_kinds.specs.Kind.{Kind}

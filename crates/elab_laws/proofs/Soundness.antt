@@ -1,5 +1,6 @@
 -- Each derived phrase is good: types are normal of their kinds, expressions have their types, signatures are good, and
 -- modules have terms of the types that their signatures say. By one induction on the derivations.
+-- Main results: ty-good, exp-good, sig-good, mod-good, binds-good, program-typed.
 use Rattle.std.specs.Prelude.{List, [], ◌∷◌}
 use Rattle.std.proofs.Math.Path.{refl, sym, ◌∙◌, subst}
 use Rattle.omega_kinds.specs.Kind.{Kind}

@@ -1,4 +1,5 @@
 -- From what refuses a step of a phrase's rule to what refuses the phrase.
+-- Main results: within, fails, tested, valued, unmatched.
 use Rattle.std.proofs.Common.{◌≡◌, ◌≢◌, ◌⊎◌, inl, inr, List, ◌∷◌}
 use Rattle.omega_kinds.specs.Kind.{Kind}
 use Rattle.omega_types.specs.Ty.{Ty}

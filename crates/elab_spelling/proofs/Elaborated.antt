@@ -1,4 +1,5 @@
 -- Whatever a spelled phrase means is legible. By one induction on the derivations.
+-- Main results: ty-legible, exp-legible, sig-legible, mod-legible, binds-legible.
 use Rattle.std.specs.Prelude.{◌≡◌, List, ◌∷◌, ◌++◌, Some, None}
 use Rattle.std.proofs.Math.Path.{refl, sym, subst}
 use Rattle.omega_kinds.specs.Kind.{Kind}

@@ -1,4 +1,5 @@
 -- Normal forms of legible types are legible, and what they stand for outside of binders.
+-- Main results: form-legible, outside-legible.
 use Rattle.std.specs.Prelude.{List}
 use Rattle.std.proofs.Math.Path.{sym, subst}
 use Rattle.omega_kinds.specs.Kind.{Kind}

@@ -1,5 +1,6 @@
 -- A match between legible signatures finds legible types and has a legible coercion: the functions of matching make nothing
 -- else, and they find what there is.
+-- Main results: match-legible.
 use Rattle.std.specs.Prelude.{◌≡◌, ℕ, zero, suc, ◌+◌, List, [], ◌∷◌, ◌++◌, Option, Some, None, length}
 use Rattle.std.proofs.Math.Path.{refl, subst}
 use Rattle.omega_kinds.specs.Kind.{Kind, Kind-discrete}

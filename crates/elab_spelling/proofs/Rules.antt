@@ -1,4 +1,5 @@
 -- What the rules of elaboration make of legible premises is legible.
+-- Main results: found-legible, lift-legible, packed-legible, sequence-legible, collected-legible.
 use Rattle.std.specs.Prelude.{◌≡◌, ℕ, zero, suc, List, [], ◌∷◌, ◌++◌, map, Bool, true, false, cond, Option, Some, None}
 use Rattle.std.proofs.Math.Path.{subst}
 use Rattle.omega_kinds.specs.Kind.{Kind}

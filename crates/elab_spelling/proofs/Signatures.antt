@@ -1,5 +1,6 @@
 -- Legible signatures stay legible under renaming, under substitution, in normal form and in the order of quantifiers, and
 -- their encodings are legible.
+-- Main results: substitute_sig-legible, form_sig-legible, enc-legible, norm-legible.
 use Rattle.std.specs.Prelude.{ℕ, suc, List, Option, Some, None}
 use Rattle.std.proofs.Math.Path.{refl}
 use Rattle.omega_kinds.specs.Kind.{Kind}

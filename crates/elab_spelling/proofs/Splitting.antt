@@ -1,4 +1,5 @@
 -- A spelling is a legible tree with its variables in scope.
+-- Main results: ty-spelled, spelled-ty, term-spelled, spelled-term.
 use Rattle.std.specs.Prelude.{ℕ, ◌+◌, Option, Some, None}
 use Rattle.omega_kinds.specs.declared.label.Label.{Label}
 use Rattle.omega_types.specs.Ty.{Ty, Row}

@@ -1,4 +1,5 @@
 -- Legible terms stay legible under renaming and in normal form, and what is made of legible terms and types is legible.
+-- Main results: ren_term-legible, instance-legible, packs-legible, opens-legible.
 use Rattle.std.specs.Prelude.{ℕ, suc, List, [], ◌∷◌, Option, Some, None}
 use Rattle.std.proofs.Math.Path.{refl}
 use Rattle.omega_kinds.specs.Kind.{Kind}

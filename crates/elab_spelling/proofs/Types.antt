@@ -1,4 +1,5 @@
 -- Legible types stay legible under renaming, under substitution and in normal form.
+-- Main results: rename-legible, substitute-legible, hsubst-legible, normal-legible.
 use Rattle.std.specs.Prelude.{ℕ, zero, suc, List, [], ◌∷◌, Option, Some, None}
 use Rattle.omega_kinds.specs.Kind.{Kind}
 use Rattle.omega_kinds.specs.declared.label.Label.{Label}

@@ -1,4 +1,5 @@
 -- From what tokens, a parse and an elaboration say to the verdict.
+-- Main results: no-program, no-meaning, reported.
 use Rattle.std.proofs.Common.{◌≡◌, ◌⊎◌, inl, inr, ℕ, ◌+◌, ◌≤◌, List, [], ◌∷◌, length, Some, arith, refl, ap, subst}
 use Rattle.std.specs.Prelude.{MatchOption}
 use Rattle.fing_lexer.specs.declared.lexer.LexRefusal.{LexRefusal}

@@ -1,4 +1,5 @@
 -- As much of a text as was copied to a page is its whole, or a beginning that fills the room.
+-- Main results: whole, cut.
 use Rattle.std.proofs.Common.{◌≡◌, ℕ, ◌<◌, ◌≤◌, List, ◌++◌, length, take, drop, arith, sym, ap, ◌∙◌}
 use Rattle.std.proofs.lemmas.List.{length-drop, length-take-le, take-append-drop, take_all}
 use Rattle.fing_show.specs.declared.showing.Verdict.{Verdict}

@@ -1,4 +1,5 @@
 -- How many bindings a program has.
+-- Main results: bind_count-binds.
 use Rattle.std.proofs.Common.{◌≡◌, suc, List, [], ◌∷◌, length, refl, ap}
 use Rattle.fing_syntax.specs.Phrase.{Bind}
 use Rattle.fing_syntax.specs.Inner.View.{binds as binds_of}

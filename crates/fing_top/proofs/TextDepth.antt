@@ -1,5 +1,6 @@
 -- Each form with parts opens a parenthesis, so a type and a term that are legible are no higher than the parentheses of their
 -- text are nested, whatever variables they have.
+-- Main results: not-high.
 use Rattle.std.proofs.Common.{◌≡◌, ℕ, zero, suc, ◌+◌, ◌-◌, ◌/◌, ◌%◌, ◌≤◌, ◌<◌, max, Bool, true, false, List, [], ◌∷◌, ◌++◌, refl, subst, append_assoc, arith}
 use Rattle.std.specs.Prelude.{codes, decimal, ◌==◌, nat_lt, if◌then◌else◌, Option, Some, None, ℤ, pos, negsuc}
 use Rattle.std.specs.Fmt.{signed_decimal, digits, digits_onto, digit_glyph}

@@ -1,4 +1,5 @@
 -- Signatures are the same where their parts are.
+-- Main results: row-length.
 use Rattle.std.proofs.Common.{◌≡◌, ◌↔◌, [], ◌∷◌, length, refl}
 use Rattle.sig_definitions.specs.Signatures.Sig.{Abs}
 use Rattle.semantic_sigs.specs.Inner.Fields.{SigPairs, sig_row}

@@ -1,4 +1,5 @@
 -- Words that the parse of the simple command finds no fault in are words that it takes.
+-- Main results: taken.
 use Rattle.std.proofs.Common.{◌≡◌, ◌&&◌, ◌||◌, not, ℕ, Bool, true, false, zero, suc, List, [], ◌∷◌, Option, Some, None, is_some, length, drop, refl, arith}
 use Rattle.std.specs.Prelude.{if◌then◌else◌, nat_le, codes, encode_utf8, slice_get}
 use Rattle.std.specs.Cmp.Derive.{both_true}

@@ -1,4 +1,5 @@
 -- Rows of the table, and the values that a parse found.
+-- Main results: found_row, parsed, untaken.
 use Rattle.std.proofs.Common.{◌≡◌, ◌∙◌, Bool, List, [], Option, Some, None, sym, ap, subst, codes, true, false}
 use Rattle.clap.specs.Walk.{Row, Text, first_of, rows_of}
 use Rattle.clap.specs.Matches.{found_of}

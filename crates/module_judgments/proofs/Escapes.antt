@@ -1,4 +1,5 @@
 -- Whether a type or a signature can be said without the hidden types is decided, and what it is then is determined.
+-- Main results: type-outside, sig-outside.
 use Rattle.std.specs.Prelude.{List, ◌≡◌, length}
 use Rattle.std.proofs.Math.Path.{sym, subst, ap, ◌∙◌}
 use Rattle.omega_kinds.specs.Kind.{Kind}

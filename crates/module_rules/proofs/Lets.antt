@@ -1,4 +1,5 @@
 -- Lets for the fields of a structure, built from the last one to the first.
+-- Main results: lets-first, lets-next.
 use Rattle.std.specs.Prelude.{ℕ, zero, suc, ◌-◌, ◌<◌, ◌≤◌, [], ◌∷◌, ◌≡◌, length, drop}
 use Rattle.std.proofs.Common.{get_or, arith}
 use Rattle.std.proofs.Math.Path.{refl, sym, ap, ap₂, ◌∙◌}

@@ -1,4 +1,5 @@
 -- A term below one variable, as it stands below those of several opens.
+-- Main results: past-several, past-few.
 use Rattle.std.specs.Prelude.{ℕ, zero, suc, ◌+◌, ◌<◌, ◌≤◌, List, [], ◌∷◌, ◌≡◌, length}
 use Rattle.std.proofs.Common.{arith}
 use Rattle.std.proofs.Math.Path.{refl, sym, ap, ap₂, ◌∙◌, fun_ext}

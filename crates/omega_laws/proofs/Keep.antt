@@ -1,4 +1,5 @@
 -- Steps keep types.
+-- Main results: keeps.
 use Rattle.std.proofs.Common.{◌≡◌, ℕ, zero, suc, refl, sym, ap, ◌∙◌, subst, List, ◌∷◌, ℤ, Bool as Truth, true, false, cond, ◌+ℤ◌, ◌-ℤ◌, ◌*ℤ◌}
 use Rattle.std.specs.Prelude.{int_div, int_rem}
 use Rattle.omega_kinds.specs.Kind.{Kind}

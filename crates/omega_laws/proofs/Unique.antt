@@ -1,4 +1,5 @@
 -- Inversion: each typing is one by the form's own rule, and a conversion. Types are unique up to conversion.
+-- Main results: invert, unique.
 use Rattle.std.proofs.Common.{◌≡◌, ℕ, refl, sym, subst, List, ◌∷◌, ℤ, Bool as Truth}
 use Rattle.omega_kinds.specs.Kind.{Kind}
 use Rattle.omega_kinds.specs.declared.label.Label.{Label}

@@ -1,4 +1,5 @@
 -- The algebra of renaming and substitution on terms: two in a row are one.
+-- Main results: sub_ren_term, two_sub_term.
 use Rattle.std.proofs.Common.{◌≡◌, ℕ, zero, suc, refl, sym, ap, ◌∙◌}
 use Rattle.std.proofs.Math.Path.{fun_ext}
 use Rattle.omega_kinds.specs.declared.label.Label.{Label}

@@ -1,4 +1,5 @@
 -- Records and cases: their parts one after another, and functions that call themselves.
+-- Main results: fix-done, fields-done, branches-done, case-done.
 use Rattle.std.proofs.Common.{◌≡◌, ℕ, zero, suc, ◌+◌, ◌<◌, ◌≤◌, List, [], ◌∷◌, ◌++◌, Option, Some, None, Bool as Truth, true, false, if◌then◌else◌, length, get_or, take, drop, map, refl, sym, ap, ap₂, ◌∙◌, subst, arith, drop-cons}
 use Rattle.std.proofs.lemmas.List.{drop_all, take_all}
 use Rattle.std.proofs.Math.Seq.{take-suc}

@@ -1,4 +1,5 @@
 -- Whether a closed term has a type, from the numbers of that type and of the one that is found for the term.
+-- Main results: checks, fails, holds.
 use Rattle.std.proofs.Common.{◌≡◌, ℕ, ◌<◌, List, [], Option, Some, None, true, false, length, sym, ap, ap₂, ◌∙◌, subst}
 use Rattle.omega_kinds.specs.Kind.{Kind}
 use Rattle.omega_types.specs.Ty.{Ty}

@@ -1,4 +1,5 @@
 -- Where a typed term's nodes have the types that are found for them, they have all their types in normal form.
+-- Main results: nodes, closed-nodes.
 use Rattle.std.proofs.Common.{◌≡◌, zero, suc, List, [], ◌∷◌, Some, map, refl, sym, ap, ap₂, ◌∙◌, subst}
 use Rattle.std.specs.Option.{option_map}
 use Rattle.omega_kinds.specs.Kind.{Kind}

@@ -1,4 +1,5 @@
 -- What has a spelling has its variables in scope.
+-- Main results: read_scope.
 use Rattle.std.proofs.Common.{ℕ, List, Option, Some, None}
 use Rattle.std.specs.Prelude.{Result, Ok, Err, IfOk}
 use Rattle.omega_kinds.specs.declared.label.Label.{Label}

@@ -1,4 +1,5 @@
 -- Parts that stay as they are, and fields that are no parts of a variable.
+-- Main results: parts-differ.
 use Rattle.std.proofs.Common.{◌≡◌, ◌≢◌, suc, [], ◌∷◌, length, Bool as Truth, true, false, ◌&&◌, Option, None, Some, unwrap_or, is_none, refl, ap, ◌∙◌}
 use Rattle.std.proofs.lemmas.Bool.{false≢true}
 use Rattle.std.specs.Ordering.{is_eq}

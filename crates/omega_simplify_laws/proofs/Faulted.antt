@@ -1,4 +1,5 @@
 -- Where a term faults, what it is like faults too.
+-- Main results: faults_too.
 use Rattle.std.proofs.Common.{◌≡◌, ℕ, ℤ}
 use Rattle.omega_terms.specs.declared.op.Op.{Op}
 use Rattle.omega_terms.specs.Term.{Term, TermRow}

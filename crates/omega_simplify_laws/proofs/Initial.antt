@@ -1,4 +1,5 @@
 -- A term is like its simplified one.
+-- Main results: start.
 use Rattle.std.proofs.Common.{◌≡◌, ℕ, zero, suc, ◌+◌, refl, subst, Bool as Truth, true, false, cond, arith}
 use Rattle.std.proofs.lemmas.Bool.{false≢true}
 use Rattle.omega_types.specs.Ty.{Ty}

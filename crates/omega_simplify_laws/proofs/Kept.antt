@@ -1,4 +1,5 @@
 -- The simplified term keeps each type of the term.
+-- Main results: kept.
 use Rattle.std.proofs.Common.{◌≡◌, ◌≢◌, zero, refl, sym, List, ◌∷◌, Bool as Truth, true, false, cond}
 use Rattle.omega_kinds.specs.Kind.{Kind}
 use Rattle.omega_kinds.specs.declared.label.Label.{Label}

@@ -1,4 +1,5 @@
 -- A record that is built anew of the parts of a record of values is that record.
+-- Main results: like_record.
 use Rattle.std.proofs.Common.{◌≡◌, ℕ, refl, ap, ◌∙◌, subst}
 use Rattle.omega_kinds.specs.declared.label.Label.{Label}
 use Rattle.omega_types.specs.Ty.{Ty, Row}

@@ -1,4 +1,5 @@
 -- Each term is like itself.
+-- Main results: itself.
 use Rattle.std.proofs.Common.{ℕ, suc, ◌+◌, arith}
 use Rattle.omega_terms.specs.Term.{Term, TermRow}
 use Rattle.omega_simplify_laws.proofs.Likeness.{Like, AreLike}

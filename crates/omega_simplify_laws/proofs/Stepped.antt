@@ -1,5 +1,6 @@
 -- Where a typed term steps, what it is like either steps to what the new term is like, or stays, the new term having
 -- less left to do.
+-- Main results: follows.
 use Rattle.std.proofs.Common.{◌≡◌, ℕ, zero, suc, ◌+◌, ◌<◌, ◌≤◌, refl, sym, ap, ◌∙◌, subst, ℤ, true, false, arith}
 use Rattle.omega_kinds.specs.Kind.{Kind}
 use Rattle.omega_kinds.specs.declared.label.Label.{Label}

@@ -1,4 +1,5 @@
 -- A text with no more than 4,000 open parentheses outside its text literals spells a term that is no deeper.
+-- Main results: term-shows.
 use Rattle.std.proofs.Common.{◌≡◌, ℕ, suc, ◌+◌, ◌-◌, ◌^◌, ◌<◌, ◌≤◌, max, true, false, List, [], ◌∷◌, ◌++◌, refl, subst, arith}
 use Rattle.std.specs.Prelude.{codes, decimal, flat_map, ◌==◌, nat_lt, Option, Some, None, ℤ, pos, negsuc}
 use Rattle.std.specs.Fmt.{signed_decimal}

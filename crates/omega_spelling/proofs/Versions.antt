@@ -1,4 +1,5 @@
 -- What has a spelling in the first version has one in the second.
+-- Main results: ty-later, term-later.
 use Rattle.std.proofs.Common.{ℕ, ◌+◌, Option, Some, None, refl}
 use Rattle.omega_kinds.specs.declared.label.Label.{Label}
 use Rattle.omega_types.specs.Ty.{Ty, Row}

@@ -1,4 +1,5 @@
 -- Where all variables are in scope, counting them modulo 2^64 gives the texts.
+-- Main results: ty-counted, term-counted.
 use Rattle.std.proofs.Common.{◌≡◌, ℕ, ◌+◌, ◌-◌, ◌%◌, ◌^◌, List, true, false, refl, ap, ap₂, arith}
 use Rattle.std.specs.Prelude.{codes, decimal}
 use Rattle.omega_kinds.specs.Text.{◌then◌}

@@ -1,4 +1,5 @@
 -- A signature and its norm match each other.
+-- Main results: norm_abs-both.
 use Rattle.std.specs.Prelude.{ℕ, List, [], ◌≡◌}
 use Rattle.std.proofs.Common.{arith}
 use Rattle.std.proofs.Math.Path.{refl, sym, ◌∙◌, ap, subst}

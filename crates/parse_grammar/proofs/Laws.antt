@@ -1,4 +1,5 @@
 -- The laws of the grammar: at most one tree, and where a list of tokens that has none goes wrong.
+-- Main results: one_tree, stop_is_farthest, rest_is_farthest, one_farthest.
 use Rattle.std.proofs.Common.{◌≡◌, ℕ, zero, suc, ◌+◌, ◌<◌, ◌≤◌, true, refl, sym, ◌∙◌, ap, subst, List, [], ◌∷◌, ◌++◌, length, take, append_assoc, append-nil, length-append, arith, inl, inr, ◌⊎◌}
 use Rattle.parse_grammar.specs.Grammar.{kind_of, Class, Units, Binds, phrase}
 use Rattle.fing_lexer.specs.declared.token.Token.{Token}

@@ -1,4 +1,5 @@
 -- Reading symbols from the front of a list of tokens, with one token of look-ahead.
+-- Main results: complete.
 use Rattle.std.proofs.Common.{◌≡◌, ℕ, zero, suc, ◌+◌, ◌≤◌, ◌&&◌, true, eqb, refl, sym, ◌∙◌, ap, subst, List, [], ◌∷◌, ◌++◌, append_assoc, eq-eqb, arith}
 use Rattle.std.specs.Prelude.{Some}
 use Rattle.parse_grammar.specs.Grammar.{kind_of, Class, Symbol, phrase, Rule, rhs}

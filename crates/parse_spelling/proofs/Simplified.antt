@@ -1,4 +1,5 @@
 -- Simplified terms stay legible.
+-- Main results: emits-legible.
 use Rattle.std.specs.Prelude.{Bool, true, false, cond, Option, Some, None}
 use Rattle.omega_kinds.specs.declared.label.Label.{Label}
 use Rattle.omega_terms.specs.declared.version.Version.{Version}

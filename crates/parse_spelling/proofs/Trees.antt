@@ -1,4 +1,5 @@
 -- A tree of tokens that have a spelling has names, numbers and texts that have one.
+-- Main results: phrase-spelled.
 use Rattle.std.specs.Prelude.{List, [], ◌∷◌, ◌++◌, Option, Some, None, codes}
 use Rattle.std.proofs.Math.Path.{refl, sym, subst}
 use Rattle.fing_lexer.specs.declared.token.What.{What}

@@ -1,4 +1,5 @@
 -- Pages in colour grow piece by piece.
+-- Main results: plain, styled.
 use Rattle.std.proofs.Common.{◌≡◌, ℕ, List, [], ◌∷◌, ◌++◌, length, arith, refl, sym, subst, ◌∙◌}
 use Rattle.std.proofs.lemmas.List.{append_assoc, append-nil}
 use Rattle.show_colour.specs.Inner.Coloured.{IsColoured, sign}

@@ -1,4 +1,5 @@
 -- The walk over a term that puts types in, and what it leaves as it is.
+-- Main results: walk-fills, walk-closed.
 use Rattle.std.proofs.Common.{◌≡◌, ℕ, suc, ◌+◌, ◌≤◌, refl, sym, ap, ap₂, ◌∙◌, arith}
 use Rattle.omega_types.specs.Ty.{Ty}
 use Rattle.omega_terms.specs.Term.{Term, TermRow}

@@ -1,4 +1,5 @@
 -- The laws as they are stated.
+-- Main results: substitute_twice, root_kept, well_formed_kept, conv_exactly, sub_is_typed, match_is_typed.
 use Rattle.std.proofs.Math.Path.{sym, subst}
 use Rattle.sig_definitions.specs.Signatures.Alike.{NormalSigForm}
 use Rattle.sig_laws.specs.SigLaws.{SubstituteId, SubstituteTwice, SubstituteAgree, SizeKept, PartKept, RootKept, WellFormedKept, ResultsKept, ExplicitKept, WellFormedConv, NormalSigGives, EncNormal, EncInjective, ConvExactly, ConvAbsExactly, OperatorFound}

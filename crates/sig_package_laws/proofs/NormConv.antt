@@ -1,4 +1,5 @@
 -- The norms of convertible signatures, and the conditions on root paths, up to conversion.
+-- Main results: norm_abs-conv, same_abs-conv.
 use Rattle.std.specs.Prelude.{ℕ, List}
 use Rattle.std.proofs.Math.Path.{refl}
 use Rattle.omega_kinds.specs.Kind.{Kind}

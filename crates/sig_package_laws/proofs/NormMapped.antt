@@ -1,4 +1,5 @@
 -- Norm goes with every renaming that keeps kinds.
+-- Main results: norm_abs-mapped.
 use Rattle.std.specs.Prelude.{ℕ, ◌<◌, List, [], ◌∷◌, ◌++◌, ◌≡◌, ◌⊎◌, length}
 use mathlib.Core.Logic.{inl, inr}
 use Rattle.std.proofs.Common.{arith}

@@ -1,4 +1,5 @@
 -- Lists as the code walks over them.
+-- Main results: tail-slice.
 use Rattle.std.proofs.Common.{◌≡◌, ℕ, ◌+◌, ◌≤◌, List, length, take, drop, arith, length-drop, take_all}
 
 -- the end of a list, as a slice

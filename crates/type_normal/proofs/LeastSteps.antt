@@ -1,4 +1,5 @@
 -- The least free index: none from the bound on, none below the first possible one, which is free exactly where it is mentioned.
+-- Main results: first-mentioned.
 use Rattle.std.proofs.Common.{◌≡◌, ℕ, zero, suc, ◌+◌, ◌≤◌, ◌==◌, ◌||◌, min, true, Option, Some, None, refl, ap, ap₂, ◌∙◌, arith}
 use Rattle.std.proofs.lemmas.Bool.Decides.{nat_tests}
 use Rattle.omega_types.specs.Ty.{Ty, Row}

@@ -1,4 +1,5 @@
 -- The test for an index agrees with the relation.
+-- Main results: mentioned-sound, mentioned-complete.
 use Rattle.std.proofs.Common.{◌≡◌, ◌⊎◌, inl, inr, ℕ, suc, ◌==◌, Bool as Truth, true, false, ◌||◌, refl, subst, arith}
 use Rattle.std.proofs.lemmas.Bool.Decides.{nat_tests}
 use Rattle.omega_types.specs.Ty.{Ty, Row}

@@ -1,4 +1,5 @@
 -- Units one after the other: one more that is derived, and the first that is refused.
+-- Main results: so-far, one-more, first-stop.
 use Rattle.std.specs.Prelude.{List, [], ◌∷◌, ◌++◌, ◌≡◌, map}
 use Rattle.std.proofs.Common.{append_assoc, append-nil}
 use Rattle.std.proofs.Math.Path.{sym, subst}

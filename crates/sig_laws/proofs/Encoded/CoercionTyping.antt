@@ -1,4 +1,5 @@
 -- Each coercion of subtyping and of matching has the type that its rule says.
+-- Main results: sub-typed, sub_abs-typed, match-typed.
 use Rattle.std.specs.Prelude.{ℕ, List, [], ◌∷◌, ◌≡◌}
 use Rattle.std.proofs.Math.Path.{refl, sym, ◌∙◌, ap}
 use Rattle.omega_kinds.specs.Kind.{Kind}

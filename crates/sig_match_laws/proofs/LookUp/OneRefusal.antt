@@ -1,4 +1,5 @@
 -- At most one refusal.
+-- Main results: sub-refusal, abs-one, match-one.
 use Rattle.std.specs.Prelude.{◌<◌, List, [], ◌∷◌, ◌≡◌, ◌≢◌, ◌⊎◌, length}
 use Rattle.std.proofs.Math.Logic.{inl, inr}
 use Rattle.std.proofs.Math.Path.{refl, sym, ◌∙◌, ap, ap₂, subst}

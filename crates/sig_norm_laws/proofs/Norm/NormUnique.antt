@@ -1,4 +1,5 @@
 -- Norm gives one signature.
+-- Main results: norm_unique, norm_abs_unique.
 use Rattle.std.specs.Prelude.{ℕ, List, [], ◌≡◌}
 use Rattle.std.proofs.Math.Path.{refl, sym, ap, subst}
 use Rattle.omega_kinds.specs.Kind.{Kind}
