@@ -46,6 +46,7 @@ passed {T} P Q f r e out h =
     subst R (sym p.1) (subst (λ y. IfSome (plain_why y) Q) (sym p.2) (some-weaker (plain_why e) P Q f h))
 
 -- a last call's answer
+-- what holds of what a call gives, if it gives something, may be weakened
 pub given-more : {T E : Type 0} (P Q : T → Type 0) → ((x : T) → P x → Q x) → (r : Result T E) → IfOk r P → IfOk r Q
 given-more P Q f (Ok x) h = f x h
 given-more P Q f (Err e) h = tt
@@ -89,6 +90,7 @@ pub call-given : (f v t u p w : Ty) (d a x : Term) → f ≡ Ty.Arrow t u → p 
 call-given f v t u p w d a x e q r is ix = rw (e, r ∙ q, is, ix) CallGives.call
 
 -- instances
+-- an instance at a type of another kind than the quantifier's is refused
 pub instance-kind : (f t u : Ty) (k j a b : Kind) → f ≡ Ty.All k u → j ≢ k → a ≡ j → b ≡ k → InstanceRefuses f t j (KindDiffer a b)
 instance-kind f t u k j a b e n p q = rw (e, p, q) (InstanceRefuses.arg_kind n)
 
@@ -98,6 +100,7 @@ instance-given ctx f t u p v k j d x e q r is ix n m =
     rw (e, r, is ∙ ap (hsubst k zero t) q, ix) (InstanceGives.instance (instance-gives (subst (λ s. Normal ctx s Kind.Star) e n) (subst (Normal ctx t) r m)))
 
 -- fields
+-- of an option that is no value, the case of none holds
 pub none-case : (o : Option Ty) (P : Type 0) (Q : Ty → Type 0) → ((t : Ty) → o ≡ Some t → ⊥) → MatchOption o P Q → P
 none-case None P Q n h = h
 none-case (Some t) P Q n h = absurd (n t refl)

@@ -32,6 +32,7 @@ pub label-missing : (t : Ty) (r : Row) (l : Name) (why : CoreWhy) → t ≡ Ty.S
 label-missing t r l why e h = rw (e, h.1) (LabelRefuses.no_label h.0)
 
 -- injections
+-- an injection whose type is no sum is refused
 pub injection-no_sum : (l : Name) (v t w : Ty) (k : Kind) → k ≡ Kind.Star → w ≡ t → IsNoSum t → InjectionRefuses l v t k (NotSum w)
 injection-no_sum l v t w k e q n = rw (e, q) (InjectionRefuses.no_sum n)
 
@@ -48,6 +49,7 @@ pub injection-given : (l : Name) (v t u w : Ty) (r : Row) (k : Kind) (d x : Term
 injection-given l v t u w r k d x e q h is iw ix = rw (e, iw, ix, q, is) (InjectionGives.injection h)
 
 -- cases
+-- a case on what is of no sum type is refused
 pub case-no_sum : (w t f : Ty) (k : Kind) (bs : List FieldExp) → f ≡ w → IsNoSum w → CaseRefuses w t k bs (NotSum f)
 case-no_sum w t f k bs e n = rw (e) (CaseRefuses.no_sum n)
 

@@ -38,6 +38,7 @@ each-answered g (a_bind b) h f = bind-one g h b
 each-answered g (binds before bs) h f = binds-one g h before f bs
 
 -- steps and rules
+-- the steps of each task's rule give just what the inductive rules derive
 pub steps-say-the-rules : StepsSayTheRules
 steps-say-the-rules g a o = (means-runs g a o, runs-sound (steps g a) (Means g a) (steps-sound g a) o)
 

@@ -56,6 +56,7 @@ pub type-form : {ctx : List Kind} {a : Ty} → (l : Name) → Normal ctx a Kind.
 type-form l h = AlikeSig.str (AlikeRow.more (AlikeSig.typ (its-form h)) AlikeRow.end)
 
 -- normal types
+-- the encoding of a structure of one normal type is normal
 pub one-normal : {ctx : List Kind} {a : Ty} → (l : Name) → Normal ctx a Kind.Star → Normal ctx (enc (one_type l a)) Kind.Star
 one-normal l h = n_fields (n_more tt (shown-normal h) n_end)
 

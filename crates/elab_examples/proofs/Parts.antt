@@ -42,6 +42,7 @@ pub own-path : {ctx : List Kind} {t : Ty} {k : Kind} → Normal ctx t k → Outs
 own-path {ctx} {t} {k} h = Outside.outside t (subst (λ u. Conv ctx u t k) (sym (rename-id t)) (c_refl (normal-kind h))) (its-form h)
 
 -- normal types
+-- the first variable of a context, of kind *, is normal
 pub var0 : {ctx : List Kind} → Normal (Kind.Star ∷ ctx) (Ty.Var 0) Kind.Star
 var0 = n_neutral (n_var here)
 

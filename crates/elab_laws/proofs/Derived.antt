@@ -270,7 +270,7 @@ mutual
       let e = decl_explicit g h d in
       more-decls e n (subst (λ c. GoodDecls c (with_names fs names) (Abs.Ex js (Sig.Str gs))) (under-fields g ks fs) (decls_good (named_fields (type_vars g ks) fs) (good-declared g ks fs h e) r))
 
-  -- modules are well formed
+  -- a module phrase means a module whose signature is well formed, and which keeps types of the right kinds
   pub module_good : (g : Env) {a : Mod} {m : Module} → IsGoodEnv g → ModMeans g a m → GoodModule (kinds g) m
   module_good g h (ModMeans.mod_name {x = x} (NamedGives.named {s = s} {e = e} p)) = pure (find-well_formed g (name_of x) h (s, e) p) OfKinds.none
   module_good g h (ModMeans.mod_struct b) = binds_good g h tt b

@@ -51,6 +51,7 @@ module-good (GoodModule.pure g n h) = g
 module-good (GoodModule.impure g h) = g
 
 -- packing
+-- the packed term of a good module has the type of its encoded signature
 pub packed-typed : {ctx : List Kind} {vs : List Ty} {f : Effect} {ks : List Kind} {s : Sig} {ts : List Ty} {e p : Term} → GoodModule ctx vs (made f (Abs.Ex ks s) ts e) → Packed ctx (made f (Abs.Ex ks s) ts e) p → Typed ctx vs p (ex_over ks (enc s))
 packed-typed (GoodModule.pure g n h) (Packed.pure p) = typed-packs n (good-normal g) h refl p
 packed-typed (GoodModule.impure g h) Packed.impure = h
@@ -125,6 +126,7 @@ path-value {vs = vs} (GoodModule.impure g h) (ValueOfPath.value_at {ks = ks} {t 
     typed-opens ks (outside-normal o) (good-normal g) h (cast (outside-raised g.normal o) (Typed.get (Typed.var (at-opened (enc (Sig.Val t)) ks vs)) HasPart.here))
 
 -- projection
+-- a projection from a good module is good
 pub project-typed : {ctx : List Kind} {vs : List Ty} {l : Name} {M N : Module} → GoodModule ctx vs M → Projected ctx M l N → GoodModule ctx vs N
 project-typed {ctx} (GoodModule.pure {ts = ts} g n h) (Projected.pure f) = GoodModule.pure (good-field f g.normal g.shape) n (Typed.get h (form-part ctx (puts ts Ty.Var) (enc-field f)))
 project-typed {ctx} {vs} (GoodModule.impure {ks = ks} g h) (Projected.impure {fs = fs} {s = s} f p) =

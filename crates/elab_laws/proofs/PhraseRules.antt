@@ -56,6 +56,7 @@ in-module {M} s g ks x m =
     (subst (λ v. GoodModule (kinds (type_vars g ks)) (enc s ∷ v) M) (types-type_vars g ks) m)
 
 -- signatures of paths
+-- the signature of a path to a good module is good
 pub path-sig : {ctx : List Kind} {vs : List Ty} {M : Module} {x : Abs} → GoodModule ctx vs M → SigOfPath ctx M x → GoodAbs ctx x
 path-sig m (SigOfPath.sig_of {ks = ks} (SigOutside.outside y c f)) =
     record { normal = form_abs-normal f; shape = shape_abs-alike f (shape_abs-unrename (past ks) y (shape_abs-unalike c (module-good m).shape)) }
@@ -83,6 +84,7 @@ join-decls {ctx} {ks} {js} {before} {fs} {gs} g new (GoodDecls.decls h none) =
     (no_fields-joined r before fs gs new none)
 
 -- functors
+-- an applicative functor with a good parameter and a good body is a good module
 pub applicative-good : {ctx ks bs : List Kind} {vs ts : List Ty} {s r : Sig} {z : Abs} {e : Term} → Good (extend ctx ks) s → GoodModule (extend ctx ks) (enc s ∷ shifts ks vs) (made Pure (Abs.Ex bs r) ts e) → Lift ctx ks s (Abs.Ex bs r) z → GoodModule ctx vs (made Pure z (lifted_types ks ts) (ty_lam_over ks (Term.Lam (enc s) (one_field Label.App e))))
 applicative-good {ctx} {ks} {vs = vs} {ts = ts} {s = s} {e = e} g (GoodModule.pure h n d) l =
     let L = lift-typed n g h l in
@@ -96,6 +98,7 @@ generative-good {ks = ks} g m p =
     (typed-ty_lam_over ks (Typed.lam (good-normal g) (Typed.fields (TypedFields.more (packed-typed m p) tt TypedFields.end))))
 
 -- application
+-- the application of a good functor to a good argument that matches is a good module
 pub apply-good : {ctx ks : List Kind} {vs ts : List Ty} {f : Effect} {s t : Sig} {y w : Abs} {c d e : Term} → Good ctx (Sig.Fun f ks s y) → Typed ctx vs d (enc (Sig.Fun f ks s y)) → Good ctx t → Typed ctx vs e (enc t) → Match ctx t (Abs.Ex ks s) ts c → NormalAbsForm ctx (abs_at ts y) w → GoodModule ctx vs (made f w [] (Term.Get (Term.Call (insts d ts) (Term.Call c e)) (result_label f)))
 apply-good {ctx} {ks} {vs} {ts} {f} {s} {t} {y} {w} {c} {d} {e} g hd i he m n = by_effect f y w g.shape.2 n good typed
   where

@@ -117,7 +117,7 @@ sig-in {g} {h} {a} {x} s o p = subst (λ e. OkRight (kinds e) x) (sym s) (sig_ok
 pub module-in : {g h : Env} {m : Mod} {M : Module} → h ≡ g → OkEnv g → ModMeans g m M → KindedModule (kinds h) M
 module-in {g} {h} {m} {M} s o p = subst (λ e. KindedModule (kinds e) M) (sym s) (kinded (kinds g) M (mod_ok g m M o p))
 
--- the parameter of functors
+-- the environment with the parameter of a functor, and the types that it hides, is good
 pub param-in : {g h : Env} {a : SigEx} (x : Abs) (l : Name) → h ≡ g → OkEnv g → SigMeans g a x → OkEnv (with_module h (kinds_of x) l (body_of x))
 param-in {g} {h} {a} x l s o p = subst (λ e. OkEnv (with_module e (kinds_of x) l (body_of x))) (sym s) (param-env g a x l o p)
 

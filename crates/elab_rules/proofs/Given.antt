@@ -31,7 +31,7 @@ ok-map {P = P} {Q = Q} r h f = IfOk-weaker r P Q f h
 pub err-map : {T E : Type 0} {P Q : E → Type 0} (r : Result T E) → IfErr r P → ((e : E) → P e → Q e) → IfErr r Q
 err-map {P = P} {Q = Q} r h f = IfErr-weaker r P Q f h
 
--- the same at each place
+-- what holds of what a call gives for each value of a parameter, if it gives something
 pub ok-at : {T E A : Type 0} {P : T → Type 0} {Q : T → A → Type 0} (r : Result T E) → IfOk r P → ((x : T) → P x → (a : A) → Q x a) → IfOk r (λ x. (a : A) → Q x a)
 ok-at {A = A} {P = P} {Q = Q} r h f = IfOk-weaker r P (λ x. (a : A) → Q x a) f h
 
@@ -39,7 +39,7 @@ ok-at {A = A} {P = P} {Q = Q} r h f = IfOk-weaker r P (λ x. (a : A) → Q x a) 
 pub err-at : {T E A : Type 0} {P : E → Type 0} {Q : E → A → Type 0} (r : Result T E) → IfErr r P → ((e : E) → P e → (a : A) → Q e a) → IfErr r (λ e. (a : A) → Q e a)
 err-at {A = A} {P = P} {Q = Q} r h f = IfErr-weaker r P (λ e. (a : A) → Q e a) f h
 
--- whatever it answers
+-- what holds anyhow holds where a call gives something
 pub stays : {T E P : Type 0} (r : Result T E) → P → OnOk r P
 stays (Ok x) h = h
 stays (Err e) h = tt
@@ -52,7 +52,7 @@ value-env {g} {a} {t} x h m = (type_ok g a t Kind.Star h m, h)
 pub fix-env : {g : Env} {a b : TyEx} {t u : Ty} (f x : Name) → OkEnv g → TyMeans g a t Kind.Star → TyMeans g b u Kind.Star → OkEnv (Value x t ∷ Value f (Ty.Arrow t u) ∷ g)
 fix-env {g} {a} {b} {t} {u} f x h m n = let p = type_ok g a t Kind.Star h m in (p, (n_arrow p (type_ok g b u Kind.Star h n), h))
 
--- a type of values
+-- a type phrase that is refused is refused where a type of values is asked for
 pub no_type : {g : Env} {a : TyEx} {e : CodeRefusal} → RefusedAs g (a_type a) e → NoValueType g a e
 no_type {e = e} h = record { stands = says-map e (λ r q. inl q) h.stands }
 

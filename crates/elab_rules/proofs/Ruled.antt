@@ -26,7 +26,7 @@ use Rattle.fing_refusals.specs.Inner.Plain.{plain_clash}
 use Rattle.fing_refusals.specs.declared.refusal.ElabWhy.TheVariants as reason
 use Rattle.elab_rules.specs.Inner.Modules.{MatchPlaced}
 
--- a name
+-- a name that gives a module is found with the body of its signature and its term
 pub named-found : {g : Env} {l : Name} {f : Effect} {y : Abs} {ts : List Ty} {d : Term} → NamedGives g l (made f y ts d) → find g l ≡ Some (body_of y, d)
 named-found (NamedGives.named p) = p
 

@@ -22,18 +22,18 @@ use Rattle.fing_refusals.specs.declared.refusal.Refusal.{Refusal as CodeRefusal}
 use Rattle.elab_rules.specs.Inner.Answered.{RefusedAs, ByRule, ByTest, ByMatch, ByWhere, NoValueType, ByInjection, InjectionRefused, ByRoll, RollRefused}
 use Rattle.elab_rules.proofs.Placing.{says-map}
 
--- a premise is refused
+-- a phrase is refused where a premise of its rule is
 pub within : {g h : Env} {a b : Task} {e : CodeRefusal} → Enters (steps g a) h b → RefusedAs h b e → RefusedAs g a e
 within {e = e} p h = record { stands = says-map e (λ r q. inside p q) h.stands }
 
--- a rule is refused
+-- a phrase is refused where a rule among its steps is
 pub fails : {g h : Env} {at : Span} {a : Task} {W : Type 0} {reason : W → ElabWhy} {Refuses : W → Type 0} {e : CodeRefusal}
     → ((r : Refusal) → (why : W) × Refuses why × (r ≡ refuse h at (reason why)) → Fails (steps g a) r)
     → ByRule reason h at Refuses e
     → RefusedAs g a e
 fails {e = e} f h = record { stands = says-map e (λ r q. here (f r q)) h.stands }
 
--- a condition fails
+-- a phrase is refused where a condition among its steps fails
 pub tested : {g h : Env} {at : Span} {a : Task} {F : Type 0} {why : ElabWhy} {e : CodeRefusal}
     → ((r : Refusal) → F × (r ≡ refuse h at why) → Fails (steps g a) r)
     → ByTest h at F why e
@@ -52,7 +52,7 @@ valued {g} {h} {a} {b} {e} p f n = record { stands = says-map e go n.stands }
     go r (inl q) = inside p q
     go r (inr q) = here (f q.0 q.1 r q.2 q.3)
 
--- matching is refused
+-- a phrase is refused where a match among its steps is
 pub unmatched : {g h : Env} {at : Span} {a : Task} {s : Sig} {y : Abs} {e : CodeRefusal}
     → ((r : Refusal) → (q : MatchRefusal) × RefusesMatch (kinds h) s y q × (r ≡ refuse_match h at q) → Fails (steps g a) r)
     → ByMatch h at s y e
@@ -66,7 +66,7 @@ pub refined : {g h : Env} {a : Task} {ks : List Kind} {s : Sig} {z : SpanName} {
     → RefusedAs g a e
 refined {e = e} f h = record { stands = says-map e (λ r q. here (f r q)) h.stands }
 
--- an injection is refused
+-- a phrase is refused where an injection among its steps is
 pub injected : {g h : Env} {a : Task} {x : SpanName} {v p : Span} {t u : Ty} {e : CodeRefusal}
     → ((r : Refusal) → InjectionRefused h x v t p u r → Fails (steps g a) r)
     → ByInjection h x v t p u e

@@ -110,7 +110,7 @@ module _ (v : Version) where
   branch-legible h HasBranch.here = h.0
   branch-legible h (HasBranch.there d b) = branch-legible h.1 b
 
-  -- in the order of the sum's labels
+  -- the legible terms of branches are legible in the order of the sum's labels
   pub in_order-legible : {branches : List FieldExp} {row : Row} {es : TermRow} (last : Option Label) → RowLegible v last row → PartsLegible branches
       → InOrder branches row es → TermRowLegible v last es
   in_order-legible last h g InOrder.no_labels = tt

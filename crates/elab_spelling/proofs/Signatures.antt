@@ -85,7 +85,7 @@ module _ (v : Version) where
           (Some (Label.Name l)) rest a h.3,
     )
 
-  -- at types for the variables of binders, the other variables being renamed
+  -- a legible signature at legible types for binders' variables, the other variables being renamed, is legible
   pub sig_at-legible : (ts : List Ty) (r : ℕ → ℕ) (s : Sig) → TypesLegible v ts → SigLegible v s → SigLegible v (substitute_sig (puts ts (λ i. Ty.Var (r i))) s)
   sig_at-legible ts r s g h = substitute_sig-legible (puts ts (λ i. Ty.Var (r i))) s (puts-legible v ts (λ i. Ty.Var (r i)) g (λ i. tt)) h
 

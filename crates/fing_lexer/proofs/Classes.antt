@@ -81,7 +81,7 @@ tilde_lexeme : (bs : List ℕ) → lexeme (126 ∷ bs) ≡ number_of (λ n. neg_
 unfolding lexeme
 tilde_lexeme bs = refl
 
--- a number behind `~`
+-- the longest token at a tilde with a digit behind it is the negative number of all digits that follow
 pub negative_found : (b : ℕ) (bs : List ℕ) → is_ascii_digit b ≡ true
     → Longest (126 ∷ b ∷ bs) (suc (suc (prefix_len is_ascii_digit bs))) (what.Int (neg_ℤ (pos (value_behind 0 (b ∷ take (prefix_len is_ascii_digit bs) bs)))))
 negative_found b bs d = record {

@@ -177,7 +177,7 @@ second p = p.1
 pub first_at : (bytes : List ℕ) (at : ℕ) → get_or (drop at bytes) 0 0 ≡ get_or bytes at 0
 first_at bytes at = get_or-drop at bytes 0 0 ∙ ap (λ k. get_or bytes k 0) (omega arith)
 
--- one more byte of the text
+-- one more byte of a text is read as what is spelled there
 pub on_spelled : (bytes rest : List ℕ) (at x n : ℕ) (front : List ℕ) → Reads bytes rest at front → nat_eq (get_or rest 0 0) 34 ≡ false → spelled rest ≡ Some (x, n) → Reads bytes (drop n rest) (at + n) (front ++ x ∷ [])
 on_spelled bytes [] at x n front r q e = absurd (cc)
 on_spelled bytes (b ∷ []) at x n front r q e = last (is_plain b) e
@@ -242,7 +242,7 @@ on_bad bytes rest at front r q e = ended bytes None (r.same ∙ ap (behind at fr
         slash true e = escape (escaped c) e
         slash false e = plain (is_plain b) e
 
--- no quote was found
+-- bytes that are read up to their end without a quotation mark end no text
 pub at_end : (bytes : List ℕ) (at : ℕ) (front : List ℕ) → Reads bytes (drop at bytes) at front → length bytes ≤ at → EndsText bytes None
 at_end bytes at front r h = ended bytes None (r.same ∙ ap (behind at front) (by (drop at bytes) (omega (arith, r.place))))
   where

@@ -100,7 +100,7 @@ pub told_is : {n : Class} {tokens : List Token} {ms : List Move} {v : Value n}
     → (d : Trees (phrase n ∷ [])) × (spelling d ≡ tokens) × (track d [] ≡ ms) → told n ms ≡ Some v → Phrase n tokens v
 told_is {n} {tokens} {ms} {v} q e = record { parts = q.0; spelled = q.1; given = some_same (sym (tells q.0 ms q.2) ∙ e) }
 
--- and something is told
+-- of the moves that give a tree something is told
 pub told_some : {n : Class} {tokens : List Token} {ms : List Move}
     → (d : Trees (phrase n ∷ [])) × (spelling d ≡ tokens) × (track d [] ≡ ms) → told n ms ≡ None → ⊥
 told_some {ms = ms} q e = let h : None ≡ Some (values q.0).0 = sym e ∙ tells q.0 ms q.2 in absurd (cc)

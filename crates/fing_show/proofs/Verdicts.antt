@@ -69,7 +69,7 @@ reasoned reason.Mem h = absurd (h refl)
 pub reported : (e : CodeRefusal) → (e.why ≡ reason.Mem → ⊥) → IsReported e (verdict.NoMeaning e.at)
 reported e h = let q = reasoned e.why h in IsReported.reported {r = Refuse (place e.at) e.types q.0} (ap (refused (place e.at) e.types) q.1)
 
--- a place without token
+-- bytes that have no tokens are judged so, with the reason
 pub no-tokens : (bytes : List ℕ) (why : LexRefusal) → (why ≡ lex.Mem → ⊥) → (why ≡ lex.Mem) ⊎ RefusalOf bytes why → Judges bytes (verdict.NoTokens why)
 no-tokens bytes why h (inl e) = absurd (h e)
 no-tokens bytes why h (inr r) = Judges.unlexed r

@@ -81,7 +81,7 @@ pub none_yet : (units : List UnitTree) (done : List CodeUnit) (under : List Inte
     → UnitsMean [] (take 0 units) (units_of done) × (under ≡ map interface_of (units_of done)) × (env ≡ env_of under)
 none_yet units done under env p q r = rw (p, q, r) (UnitsMean.none, refl, refl)
 
--- one more unit is elaborated
+-- with one more unit elaborated, the first units mean one module more
 pub one_more : (units : List UnitTree) (n : ℕ) (u : UnitTree) (ms : List UnitModule) (under : List Interface) (next : CodeUnit) → n < length units → u ≡ get_or units n u
     → UnitsMean [] (take n units) ms → under ≡ map interface_of ms → IsNext under u next → UnitsMean [] (take (n + 1) units) (ms ++ unit_of next ∷ [])
 one_more units n u ms under next h is before same x =
@@ -106,11 +106,11 @@ more_scope under after before same env next scope kept pushed more =
     let y = sig_in (module_of next.module) in
     pushed ∙ (ap (λ (g : Env). with_interface g next.name y) (kept ∙ scope) ∙ (sym (env-more under next.name y) ∙ sym (ap env_of more)))
 
--- all units are elaborated
+-- when all units are elaborated, they mean the modules
 pub all_units : (units : List UnitTree) (n : ℕ) (ms : List UnitModule) → length units ≤ n → UnitsMean [] (take n units) ms → UnitsMean [] units ms
 all_units units n ms h m = subst (λ (us : List UnitTree). UnitsMean [] us ms) (take_all n units h) m
 
--- one is refused
+-- the refusal of a unit after units that were elaborated is the first of all
 pub stops : (units : List UnitTree) (n : ℕ) (u : UnitTree) (ms : List UnitModule) (under : List Interface) (e : Refusal) → n < length units → u ≡ get_or units n u
     → UnitsMean [] (take n units) ms → under ≡ map interface_of ms → Says e (UnitRefused (env_of under) u) → Says e (FirstRefused [] units)
 stops units n u ms under e h is before same s =
@@ -179,6 +179,6 @@ link_means {us} {ms} m h k =
     let l = linked-is-derived us ms h in
     (l.packed, subst (λ (n : Module). DerivesUnits us n l.packed) (sym (l.only_link m k)) l.means)
 
--- and the first refusal is that of the program
+-- the first refusal of units is that of their program
 pub refuses_units : (us : List UnitTree) (e : Refusal) → Says e (FirstRefused [] us) → Says e (RefusesUnits us)
 refuses_units us e s = says (e ≡ want_of_memory) (FirstRefused [] us) (RefusesUnits us) (plain_refusal e) (first_refused us) s

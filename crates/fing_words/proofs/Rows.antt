@@ -18,7 +18,7 @@ pub none_given : (rows : List Row) (found : Option CommandLine) → found ≡ No
 none_given rows found none missing =
     subst (IsFound rows) (sym none) (λ l is. let bad : Some is.command ≡ None = sym is.given ∙ missing in cc)
 
--- nor where the flag has no value
+-- where no value of the flag is given, no line is found
 pub none_flagged : (rows : List Row) (found : Option CommandLine) → found ≡ None → first_of (codes "simplify") rows ≡ None → IsFound rows found
 none_flagged rows found none missing =
     subst (IsFound rows) (sym none) (λ l is. let bad : Some is.simplify ≡ None = sym is.flagged ∙ missing in cc)
@@ -71,6 +71,6 @@ parsed a words m found is matches faultless line =
     let none : fault_of simple_command words ≡ [] = ap (λ (x : App). fault_of x words) (sym is) ∙ faultless (ap is_simple_and_free is) in
     read_as_found words found (taken words none) (subst (λ (r : List Row). IsFound r found) rows line)
 
--- and those of a parse that did not fail for want of memory
+-- words that the parse does not take are no command line
 pub untaken : (a : App) (words : List Text) → a ≡ simple_command → (takes a words ≡ true → ⊥) → (l : CommandLine) → IsCommandLine words l → ⊥
 untaken a words is refused l line = refused (ap (λ (x : App). takes x words) is ∙ line.taken)

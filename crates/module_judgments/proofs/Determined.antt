@@ -184,7 +184,7 @@ seq-kinded ctx ks Pure s ts e (made Impure (Abs.Ex js t) us d) a b = seq-impure 
 seq-kinded ctx ks Impure s ts e (made Pure (Abs.Ex js t) us d) a b = seq-impure ctx ks s ts e js t us d Impure Pure refl (λ N m. seq-view Impure Pure m) a b
 seq-kinded ctx ks Impure s ts e (made Impure (Abs.Ex js t) us d) a b = seq-impure ctx ks s ts e js t us d Impure Impure refl (λ N m. seq-view Impure Impure m) a b
 
--- the same of well formed modules
+-- a field of a well formed structure has exactly one projection
 pub projected-one : (ctx ks : List Kind) (f : Effect) (fs : SigRow) (ts : List Ty) (e : Term) (l : Name) (t : Sig) → OkAbs ctx (Abs.Ex ks (Sig.Str fs)) → HasField fs l t → One (Projected ctx (made f (Abs.Ex ks (Sig.Str fs)) ts e) l)
 projected-one ctx ks f fs ts e l t w h = projected-kinded ctx ks f fs ts e l t (shape_abs-distinct (Abs.Ex ks (Sig.Str fs)) (well_formed_abs-shape w.0), w.1) h
 

@@ -264,7 +264,7 @@ one_apply ctx s d ts c e n fits = go (sig-functor s)
         holds r.0 r.1 r.2 (λ why q. (functor-refused q).0 p.0 p.1 p.2 p.3 i)
     go (none never) = refuses NotFunctor (FunctorRefuses.no_functor (λ f ks t x. never (f, ks, t, x))) (λ why q. (functor-refused q).1) (λ m g. let v = apply-parts g in let u = parts-view {o = v.0} v.1 in never (v.0.0, u.0, u.1, v.0.2) u.2)
 
--- at the types of a match
+-- a functor at the types of a match has exactly one application
 pub applies-one : {ctx : List Kind} {s t : Sig} {f : Effect} {param result : Abs} {ts : List Ty} {c d e : Term} → PartsGive s f param result → Match ctx t param ts c → OkSig ctx s → One (ApplyGives ctx s d ts c e)
 applies-one PartsGive.parts m w = apply-one (match-kinds m) w.1
 
@@ -294,7 +294,7 @@ include-kinded ctx ks f fs ts e rest v inner =
     let q = seq-kinded ctx ks f (Sig.Str fs) ts e (with_lets fs rest) v (lets-kinded (extend ctx ks) fs rest v.0.0 v.0.1 inner) in
     (q.0, include-gives rest q.1, λ m g. let u = include-view g in q.2 m (subst (λ gs. Seq ctx (made f (Abs.Ex ks (Sig.Str gs)) ts e) (with_lets gs rest) m) (sym (str-same u.1)) u.2))
 
--- the same of well formed modules
+-- the rule of includes has exactly one conclusion for well formed modules
 pub include-one : (ctx ks : List Kind) (f : Effect) (fs : SigRow) (ts : List Ty) (e : Term) (rest : Module) → OkModule ctx (made f (Abs.Ex ks (Sig.Str fs)) ts e) → OkModule (extend ctx ks) rest → One (IncludeGives ctx (made f (Abs.Ex ks (Sig.Str fs)) ts e) rest)
 include-one ctx ks f fs ts e rest v inner = include-kinded ctx ks f fs ts e rest (kinded ctx (made f (Abs.Ex ks (Sig.Str fs)) ts e) v) (kinded (extend ctx ks) rest inner)
 

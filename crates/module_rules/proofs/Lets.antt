@@ -25,11 +25,11 @@ past-all zero (x ∷ fields) le = absurd (omega (arith, le))
 past-all (suc n) [] le = refl
 past-all (suc n) (x ∷ fields) le = past-all n fields (omega (arith, le))
 
--- none is built yet
+-- before the first let is built, the body is that of no lets
 pub lets-first : (fields : SigPairs) (n : ℕ) (body : Term) → n ≡ length fields → body ≡ field_lets n (sig_row (drop n fields)) body
 lets-first fields n body e = ap (λ fs. field_lets n (sig_row fs) body) (sym (past-all n fields (omega (arith, e))))
 
--- one let more
+-- one let more is put around the term, for the field before
 pub lets-next : (fields : SigPairs) (left : ℕ) (field : Name × Sig) (name : Name) (ty : Ty) (whole part term more body : Term) → 0 < left → left ≤ length fields → term ≡ field_lets left (sig_row (drop left fields)) body → field ≡ get_or fields (left - 1) field → name ≡ field.0 → whole ≡ Term.Var (left - 1) → part ≡ Term.Get whole (Label.Name name) → ty ≡ enc field.1 → more ≡ let_in ty part term → more ≡ field_lets (left - 1) (sig_row (drop (left - 1) fields)) body
 lets-next fields zero field name ty whole part term more body lt le e ef en ew ep et em = absurd (omega (arith, lt))
 lets-next fields (suc n) field name ty whole part term more body lt le e ef en ew ep et em =

@@ -40,7 +40,7 @@ vars-drop (k ∷ items) (suc n) d lt =
     let e : length items - suc n ≡ length (k ∷ items) - suc (suc n) = omega arith in
     vars-drop items n d (omega (arith, lt)) ∙ ap (λ i. eta (kind_tree (get_or items n d)) (Ty.Var i) ∷ vars (map kind_tree (drop (suc n) items))) e
 
--- one variable more
+-- one variable more is built, and the whole list stays the one to come
 pub own-next : (items : List SharedKind) (n inner : ℕ) (kind : SharedKind) (t : Ty) (ts more whole : List Ty) → n < length items → kind ≡ get_or items n kind → inner + n ≡ length items → t ≡ shift (inner - 1) 0 (eta (kind_tree kind) (Ty.Var 0)) → ts ++ vars (map kind_tree (drop n items)) ≡ whole → more ≡ ts ++ t ∷ [] → more ++ vars (map kind_tree (drop (n + 1) items)) ≡ whole
 own-next items n inner kind t ts more whole lt ek ei et ew em =
     let one : n + 1 ≡ suc n = omega arith in
@@ -62,7 +62,7 @@ own-done items ks n ts e le ew =
 
 -- binders of two lists, one after the other
 
--- one item more of a second list, mapped, behind a first one
+-- with one item more of a second list pushed, the list is longer by what it becomes
 pub pushed-next : {A B : Type 0} (f : A → B) (first ys more : List B) (xs : List A) (n : ℕ) (x : A) (y : B) → n < length xs → x ≡ get_or xs n x → y ≡ f x → ys ≡ first ++ map f (take n xs) → more ≡ ys ++ y ∷ [] → more ≡ first ++ map f (take (n + 1) xs)
 pushed-next f first ys more xs n x y lt ex ey eys em =
     let one : suc n ≡ n + 1 = omega arith in

@@ -89,7 +89,7 @@ places (k ∷ ks) count len le (suc i) =
 none-passed : VarsTy Ty.Var (bump 0 0) same_index
 none-passed i = let e : 0 + i ≡ i = omega arith in ap Ty.Var e
 
--- more opens than one
+-- a term past several opens, made by one shift and one substitution
 pub past-several : (ks : List Kind) (count : ℕ) (e shifted v out : Term) → 2 ≤ count → shifted ≡ shift_term e 0 count → v ≡ Term.Var zero → out ≡ put_term shifted count v → length ks ≡ count → out ≡ past_opens ks e
 past-several ks count e shifted v out le es ev eo len =
     eo ∙ (ap₂ (λ d a. put_term d count a) es ev ∙ term-past Ty.Var (bump 0 0) same_index (put_at count (Term.Var zero)) (bump count 0) (lift (past_opened ks)) e none-passed (places ks count len le))
@@ -100,7 +100,7 @@ few-passed [] (suc i) lt = refl
 few-passed (k ∷ []) (suc i) lt = refl
 few-passed (k ∷ l ∷ ks) (suc i) lt = absurd (omega (arith, lt))
 
--- one at most
+-- a term past one open at most is the term itself
 pub past-few : (ks : List Kind) (count : ℕ) (e : Term) → count < 2 → length ks ≡ count → e ≡ past_opens ks e
 past-few ks count e lt len =
     let few : length ks < 2 = omega (arith, lt, len) in

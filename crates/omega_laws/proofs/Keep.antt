@@ -220,7 +220,7 @@ there_keeps : (l : Label) (e : Term) (f f' : TermRow) → KeepFields f f' → Ke
 there_keeps l e f f' x ctx vars r g (FieldsHave.more {r = q} h n i) = FieldsHave.more h n (x ctx vars q g i)
 
 mutual
-  -- steps keep types
+  -- a step keeps each type of a term
   pub keeps : {e d : Term} → Step e d → Keeps e d
   keeps (Step.call_function {f = f} {g = h} {a = a} s) = by_rule _ _ (call_function_keeps f h a (keeps s))
   keeps (Step.call_arg {f = f} {a = a} {b = b} v s) = by_rule _ _ (call_arg_keeps f a b (keeps s))

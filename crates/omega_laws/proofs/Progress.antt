@@ -203,6 +203,7 @@ own_canon (IsValue.inj v) (Own.inj d p h) c n = by_form (Canon.inj v) (c_trans (
 own_canon (IsValue.roll v) (Own.roll d h) c n = by_form (Canon.roll v) (c_trans (c_sym d) c) mu_some n
 
 -- canonical forms
+-- a closed value of a type that has a form is of the form that belongs to it
 pub canon : (v : Term) (t : Ty) → HasType [] [] v t → form t ≢ Form.no_form → IsValue v → Canon (form t) v
 canon v t h n i = let r = invert (good-none []) h in own_canon i r.own r.to n
 
@@ -278,6 +279,7 @@ more_goes l e f p q r (FieldsHave.more {t = t} {r = s} h d i) = more_progress l 
 
 mutual
   -- progress
+  -- a closed typed term is a value, steps or faults
   pub progress : (e : Term) → Goes e
   progress (Term.Var n) = by_rule (Term.Var n) (var_goes n)
   progress (Term.Int z) = λ t h. Progress.value IsValue.int

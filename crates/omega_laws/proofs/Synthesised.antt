@@ -354,7 +354,7 @@ mutual
   normals g SynthFields.end = refl
   normals g (SynthFields.more {l = l} h d i) = λ j. Row.More l (synth-normal g h j) (normals g i j)
 
--- one type for each term
+-- a term has at most one synthesised type
 pub synth_one : {ctx : List Kind} {vars : List Ty} {e : Term} {s t : Ty} → GoodVars ctx vars → Synth ctx vars e s → Synth ctx vars e t → s ≡ t
 synth_one {ctx} {vars} {e} {s} {t} g h i = sym (synth-normal g h) ∙ (same-normal (unique e ctx vars s t g (sound g h) (sound g i)) ∙ synth-normal g i)
 

@@ -81,7 +81,7 @@ part_conv (c_more f g c h) p (HasPart.there d x) (HasPart.there e y) = part_conv
 by_own : {ctx : List Kind} {vars : List Ty} {e : Term} {t : Ty} → GoodVars ctx vars → Own ctx vars e t → Inverted ctx vars e t
 by_own {t = t} g o = record { ty = t; own = o; to = c_refl (type-kind g (own_type o)) }
 
--- inversion
+-- a typed term has a type by its form's own rule, convertible to the type
 pub invert : {ctx : List Kind} {vars : List Ty} {e : Term} {t : Ty} → GoodVars ctx vars → HasType ctx vars e t → Inverted ctx vars e t
 invert g (HasType.var h) = by_own g (Own.var h)
 invert g HasType.int = by_own g Own.int

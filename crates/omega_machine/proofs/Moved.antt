@@ -69,7 +69,7 @@ first-begun n f whole copy p q s =
     let is = s ∙ is-form n (node.Fields f) whole p q in
     record { is = ap (λ ys. Term.Fields (term_row ys)) (ap fields_of is ∙ pairs-row f) ∙ sym is; labels = refl; values = AreValues.end }
 
--- from the whole record
+-- the move from a record as a whole is the move from it with no field done
 pub enter-fields : (n : TermNode) (f : TermPairs) (whole copy : Term) (m : Move) → n ≡ node.Fields f → term_of n ≡ whole → copy ≡ whole → Moves (with_done copy []) (3 * pairs_size (left copy []) + 1) m → Moves whole (3 * term_size whole) m
 enter-fields n f whole copy m p q s h =
     let is = s ∙ is-form n (node.Fields f) whole p q in

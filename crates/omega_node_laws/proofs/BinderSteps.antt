@@ -33,7 +33,7 @@ pub none-number : (ts : List Ty) (t : Option Ty) → t ≡ None → NumberOf ts 
 none-number ts None e = tt
 none-number ts (Some t) e = absurd (let f : Some t ≡ None → ⊥ = λ p. cc in f e)
 
--- where there is no number nothing is held
+-- a term whose type is not found has none, and nothing is held of it
 pub nothing : {z c : Scope} {ks : List Kind} {vs : List Ty} {e : Term} → Grows z c → synth_in ks vs e ≡ None → Synthesises z c ks vs e None
 nothing {z} {c} {ks} {vs} {e} g h = record { grows = g; is_number = none-number c.types (synth_in ks vs e) h; held = (λ n p. absurd (let f : None ≡ Some n → ⊥ = λ q. cc in f p)) }
 

@@ -294,7 +294,7 @@ pairs-get ts (y ∷ ys) (suc i) x e h = pairs-get ts ys i x e (omega (arith, h))
 pub branches-start : (s : Scope) (xs : TermPairs) (parts : Parts) (target : ℕ) → BranchesSoFar s s xs parts target 0
 branches-start s xs parts wanted = record { grows = grows-itself s; value = refl; held = (λ ts b h. h) }
 
--- another number of branches
+-- branches of another number than the sum's labels do not pass
 pub branches-differ : (s : Scope) (xs : TermPairs) (parts : Parts) (ys : TermPairs) (target : ℕ) → xs ≡ ys → (length xs ≡ length parts → ⊥) → FindsBranches s s (term_row ys) (row_at s.types parts) (at s.types target) false
 branches-differ s xs parts ys wanted e d =
     record {
@@ -315,7 +315,7 @@ module _ (old now : Scope) (xs : TermPairs) (parts : Parts) (target i : ℕ) (f 
         held = (λ p. absurd (let f : false ≡ true → ⊥ = λ q. cc in f p));
       }
 
-  -- all branches passed
+  -- when all branches have passed, they pass together
   pub branches-done : (ys : TermPairs) → xs ≡ ys → length xs ≡ length parts → length parts ≤ i → FindsBranches old now (term_row ys) (row_at old.types parts) (at old.types target) true
   branches-done ys e l h =
       let q = pairs-length old.types parts in

@@ -56,6 +56,6 @@ module _ (z a : Scope) (e : Term) (t : Ty) (o : Option ℕ) (ks : z.kinds ≡ []
       pub fails : same_ty (at b.types m) (at b.types n) ≡ false → HasType [] [] e t → ⊥
       fails = differs e t (at b.types m) (at b.types n) wanted-is found-is
 
-      -- then the list has the types of all nodes
+      -- where a term has the type that is wanted, the list has the types of all its nodes
       pub holds : HasType [] [] e t → HoldsNodeTypes b.types [] [] e
       holds h = closed-nodes b.types e t h (subst (λ v. Held b.types [] v e) (w.grows.same_types ∙ vs) (subst (λ k. Held b.types k (types_of a) e) (w.grows.same_kinds ∙ ks) (s.held m pm)))

@@ -120,6 +120,6 @@ module _ (ts : List Ty) where
     branch-nodes (TermRow.More l e rest) (Row.More m u r) {ctx} {vars} g (HasKinds.k_more d k ks) (SynthBranches.branch i j) h =
         (nodes e (good-more k g) (revar (u ∷ vars) (good-more (nf_kind k) g) (good-more k g) (same_cons (nf_nf k) (same_refl ctx vars)) i) h.0, branch-nodes rest r g ks j h.1)
 
--- a closed term
+-- where the types of a closed typed term are held, the list has the type of each of its nodes
 pub closed-nodes : (ts : List Ty) (e : Term) (t : Ty) → HasType [] [] e t → Held ts [] [] e → HoldsNodeTypes ts [] [] e
 closed-nodes ts e t h k = nodes ts e (good-none []) ((exact (good-none [])).0 h).1 k

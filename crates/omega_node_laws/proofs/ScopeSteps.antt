@@ -48,7 +48,7 @@ pub number-of-in : (ts : List Ty) (o : Option ℕ) → IsIn ts o → NumberOf ts
 number-of-in ts None h = tt
 number-of-in ts (Some n) h = record { within = h; value = refl }
 
--- there is a number where there is a type
+-- where there is a type, it has a number
 pub number-some : (ts : List Ty) (o : Option ℕ) (t : Option Ty) (u : Ty) → NumberOf ts o t → t ≡ Some u → (n : ℕ) × (o ≡ Some n)
 number-some ts None None u h e = absurd (let f : None ≡ Some u → ⊥ = λ p. cc in f e)
 number-some ts None (Some t) u h e = absurd h
@@ -189,7 +189,7 @@ pub wrapped-find : {s : Scope} (f : Scope → Option Ty) (ts us : List Ty) (ks :
 wrapped-find f ts us ks d xs o e h b k =
     subst (λ s. Finds s (record { types = us; kinds = ks; depth = d; vars = xs }) o (f s)) e (record { grows = grows-of {old = record { types = ts; kinds = ks; depth = d; vars = xs }} {new = record { types = us; kinds = ks; depth = d; vars = xs }} b h.numbers refl refl refl; is_number = k })
 
--- nothing was put
+-- where there is no type, none is found, and the scope stays
 pub found-none : {s : Scope} (t : Option Ty) → t ≡ None → Finds s s None t
 found-none {s} None e = record { grows = grows-itself s; is_number = tt }
 found-none {s} (Some t) e = absurd (let f : Some t ≡ None → ⊥ = λ p. cc in f e)

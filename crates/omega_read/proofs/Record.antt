@@ -46,7 +46,7 @@ pub onto_term_row : (xs : TermPairs) → onto TermRow.More xs TermRow.End ≡ te
 onto_term_row [] = refl
 onto_term_row (y ∷ xs) = ap (TermRow.More y.0 y.1) (onto_term_row xs)
 
--- one more field
+-- one more field is read, and what is read in all stays the same
 pub fields_on : {T R : Type 0} (end : R) (more : Label → T → R → R) (f : Reader T) (xs : List (Label × T)) (turns i : ℕ) (bytes b : List ℕ) (x : Label × T) (after : List ℕ) (total : Option (R × List ℕ)) → i < turns
     → strip (codes " (") bytes ≡ Some b → field_at f b ≡ Some (x, after) → follows (last_of xs) x.0 ≡ true
     → with_front more xs (fields_at end more f (turns - i) (last_of xs) bytes) ≡ total → with_front more (xs ++ x ∷ []) (fields_at end more f (turns - (i + 1)) (last_of (xs ++ x ∷ [])) after) ≡ total
@@ -112,7 +112,7 @@ fields_none end more f xs turns i bytes total lt front close so_far =
     let one : with_front more xs (fields_at end more f (turns - i) (last_of xs) bytes) ≡ None = rw (k, front, close) refl in
     sym so_far ∙ one
 
--- no turn is left
+-- where no turn is left, nothing is read in all
 pub fields_spent : {T R : Type 0} (end : R) (more : Label → T → R → R) (f : Reader T) (xs : List (Label × T)) (turns i : ℕ) (bytes : List ℕ) (total : Option (R × List ℕ)) → turns ≤ i
     → with_front more xs (fields_at end more f (turns - i) (last_of xs) bytes) ≡ total → total ≡ None
 unfolding fields_at

@@ -63,7 +63,7 @@ module _ (v : Version) where
       let second = some_is _ _ (sym (strip-again (codes "\n") (term_text 0 0 e ++ (10 ∷ []))) ∙ ap (strip (codes "\n")) first.1 ∙ strip-again (codes "\n") (term_text 0 0 f ++ (10 ∷ []))) in
       (first.0, (term-front 0 0 e f (10 ∷ []) (10 ∷ []) r s refl refl second).0)
 
-  -- one spelling for each type, and one type for each spelling
+  -- types of one spelling are the same
   pub one-type : (n : ℕ) (t u : Ty) → TySpelled v n t → TySpelled v n u → ty_text n t ≡ ty_text n u → t ≡ u
   one-type n t u p q e = (ty-front n t u [] [] p q tt tt (ap (λ (w : List ℕ). w ++ []) e)).0
 

@@ -142,7 +142,7 @@ mutual
 pub typed-under : {ctx : List Kind} {vars : List Ty} {e : Term} {t : Ty} (k : Kind) → Typed ctx vars e t → Typed (k ∷ ctx) (shift_all vars) (ren_term suc same_index e) (rename suc t)
 typed-under {ctx} k h = typed-rename suc same_index (maps-suc k ctx) (λ n u a. at-shift a) h
 
--- with term variables renamed
+-- a term with its variables renamed to such of the same types keeps its type
 pub typed-vars : {ctx : List Kind} {vars others : List Ty} {e : Term} {t : Ty} (r : ℕ → ℕ) → ((n : ℕ) (u : Ty) → At vars n u → At others (r n) u) → Typed ctx vars e t → Typed ctx others (ren_term same_index r e) t
 typed-vars {ctx} {vars} {others} {t = t} r g h = cast (rename-id t) (typed-rename same_index r (λ i k x. x) (λ n u a. subst (λ x. At others (r n) x) (sym (rename-id u)) (g n u a)) h)
 

@@ -207,7 +207,7 @@ map_terms-append : (f : Term → Term) (xs ys : TermPairs) → map_terms f (xs +
 map_terms-append f [] ys = refl
 map_terms-append f (x ∷ xs) ys = ap (λ zs. (x.0, f x.1) ∷ zs) (map_terms-append f xs ys)
 
--- one more part changed
+-- with one more part of a list changed, the changed parts are one more
 pub row-more : (f : Term → Term) (n : ℕ) (xs ws more : TermPairs) (l : Label) (e : Term) (x : Label × Term) → ws ≡ map_terms f (take n xs) → n < length xs → x ≡ get_or xs n x → l ≡ x.0 → e ≡ f x.1 → more ≡ ws ++ (l, e) ∷ [] → more ≡ map_terms f (take (n + 1) xs)
 row-more f n xs ws more l e x p q is j k w =
     w ∙ (ap₂ (λ zs z. zs ++ z ∷ []) p (ap₂ (λ a b. (a, b)) (j ∙ ap (λ y. y.0) is) (k ∙ ap (λ y. f y.1) is)) ∙ (sym (map_terms-append f (take n xs) (get_or xs n x ∷ [])) ∙ (ap (map_terms f) (sym (take-suc xs n x q)) ∙ ap (λ m. map_terms f (take m xs)) (next n))))

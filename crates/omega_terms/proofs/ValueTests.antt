@@ -78,7 +78,7 @@ and-assoc : (a b c : Truth) → (a && b) && c ≡ a && (b && c)
 and-assoc true b c = refl
 and-assoc false b c = refl
 
--- one more field at the end
+-- the fields with one more at the end are values if the others are and it is
 pub values_test-push : (xs : TermPairs) (x : Label × Term) → values_test (term_row (xs ++ x ∷ [])) ≡ values_test (term_row xs) && value_test x.1
 values_test-push [] x = and-true (value_test x.1)
 values_test-push (y ∷ ys) x = ap (λ (b : Truth). value_test y.1 && b) (values_test-push ys x) ∙ sym (and-assoc (value_test y.1) (values_test (term_row ys)) (value_test x.1))

@@ -42,7 +42,7 @@ one_pack ctx ks s e ts c h n =
     let p = packs-one (Term.Call c e) (enc s) (forms-kinds n) (enc_well_formed-normal h.0 h.1) in
     ((enc_abs (Abs.Ex ks s), p.0), PackGives.pack p.1, λ o g. let v = pack-view o g in pair-same o v.0 (p.2 o.1 v.1))
 
--- at the types of a match
+-- the rule of packages has exactly one conclusion at the types of a match
 pub one_pack_matched : (ctx : List Kind) (s : Sig) (e : Term) (z : Abs) (ts : List Ty) (c : Term) → OkRight ctx z → Match ctx s z ts c → One (λ (o : Ty × Term). PackGives ctx e z ts c o.0 o.1)
 one_pack_matched ctx s e (Abs.Ex ks t) ts c h (Match.at g n r f) = one_pack ctx ks t e ts c (explicit-abs h.0, h.1) (forms-normal n)
 

@@ -80,7 +80,7 @@ stop_is_farthest {n} f ts left st e = (length s.taken, lengths, record { within 
     none : (p : Value n) → Phrase n ts p → ⊥
     none p w = never left p refl (subst (λ z. Phrase n z p) (sym s.split) w)
 
--- so does one that leaves tokens
+-- a run that leaves tokens shows where the text goes wrong
 pub rest_is_farthest : {n : Class} (f : ℕ) (ts : List Token) (vs : Values (phrase n ∷ [])) (t : Token) (rest : List Token) → Start n → run f (phrase n ∷ []) ts ≡ got vs (t ∷ rest)
     → (at : ℕ) × (at + length (t ∷ rest) ≡ length ts) × Farthest n ts at × ((p : Value n) → Phrase n ts p → ⊥)
 rest_is_farthest {n} f ts vs t rest st e = (length taken, lengths, record { within = omega (arith, lengths); begins = begins; longest = longest }, none)
@@ -121,7 +121,7 @@ end_is_phrase {n} f ts vs e =
     let s : Got f (phrase n ∷ []) ts vs [] = sound f (phrase n ∷ []) ts vs [] e in
     record { parts = s.trees; spelled = sym (append-nil (spelling s.trees)) ∙ s.spelled; given = ap (λ z. z.0) s.given }
 
--- there is one such number
+-- a text goes wrong at one place at most
 pub one_farthest : {n : Class} (ts : List Token) (a b : ℕ) → Farthest n ts a → Farthest n ts b → a ≡ b
 one_farthest ts a b p q = go (order a b)
   where

@@ -195,7 +195,7 @@ rule_smaller {n} r ss k = go (all_empty (rhs r)) refl (empties r)
         short (a ∷ xs) q = absurd (omega (arith, q))
     go false e h = omega (arith, lead_front (rhs r) ss e, lead_rule r, length_rule r, lead_above n ss, length-append (rhs r) ss)
 
--- and makes what is left to do smaller
+-- a move makes what is left to do smaller
 pub move_smaller : (rest : List Token) (s : Symbol) (ss : List Symbol) (p : Move × List Token) → advance s rest ≡ Some p → need (pushed p.0 ++ ss) (length p.1) < need (s ∷ ss) (length rest)
 move_smaller [] (token k) ss p e = absurd (none_some e)
 move_smaller (t ∷ rest) (token k) ss p e = go (eqb (number_of (kind_of t)) (number_of k)) e

@@ -56,7 +56,7 @@ chosen {n} ss r cs ts x e =
     each_at (λ j. choose n j ≡ Some r) (predicted r) (ahead (spelling cs ++ y)) (predicts r)
     (and-right (begins n (ahead y) (ahead (spelling cs ++ y))) (is_in (ahead (spelling cs ++ y)) (predicted r)) (first_token r (ahead y) (ahead (spelling cs ++ y)) w below))
 
--- so at each node
+-- where what follows may, each node of trees is chosen by the next token
 pub each_chosen : {ss : List Symbol} (c : Trees ss) (x : List Token) → fits ss (ahead x) ≡ true → Chosen c x
 each_chosen end x e = tt
 each_chosen (leaf t p ts) x e = each_chosen ts x e

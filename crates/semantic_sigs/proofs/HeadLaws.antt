@@ -108,6 +108,6 @@ instantiated (Abs.Ex ks b) ts body s eb es ctx n ns =
 pub instantiated-value : (x : Abs) (ts : List Ty) (body s : Sig) → body ≡ body_of x → s ≡ sig_in (sunk 0 (putting ts)) body → s ≡ sig_in (putting ts) (body_of x)
 instantiated-value x ts body s eb es = es ∙ ap (sig_in (putting ts)) eb
 
--- the same for an abstract signature
+-- the change that puts in normal types gives the normal form of a signature that hides types at them
 pub instantiated-abs : (y : Abs) (ts : List Ty) (x : Abs) → x ≡ abs_in (putting ts) y → (ctx ks : List Kind) → NormalAbs (extend ctx ks) y → NormalForms ctx ts ks ts → IsAbsAt ctx y ts x
 instantiated-abs y ts x e ctx ks n ns = subst (AlikeAbs NormalForm ctx (substitute_abs (puts ts Ty.Var) y)) (sym e) (abs-in (good-puts ns (good-vars ctx)) y n)

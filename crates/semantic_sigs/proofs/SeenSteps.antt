@@ -65,7 +65,7 @@ seen-none (Some r) = ap₂ (λ s e. Some (s, e)) (ap (λ f. rename_sig f r.0) no
     ren-none : (e : Term) → ren_term (bump 0 0) (bump 0 0) e ≡ e
     ren-none e = sym (ap₂ (λ q r. ren_term q r e) (bump-none (type_bound e)) (bump-none (term_bound e))) ∙ ren_term-same 0 0 (type_bound e) (term_bound e) e (omega arith) (omega arith)
 
--- one entry
+-- the choice at a test that holds is the first
 pub found-if : {A : Type 0} (b : Bool) (x y : A) → b ≡ true → cond b x y ≡ x
 found-if true x y e = refl
 found-if false x y e = cc
@@ -96,7 +96,7 @@ find-other t n (Entry.Named y s) g x h = ap (seen t n) (past-if (same_name x y) 
 find-other t n (Entry.Value y u) g x h = ap (seen t n) (past-if (same_name x y) _ (past_term (find g x)) h) ∙ (seen-term t n (find g x) ∙ ap (λ i. seen i (n + 1) (find g x)) (omega arith))
 find-other t n (Entry.TypeParam y) g x h = ap (seen t n) (past-if (same_name x y) (Some (type_param (first_kind g))) (find g x) h) ∙ same-counts t n (find g x)
 
--- a type parameter
+-- a type parameter seen past further variables is the raised variable
 pub seen-param : (t n : ℕ) (k : Kind) → seen t n (Some (type_param k)) ≡ Some (Sig.Typ (shift t 0 (eta k (Ty.Var zero))) k, type_term (shift t 0 (eta k (Ty.Var zero))) k)
 seen-param t n k = ap (λ u. Some (Sig.Typ (shift t 0 (eta k (Ty.Var zero))) k, u)) (type_term-renamed (bump t 0) (bump n 0) (eta k (Ty.Var zero)) k)
   where

@@ -32,11 +32,11 @@ use Rattle.sig_laws.proofs.Formed.Conditions.{explicit-abs}
 use Rattle.sig_laws.proofs.Algebra.PathLaws.{one-field}
 use Rattle.sig_laws.proofs.Formed.Shows.{Shows, shows, rooted-shows, shows-rooted}
 
--- what hides nothing
+-- a well formed signature of ordered explicit results that hides nothing is ordered explicit
 pub plain_explicit : {ctx : List Kind} {s : Sig} → WellFormed ctx s → ExplicitResults ctx s → Explicit ctx (Abs.Ex [] s)
 plain_explicit w r = explicit w r (λ i lt. absurd (omega (arith, lt)))
 
--- one field
+-- the structure of one field with an ordered explicit signature is ordered explicit
 pub field_explicit : (ctx ks : List Kind) (l : Name) (s : Sig) → Explicit ctx (Abs.Ex ks s) → Explicit ctx (Abs.Ex ks (Sig.Str (SigRow.More l s SigRow.End)))
 field_explicit ctx ks l s (explicit w r e) = explicit
     (WellFormed.str (tt, tt) (WellFormedRow.more w WellFormedRow.end))

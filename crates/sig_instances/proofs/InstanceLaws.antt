@@ -1,5 +1,5 @@
 -- A term of normal types, with normal types put in, is the instance of the definitions.
--- Main results: instance_at_none.
+-- Main results: instance_given, instance_at_none.
 use Rattle.std.specs.Prelude.{ℕ, List, [], ◌∷◌, ◌≡◌, length}
 use Rattle.std.proofs.Common.{arith}
 use Rattle.std.proofs.Math.Path.{sym, subst}

@@ -132,7 +132,7 @@ placed-shuffle ctx ks js to from ts p o h i k x = go (split_index js i)
         puts-past ts (λ n. Ty.Var (past ks n)) j i (omega (arith, l, a, f)) ∙ ap Ty.Var (omega (arith, a, b, m) ∙ (sym (shuffle-past ks js to j) ∙ ap (shuffle ks js to) (sym f))) in
         subst (λ t. Conv (extend ctx ks) (puts ts (λ n. Ty.Var (past ks n)) i) t k) g (c_refl (F-sub i k x))
 
--- so what they are put into is renamed
+-- the normal form of a signature under a substitution that is convertible to a renaming is the renamed one
 pub placed_sig : {ctx other : List Kind} {t r : Sig} (f : ℕ → Ty) (m : ℕ → ℕ) → Convertible ctx other f (λ n. Ty.Var (m n)) → Maps ctx other m → NormalSig ctx t → ConvSig ctx t t → NormalSigForm other (substitute_sig f t) r → r ≡ rename_sig m t
 placed_sig {ctx} {other} {t} {r} f m c h n k g = form_sig-unique g
     (conv-form_sig (subst (ConvSig other (substitute_sig f t)) (substitute-vars_sig m t) (conv_sig-substitute f (λ i. Ty.Var (m i)) c k)) (normal_sig-form other (rename_sig m t) (normal_sig-rename m h t n)))

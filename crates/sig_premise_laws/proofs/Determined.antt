@@ -81,6 +81,6 @@ packed-kinded ctx (made Impure (Abs.Ex ks s) ts e) h = (e, subst (λ us. Packed 
 pub packed-one : (ctx : List Kind) (M : Module) → OkModule ctx M → One (Packed ctx M)
 packed-one ctx M h = packed-kinded ctx M (kinded ctx M h)
 
--- instances of terms
+-- a term of normal types has exactly one instance at types of the right kinds
 pub instance-one : (ctx ks : List Kind) (ts : List Ty) (e : Term) → NormalTerm (extend ctx ks) e → OfKinds ctx ts ks → One (Instance (extend ctx ks) ctx (puts ts Ty.Var) e)
 instance-one ctx ks ts e n h = let s = at-substitutes h in let c = instance-total ctx (puts ts Ty.Var) n s in (c.0, c.1, λ d i. same_instance s i c.1)

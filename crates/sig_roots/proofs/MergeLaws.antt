@@ -120,7 +120,7 @@ walk-after steps a bar own o = sym (ap (behind steps) (barred-after bar own a o)
 pub walk-either : (steps : SigPath) (bar : Option ℕ) (own : ℕ) (a b : Option SigPath) → or_else (behind steps (unless_barred bar own a)) (behind steps (unless_barred bar own b)) ≡ behind steps (unless_barred bar own (or_else a b))
 walk-either steps bar own a b = sym (ap (behind steps) (barred-either bar own a b) ∙ behind-either steps (unless_barred bar own a) (unless_barred bar own b))
 
--- nothing is found
+-- where nothing is found, merging leaves the paths as they are
 pub walk-none : (steps : SigPath) (bar : Option ℕ) (xs : Found) → xs ≡ merged (λ own. behind steps (unless_barred bar own None)) xs
 walk-none steps bar xs = sym (merged-none (λ own. behind steps (unless_barred bar own None)) xs (λ own. go own (is_open own bar) refl))
   where

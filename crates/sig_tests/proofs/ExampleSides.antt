@@ -22,7 +22,7 @@ right = (explicit well_t (in_str (in_more in_typ in_end)) roots_t, (n_neutral (n
 left : OkAbs [] hides_t
 left = (WellFormedAbs.abs well_t, (n_neutral (n_var here), tt))
 
--- in the empty environment
+-- the signature that hides a type t may stand on the right
 pub right_t : (g : Env) (x : Abs) → g ≡ [] → x ≡ hides_t → OkRight (kinds g) x
 right_t g x e f = subst (λ h. OkRight (kinds h) x) (sym e) (subst (λ y. OkRight [] y) (sym f) right)
 

@@ -64,7 +64,7 @@ mutual
   put_in_row-unchanged k A i a Row.End h = refl
   put_in_row-unchanged k A i a (Row.More l t rest) h = ap₂ (λ p r. Row.More l (tree p) r) (put_in-unchanged k A i a t (omega arith)) (put_in_row-unchanged k A i a rest (omega arith))
 
--- below a binder
+-- a type put in below a binder, with indexes counted as the code counts them
 pub put_in-under : (k : Kind) (at depth : ℕ) (arg b : Ty) → tree (put_in k (args k) (suc at) (rename suc (shift depth 0 arg)) b) ≡ tree (put_in k (args k) (at + 1) (shift (depth + 1) 0 arg) b)
 put_in-under k at depth arg b = ap₂ (λ i a. tree (put_in k (args k) i a b)) (next at) (deeper depth arg)
   where

@@ -19,7 +19,7 @@ sunk-below zero h i lt = absurd (omega (arith, lt))
 sunk-below (suc depth) h zero lt = refl
 sunk-below (suc depth) h (suc i) lt = ap raised (sunk-below depth h i (omega arith))
 
--- where each index stays, so it does below binders
+-- a change that leaves each index leaves each below binders
 pub sunk-still : (depth : ℕ) (h : ℕ → Head) → ((i : ℕ) → h i ≡ stands (Ty.Var i)) → (i : ℕ) → sunk depth h i ≡ stands (Ty.Var i)
 sunk-still zero h all i = all i
 sunk-still (suc depth) h all zero = refl

@@ -49,7 +49,7 @@ scopes-ok g (i ∷ under) h w = scopes-ok (with_interface g i.0 i.1) under (scop
 pub interfaces-give-scopes : InterfacesGiveScopes
 interfaces-give-scopes under w = scopes-ok [] under tt w
 
--- one interface more
+-- well formed interfaces with one more are well formed
 pub interfaces-ok-more : (g : Env) (under : List Interface) (i : Interface) → OkInterfaces g under → OkAbs (kinds (with_interfaces g under)) i.1 → OkInterfaces g (under ++ i ∷ [])
 interfaces-ok-more g [] i w v = (v, tt)
 interfaces-ok-more g (j ∷ under) i w v = (w.0, interfaces-ok-more (with_interface g j.0 j.1) under i w.1 v)

@@ -33,7 +33,7 @@ more {under} u m (UnitsMean.next {u = v} {us = us} {m = n} {ms = ms} q r) p =
     let rest = more u m r (subst (λ is. UnitMeans (env_of is) u m) e p) in
     UnitsMean.next q (subst (λ is. UnitsMean (under ++ i ∷ []) (us ++ u ∷ []) (ms ++ UnitUnder is (unit_name u) m ∷ [])) (sym e) rest)
 
--- one more unit that is derived
+-- units that are derived, with one more derived under their interfaces, are derived
 pub one-more : {us : List UnitTree} {ms : List UnitModule} (u : UnitTree) (m : Module) → UnitsMean [] us ms → UnitMeans (env_of (map interface_of ms)) u m → UnitsMean [] (us ++ u ∷ []) (ms ++ UnitUnder (map interface_of ms) (unit_name u) m ∷ [])
 one-more u m h p = more u m h p
 

@@ -1,5 +1,5 @@
 -- A unit whose body and sealing are derived is derived, so it is refused in one of the two and nowhere else.
--- Main results: first-field.
+-- Main results: unit-total, unit-refusals, first-field.
 use Rattle.std.specs.Prelude.{List, [], ◌∷◌, ◌≡◌, ◌⊎◌}
 use Rattle.std.proofs.Common.{inl, inr}
 use Rattle.std.proofs.Math.Path.{refl, sym, subst, ◌∙◌}

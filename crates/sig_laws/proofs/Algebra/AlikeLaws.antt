@@ -120,7 +120,7 @@ mutual
   form_row-same end = refl
   form_row-same (more {l = l} s fs) = ap₂ (SigRow.More l) (form_sig-same s) (form_row-same fs)
 
--- at most one
+-- a signature has at most one normal form
 pub form_sig-unique : {ctx : List Kind} {x n m : Sig} → NormalSigForm ctx x n → NormalSigForm ctx x m → n ≡ m
 form_sig-unique f g = form_sig-same f ∙ sym (form_sig-same g)
 

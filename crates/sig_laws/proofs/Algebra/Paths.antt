@@ -29,7 +29,7 @@ one-part (PartAt.result x) PartAt.end e = absurd (cc (e))
 one-part {r = r} {cs = cs} (PartAt.field h x) (PartAt.field {p = o} g y) e = one-part x (subst (λ t. PartAt t o cs r) (sym (one-field h g (same_name_of e))) y) (same_rest_of e)
 one-part (PartAt.result {ks = ks} x) (PartAt.result y) e = let f = one-part x y (same_rest_of e) in (ap (λ xs. ks ++ xs) f.0, f.1)
 
--- so at one path stands one type
+-- at one path stands one type
 pub one-type : {s : Sig} {t u : Ty} {k j : Kind} {p q : SigPath} {bs cs : List Kind} → PartAt s p bs (Sig.Typ t k) → PartAt s q cs (Sig.Typ u j) → p ≡ q → (bs ≡ cs) × (t ≡ u) × (k ≡ j)
 one-type x y e = let f = one-part x y e in let g = f.1 in (f.0, cc, cc)
 

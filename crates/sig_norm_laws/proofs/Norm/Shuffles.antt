@@ -174,7 +174,7 @@ module _ (ctx ks js : List Kind) (to from : ℕ → ℕ) (p : Paired ks js to fr
           (ap (renumber ks (map to order)) (shuffle-past ks js to j ∙ past-same p j) ∙
           (renumber-past ks (map to order) j ∙ (sym (past-same p j) ∙ (sym (renumber-past js order j) ∙ ap (renumber js order) (sym e)))))
 
-  -- so the reordered signatures are the same
+  -- the orders of the two signatures correspond, and their reordered kinds are the same
   pub reordered-same : (n : Sig) {order old : List ℕ} → n ≡ moved → NewOrder ctx ks n order → NewOrder ctx js s old → (order ≡ map to old) × (reordered ks order ≡ reordered js old)
   reordered-same n {order} {old} e o t =
       let f : order ≡ map to old = one-order refl (subst (λ z. NewOrder ctx ks z order) e o) (order-moved t) in
