@@ -108,7 +108,7 @@ abbrev pub NoFields : List Name → SigRow → Type 0
 NoFields [] fs = Unit {0}
 NoFields (l ∷ ls) fs = NoField l fs × NoFields ls fs
 
--- names have no field among none
+-- names have no field in the empty structure
 pub no_fields-end : (names : List Name) → NoFields names SigRow.End
 no_fields-end [] = tt
 no_fields-end (l ∷ ls) = (tt, no_fields-end ls)

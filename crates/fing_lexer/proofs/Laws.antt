@@ -9,7 +9,7 @@ use Rattle.fing_lexer.specs.Tokens.{skipped, Longest, BeginsNone, begins_with, F
 use Rattle.fing_lexer.specs.declared.token.What.{What}
 use Rattle.fing_lexer.specs.declared.lexer.LexRefusal.TheVariants.{Wide, TooDeep}
 
--- no bytes are no token
+-- the empty string of bytes is no token
 pub no_empty : lexeme [] ≡ None
 unfolding lexeme
 no_empty = refl

@@ -84,7 +84,7 @@ none-in : (ts : List Ty) → true ≡ (length ts == 0) → ts ≡ []
 none-in [] e = refl
 none-in (t ∷ ts) e = absurd (omega (arith, eqb-true (length (t ∷ ts)) 0 (sym e)))
 
--- no types packed into a term leave it as it is
+-- a term into which no types are packed stays as it is
 pub packs-none : (ts us : List Ty) (e : Term) (u : Ty) (d : Term) → true ≡ (length ts == 0) → ts ≡ us → d ≡ e → (ctx : List Kind) → Packs ctx us e u d
 packs-none ts us e u d none et ed ctx = subst (λ x. Packs ctx us e u x) (sym ed) (subst (λ vs. Packs ctx vs e u e) (sym (none-in ts none) ∙ et) Packs.none)
 

@@ -166,11 +166,11 @@ three_form word a b d w i j k n le left rest ends c =
 abbrev pub Fields : List ℕ → Type 0
 Fields fields = (n : ℕ) → 1 ≤ n → (rest : List ℕ) → EndsWord rest → Compact n (Some Close) rest → EndsWord (fields ++ rest) × Compact n (Some Close) (fields ++ rest)
 
--- no fields are fields
+-- the empty text is a text of fields
 pub no_fields : Fields []
 no_fields n le rest ends c = (ends, c)
 
--- a field in parentheses before fields is fields
+-- a field in parentheses before a text of fields is such a text
 pub more_fields : (label a fields : List ℕ) → Item 1 label → Item 1 a → Fields fields → Fields (codes " (" then label then codes " " then a then codes ")" then fields)
 unfolding ◌then◌
 more_fields label a fields l i f n le rest ends c =

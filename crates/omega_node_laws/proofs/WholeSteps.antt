@@ -69,7 +69,7 @@ record-done {z} {y} {c} {xs} {parts} {n} f r m =
 
 -- ---- branches
 
--- no branches have the labels of an empty sum
+-- the empty list of branches has the labels of the empty sum
 pub no-branch : (z : Scope) (t : Ty) → FindsBranches z z TermRow.End Row.End t true
 no-branch z t = record { grows = grows-itself z; value = refl; held = (λ p. tt) }
 

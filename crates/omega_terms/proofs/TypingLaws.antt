@@ -125,7 +125,7 @@ mutual
 
 -- a type of a term has kind *
 
--- no term variables have types of kind *
+-- an empty list of term variables has types of kind *
 pub good-none : (ctx : List Kind) → GoodVars ctx []
 good-none ctx n t h = elim h [ ]
 

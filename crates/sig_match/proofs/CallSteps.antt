@@ -327,7 +327,7 @@ target-may_look depth under ks js es a b from to x z y ts eu ef et ee es' k t =
     subst (λ s. MayLook under s es to ts) (sym ef) (subst (λ s. MayLook under (body_of y) es s ts) (sym et) (subst (λ s. MayLook under (body_of y) s (body_of z) ts) (sym ee) (subst (λ s. MayLook under (body_of y) [] (body_of z) s) (sym es')
     (into-may_look depth (length js) under ks js a b x z y t.0 refl eu k (target-match depth under ks js a b x y eu t) t.2))))
 
--- what is found there is found along the result, as an operator over the right parameter's types
+-- what is found in the target is found along the result, as an operator over the right parameter's types
 pub target-looks : (depth under : ℕ) (p : SigPath) (ks js es : List Kind) (a b from to : Sig) (x z y : Abs) (ts : List Ty) (o : Option Ty) → under ≡ length js + depth → from ≡ body_of y → to ≡ body_of z → es ≡ [] → ts ≡ [] → IsTarget depth ks a x js b (Some y) → EachLook under from p es to ts o → EachLookInto depth (Sig.Fun Pure ks a x) p (Sig.Fun Pure js b z) (lam_found js o)
 target-looks depth under p ks js es a b from to x z y ts o eu ef et ee es' t k =
     into-looks depth (length js) under (Sig.Fun Pure ks a x) (Sig.Fun Pure js b z) p ks js a b x z y t.0 o refl refl refl eu (target-match depth under ks js a b x y eu t) t.2
@@ -452,7 +452,7 @@ meta-refused depth x y q g k gi = λ ctx c w v.
     let s = meta-there w v in
     holds-within (RefusesSubAbs ctx x y) (RefusesSub ctx (Sig.Meta x) (Sig.Meta y)) Item.Meta (plain_refusal q) (plain_refusal g) gi (λ p r. RefusesSub.meta_first r) (k ctx c s.0 s.1)
 
--- where this is in order, they are refused as the comparison from right to left
+-- signature parts in order from left to right are refused as the comparison from right to left
 pub meta-refused_back : (depth : ℕ) (x y : Abs) (f : Term) (q g : CodeRefusal) → EachSubAbs depth x y (Ok f) → EachSubAbs depth y x (Err q) → Gives (inside Item.Meta (plain_refusal q)) (plain_refusal g) → EachSub depth (Sig.Meta x) (Sig.Meta y) (Err g)
 meta-refused_back depth x y f q g h k gi = λ ctx c w v.
     let s = meta-there w v in

@@ -10,7 +10,7 @@ use Rattle.sig_match.specs.declared.refusal.Matched.{Matched}
 use Rattle.sig_match.specs.Inner.Made.{IsKey, HoldsFor, AllHold}
 use Rattle.sig_match.specs.Inner.Outcomes.{EachMatch}
 
--- of no matches that were made, all hold
+-- in an empty list of matches that were made, all hold
 pub hold-none : (made : List Made) → made ≡ [] → AllHold made
 hold-none made e = subst AllHold (sym e) (λ k d lt. absurd (omega (arith, lt)))
 

@@ -188,7 +188,7 @@ pub data Labelled : SigPairs → TermPairs → Type 0 where
   none : Labelled [] []
   more : (x : Name × Sig) (f : Term) {xs : SigPairs} {ps : TermPairs} → Labelled xs ps → Labelled (x ∷ xs) ((Label.Name x.0, f) ∷ ps)
 
--- no coercions are labelled by no fields
+-- the empty list of coercions has the names of the empty list of fields
 pub labelled-none : (xs : SigPairs) → Labelled (take 0 xs) []
 labelled-none [] = Labelled.none
 labelled-none (x ∷ xs) = Labelled.none

@@ -46,7 +46,7 @@ names-next front u = names-more [] front u
 
 -- the environment and the names of the units at the front are good
 
--- no units make a good environment
+-- the environment before the first unit is good
 pub front-start : OkEnv (env_of []) × Names (env_of []) (names_after [] [])
 front-start = (tt, (tt, tt))
 

@@ -17,11 +17,11 @@ use Rattle.module_judgments.specs.Sequence.{Seq}
 use Rattle.unit_judgments.specs.Interfaces.{sig_in, with_interface}
 use Rattle.unit_judgments.specs.Link.{LinkGives}
 
--- what no bindings mean is the link of no modules
+-- what the empty list of bindings means is the link of the empty list of modules
 pub nil-view : {g : Env} {names : List Name} {m : Module} → BindsMean g names NoBinds m → LinkGives g names [] m
 nil-view (BindsMean.no_binds c) = LinkGives.end c
 
--- the link of no modules is what no bindings mean
+-- the link of the empty list of modules is what the empty list of bindings means
 pub nil-means : {g : Env} {names : List Name} {m : Module} → LinkGives g names [] m → BindsMean g names NoBinds m
 nil-means (LinkGives.end c) = BindsMean.no_binds c
 

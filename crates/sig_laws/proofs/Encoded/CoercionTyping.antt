@@ -105,7 +105,7 @@ mutual
   sub_result-typed g h (SubResult.both_pure a) = sub-typed (record { normal = g.normal; shape = g.shape }) (record { normal = h.normal; shape = h.shape }) a
   sub_result-typed g h (SubResult.to_impure a) = sub_abs-typed g h a
 
-  -- the coercion of subtyping does so too where the sides hide types
+  -- the coercion of subtyping between signatures that hide types leads from the left encoding to the right one
   pub sub_abs-typed : {ctx : List Kind} {x y : Abs} {f : Term} → GoodAbs ctx x → GoodAbs ctx y → SubAbs ctx x y f → Typed ctx [] f (Ty.Arrow (enc_abs x) (enc_abs y))
   sub_abs-typed {ctx} {y = Abs.Ex js t} g h (SubAbs.plain {s = s} a (MatchPart.made p)) =
       let left : Good ctx s = record { normal = g.normal; shape = g.shape } in
