@@ -265,7 +265,7 @@ functor-outcome c ps depth ks s r n h = go (barred ps (length ks + depth) s) ref
 -- the whole
 
 mutual
-  -- what is found first on the way through a signature is the variable with the least path that counts, or there is none
+  -- what is found first on the way through a signature is the variable with the least path that counts, or nothing
   pub outcome : {c : List Kind} (ps : Places) (depth : ℕ) (s : Sig) → WellFormed c s → NormalSig c s → Outcome c ps depth s (first ps depth s)
   outcome ps depth (Sig.Val t) h n = λ j q w. shows-opens w.1
   outcome ps depth (Sig.Meta x) h n = λ j q w. shows-opens w.1
