@@ -43,7 +43,10 @@ use Rattle.elab_laws.proofs.Kept.{mod_ok, binds_ok}
 use Rattle.fing_refusals.specs.declared.refusal.Refusal.{Refusal as CodeRefusal}
 use Rattle.elab_rules.specs.Inner.Answered.{RefusedAs, Placed}
 use Rattle.elab_rules.proofs.Entering.{left-module, left-fields}
-use Rattle.elab_phrases.proofs.Means.{param-env}
+use Rattle.module_rests.specs.Inner.Rests.{Comes}
+use Rattle.module_rests.specs.declared.rests.Rest.{Rest}
+use Rattle.elab_phrases.specs.Inner.Rests.{RestMeans}
+use Rattle.elab_phrases.proofs.Means.{joined, param-env}
 use Rattle.elab_rules.proofs.Placing.{says-map, by-rule}
 use Rattle.elab_rules.proofs.Refuse.Modules.{include-no_structure, include-later}
 use Rattle.elab_rules.proofs.Slices.{empty}
@@ -158,6 +161,15 @@ include-rest g m bs f (Abs.Ex ks s) ts d fs before M h n p e q =
     let inner = with_module g ks include_name s in
     let w = binds_ok (included g (Abs.Ex ks s) fs) (with_names fs before) bs M good (rise-with_names fs before n.1) q in
     kinded (extend (kinds g) ks) M (module-under g ks M (subst (λ ctx. OkModule ctx M) (kinds-named_fields inner fs) w))
+
+-- the rest of a structure under the types and the names of the included module, joined
+pub include-joined : (g : Env) (before : List Name) (m : Mod) (bs : Binds) (f : Effect) (y : Abs) (ts : List Ty) (d : Term) (fs : SigRow) (tail : Rest) (w : Module)
+    → OkEnv g → Names g before → ModMeans g m (made f y ts d) → body_of y ≡ Sig.Str fs
+    → RestMeans (included g y fs) (with_names fs before) bs tail
+    → ((ctx : List Kind) (M : Module) → OkModule ctx M → Comes ctx tail M → w ≡ M)
+    → BindsMean (included g y fs) (with_names fs before) bs w
+include-joined g before m bs f y ts d fs tail w h n p e rest join =
+    joined (included g y fs) (with_names fs before) bs tail w (included-env g m f y ts d fs h p e) (rise-with_names fs before n.1) rest join
 
 -- what was entered is left again
 

@@ -1,6 +1,6 @@
 -- Conclusions and refusals over whole signatures and modules, as the code has them.
--- Main results: functor-means, applicative-means, binds-mean, mod-kinded.
-use Rattle.std.proofs.Common.{◌≡◌, Bool, true, false, List, refl, subst}
+-- Main results: functor-means, applicative-means, joined, bind-rest, mod-kinded.
+use Rattle.std.proofs.Common.{◌≡◌, Bool, true, false, List, refl, subst, sym}
 use Rattle.omega_kinds.specs.Kind.{Kind}
 use Rattle.omega_kinds.specs.Name.{Name}
 use Rattle.omega_kinds.specs.declared.effect.Effect.{Effect}
@@ -11,18 +11,21 @@ use Rattle.omega_terms.specs.Term.{Term}
 use Rattle.sig_definitions.specs.Env.{Env, kinds, type_vars, with_module, named_fields}
 use Rattle.sig_definitions.specs.Lifting.{Lift}
 use Rattle.sig_definitions.specs.Signatures.Sig.{Module, made, Sig, Abs, SigRow}
-use Rattle.sig_definitions.specs.Signatures.RecordOrder.{AreNew}
+use Rattle.sig_definitions.specs.Signatures.RecordOrder.{AreNew, NamesRise}
 use Rattle.sig_definitions.specs.Signatures.FieldOrder.{with_name, with_names}
-use Rattle.sig_laws.specs.Good.{OkEnv, KindedModule, Names}
+use Rattle.sig_laws.specs.Good.{OkEnv, OkModule, KindedModule, Names}
 use Rattle.sig_laws.proofs.Formed.Conditions.{explicit-right, abs-body}
 use Rattle.sig_laws.proofs.Formed.WellFormedShape.{kinded}
-use Rattle.sig_laws.proofs.Algebra.FormLaws.{module-under}
+use Rattle.sig_laws.proofs.Algebra.FormLaws.{kinds-type_vars, module-under}
 use Rattle.sig_premise_laws.proofs.Environments.{good-module, bound-bind}
 use Rattle.semantic_sigs.specs.Inner.View.{body_of, kinds_of}
 use Rattle.fing_syntax.specs.Phrase.{Span, SpanName, TyEx, SigEx, SigAt, SigFun, SigRefine, Decl, Decls, MoreDecls, Mod, ModAt, ModFunctor, Bind, Binds, MoreBinds}
 use Rattle.fing_syntax.specs.Place.{name_of, decl_span}
 use Rattle.sig_judgments.specs.SigRules.{ValueGives, TypeGives, AbstractGives, ModuleGives, SignatureGives, IncludeGives, DistinctRefuses, GenerativeGives as GenerativeSigGives}
 use Rattle.module_judgments.specs.Sequence.{Seq}
+use Rattle.module_rests.specs.Inner.Rests.{Comes}
+use Rattle.module_rests.specs.declared.rests.Rest.{Rest}
+use Rattle.elab_phrases.specs.Inner.Rests.{RestMeans}
 use Rattle.elab_judgments.specs.Judgments.Meaning.{TyMeans, SigMeans, DeclMeans, ModMeans, BindMeans, BindsMean}
 use Rattle.elab_judgments.specs.Refusals.Refusal.{of_sig}
 use Rattle.elab_judgments.specs.Refusals.Task.{a_sig, a_mod, decls, binds}
@@ -142,28 +145,26 @@ pub binds-in : {g : Env} {before : List Name} {bs : Binds} {x : Name} {f : Effec
     → RefusedAs g (binds before (MoreBinds b bs)) e
 binds-in b (Abs.Ex ks s) i p h = binds-later b i p h
 
--- bindings mean the first one in a row with those after it
-pub binds-mean : {g : Env} {before : List Name} {b : Bind} {bs : Binds} {x : Name} {f : Effect} {ts : List Ty} {d : Term} {M N : Module} (y : Abs)
-    → BindMeans g b x (made f y ts d)
-    → BindsMean (with_module g (kinds_of y) x (body_of y)) (with_name x before) bs M
-    → Seq (kinds g) (made f y ts d) M N
-    → BindsMean g before (MoreBinds b bs) N
-binds-mean (Abs.Ex ks s) p q r = BindsMean.next_bind p q r
+-- the rest of a structure comes to what it means, once it is joined
+pub joined : (g : Env) (before : List Name) (bs : Binds) (r : Rest) (w : Module) → OkEnv g → NamesRise before → RestMeans g before bs r
+    → ((ctx : List Kind) (M : Module) → OkModule ctx M → Comes ctx r M → w ≡ M)
+    → BindsMean g before bs w
+joined g before bs r w h n (M, means, comes) join = subst (BindsMean g before bs) (sym (join (kinds g) M (binds_ok g before bs M h n means) comes)) means
 
--- the rest of a structure is good under the binding before it
-pub rest-module : (g : Env) (b : Bind) (bs : Binds) (x : Name) (f : Effect) (y : Abs) (ts : List Ty) (d : Term) (before : List Name) (M : Module)
-    → OkEnv g → Names g before → BindMeans g b x (made f y ts d)
-    → BindsMean (with_module g (kinds_of y) x (body_of y)) (with_name x before) bs M
-    → KindedModule (extend (kinds g) (kinds_of y)) M
-rest-module g b bs x f (Abs.Ex ks s) ts d before M h n p q =
-    kinded (extend (kinds g) ks) M (module-under g ks M (binds_ok (with_module g ks x s) (with_name x before) bs M (bind-env g b x f (Abs.Ex ks s) ts d h p) (rise-with_name x before n.1) q))
+-- one more binding before the rest
+pub bind-rest : (g : Env) (before : List Name) (bs : Binds) (x : Name) (b : Bind) (f : Effect) (y : Abs) (ts : List Ty) (d : Term) (tail more : Rest) → OkEnv g → Names g before
+    → BindMeans g b x (made f y ts d)
+    → RestMeans (with_module g (kinds_of y) x (body_of y)) (with_name x before) bs tail
+    → ((ctx : List Kind) (M : Module) → OkModule ctx (made f y ts d) → OkModule (extend ctx (kinds_of y)) M → Comes (extend ctx (kinds_of y)) tail M → (N : Module) × Seq ctx (made f y ts d) M N × Comes ctx more N)
+    → RestMeans g before (MoreBinds b bs) more
+bind-rest g before bs x b f (Abs.Ex ks s) ts d tail more h n p (M, means, comes) bound =
+    let good = bind_ok g b x (made f (Abs.Ex ks s) ts d) h p in
+    let under = module-under g ks M (binds_ok (with_module g ks x s) (with_name x before) bs M (bind-env g b x f (Abs.Ex ks s) ts d h p) (rise-with_name x before n.1) means) in
+    let o = bound (kinds g) M good under (subst (λ ctx. Comes ctx tail M) (kinds-type_vars g ks) comes) in
+    (o.0, BindsMean.next_bind p means o.1, o.2)
 
 -- what is derived in a good environment has types of their kinds
 
 -- what a module phrase means has distinct names and normal types of the right kinds
 pub mod-kinded : (g : Env) (m : Mod) (M : Module) → OkEnv g → ModMeans g m M → KindedModule (kinds g) M
 mod-kinded g m M h p = kinded (kinds g) M (mod_ok g m M h p)
-
--- what a binding means has distinct names and normal types of the right kinds
-pub bind-kinded : (g : Env) (b : Bind) (x : Name) (M : Module) → OkEnv g → BindMeans g b x M → KindedModule (kinds g) M
-bind-kinded g b x M h p = kinded (kinds g) M (bind_ok g b x M h p)

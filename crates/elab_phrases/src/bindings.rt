@@ -13,6 +13,7 @@ ghost use Rattle.fing_syntax.specs.Phrase.{BindAt, BindInclude, MoreBinds, Span 
 ghost use Rattle.fing_syntax.specs.Inner.View.{binds as binds_of};
 ghost use Rattle.elab_rules.specs.Inner.Answered.{RefusedAs};
 ghost use Rattle.elab_rules.specs.Inner.Modules.{IsSingle};
+ghost use Rattle.elab_phrases.specs.Inner.Rests.{RestMeans};
 
 use crate::expressions::exp;
 use crate::modules::module;
@@ -24,7 +25,8 @@ use elab_rules::scopes::{leave, push_included, push_module};
 use elab_rules::sets::{NameSet, with_names};
 use fing_refusals::{ElabWhy, Refusal};
 use fing_syntax::{Bind, BindWhat, Mod};
-use module_rules::{bind_sig, bind_type, bind_val, seq_bind};
+use module_rests::Rest;
+use module_rules::{bind_sig, bind_type, bind_val};
 use omega_kinds::Name;
 use semantic_sigs::{Abs, Env, Module, SigFields};
 use std::alloc::Global;
@@ -58,8 +60,25 @@ pub(crate) fn binds(
     ensures refused { IfErr result (λ e. RefusedAs env.old (binds_task before (binds_of list.now)) e) }
     ensures same { OnOk result (env.new ≡ env.old) }
 {
+    let rest = gathered(alloc, env, before, list)?;
+    let whole = rest.join(alloc)?;
+    Ok(whole)
+}
+
+// The same, with its pure bindings gathered.
+#[cycle(elab)]
+fn gathered(alloc: Global, env: &mut Env, before: NameSet, list: &[Bind]) -> Result<Rest, Refusal>
+    requires env { OkEnv env.old }
+    requires names { GoodNames env.old before }
+    ensures given { IfOk result (λ r. RestMeans env.old before (binds_of list.now) r) }
+    ensures refused { IfErr result (λ e. RefusedAs env.old (binds_task before (binds_of list.now)) e) }
+    ensures same { OnOk result (env.new ≡ env.old) }
+{
     match list {
-        [] => Ok(end_rule(alloc, env, &before)?),
+        [] => {
+            let end = end_rule(alloc, env, &before)?;
+            Ok(Rest::of(alloc, end))
+        }
         [first, rest @ ..] => binds_from(alloc, env, before, first, rest),
     }
 }
@@ -72,10 +91,10 @@ fn binds_from(
     before: NameSet,
     first: &Bind,
     rest: &[Bind],
-) -> Result<Module, Refusal>
+) -> Result<Rest, Refusal>
     requires env { OkEnv env.old }
     requires names { GoodNames env.old before }
-    ensures given { IfOk result (λ m. BindsMean env.old before (MoreBinds first.now (binds_of rest.now)) (module_of m)) }
+    ensures given { IfOk result (λ r. RestMeans env.old before (MoreBinds first.now (binds_of rest.now)) r) }
     ensures refused { IfErr result (λ e. RefusedAs env.old (binds_task before (MoreBinds first.now (binds_of rest.now))) e) }
     ensures same { OnOk result (env.new ≡ env.old) }
 {
@@ -93,17 +112,18 @@ fn bound(
     before: NameSet,
     first: &Bind,
     rest: &[Bind],
-) -> Result<Module, Refusal>
+) -> Result<Rest, Refusal>
     requires env { OkEnv env.old }
     requires names { GoodNames env.old before }
     requires single { IsSingle first.now }
-    ensures given { IfOk result (λ m. BindsMean env.old before (MoreBinds first.now (binds_of rest.now)) (module_of m)) }
+    ensures given { IfOk result (λ r. RestMeans env.old before (MoreBinds first.now (binds_of rest.now)) r) }
     ensures refused { IfErr result (λ e. RefusedAs env.old (binds_task before (MoreBinds first.now (binds_of rest.now))) e) }
     ensures same { OnOk result (env.new ≡ env.old) }
 {
     let own = bind(alloc, env, first)?;
     let tail = binds_under(alloc, env, before, &own.0, &own.1.sig, rest)?;
-    Ok(seq_bind(alloc, own.1, tail)?)
+    let more = tail.bind(alloc, own.1)?;
+    Ok(more)
 }
 
 // The rest of a structure, under a binding of a name and a signature before it.
@@ -115,16 +135,16 @@ fn binds_under(
     name: &Name,
     head: &Abs,
     rest: &[Bind],
-) -> Result<Module, Refusal>
+) -> Result<Rest, Refusal>
     requires env { OkEnv (with_module env.old (kinds_of head.now) name.now (body_of head.now)) }
     requires names { GoodNames (with_module env.old (kinds_of head.now) name.now (body_of head.now)) (with_name_after name.now before) }
-    ensures given { IfOk result (λ m. BindsMean (with_module env.old (kinds_of head.now) name.now (body_of head.now)) (with_name_after name.now before) (binds_of rest.now) (module_of m)) }
+    ensures given { IfOk result (λ r. RestMeans (with_module env.old (kinds_of head.now) name.now (body_of head.now)) (with_name_after name.now before) (binds_of rest.now) r) }
     ensures refused { IfErr result (λ e. RefusedAs (with_module env.old (kinds_of head.now) name.now (body_of head.now)) (binds_task (with_name_after name.now before) (binds_of rest.now)) e) }
     ensures same { OnOk result (env.new ≡ env.old) }
 {
     let names = before.with(name)?;
     push_module(env, name, head)?;
-    let found = binds(alloc, env, names, rest)?;
+    let found = gathered(alloc, env, names, rest)?;
     leave(env, head.kinds().items().len() + 1);
     Ok(found)
 }
@@ -138,10 +158,10 @@ fn included(
     before: NameSet,
     whole: &Mod,
     rest: &[Bind],
-) -> Result<Module, Refusal>
+) -> Result<Rest, Refusal>
     requires env { OkEnv env.old }
     requires names { GoodNames env.old before }
-    ensures given { IfOk result (λ m. (at : Place) → BindsMean env.old before (MoreBinds (BindAt at (BindInclude whole.now)) (binds_of rest.now)) (module_of m)) }
+    ensures given { IfOk result (λ r. (at : Place) → RestMeans env.old before (MoreBinds (BindAt at (BindInclude whole.now)) (binds_of rest.now)) r) }
     ensures refused { IfErr result (λ e. (at : Place) → RefusedAs env.old (binds_task before (MoreBinds (BindAt at (BindInclude whole.now)) (binds_of rest.now))) e) }
     ensures same { OnOk result (env.new ≡ env.old) }
 {
@@ -150,7 +170,9 @@ fn included(
         return Err(refuse(env, whole.span, ElabWhy::NotStructure));
     };
     let tail = included_under(alloc, env, before, &head.sig, fields, rest)?;
-    Ok(include_rule(alloc, head, tail)?)
+    let last = tail.join(alloc)?;
+    let made = include_rule(alloc, head, last)?;
+    Ok(Rest::of(alloc, made))
 }
 
 // The rest of a structure, under an included module of a signature, which has a hidden name, and then each of its fields.
@@ -162,16 +184,16 @@ fn included_under(
     head: &Abs,
     fields: &SigFields,
     rest: &[Bind],
-) -> Result<Module, Refusal>
+) -> Result<Rest, Refusal>
     requires env { OkEnv (named_fields (with_module env.old (kinds_of head.now) include_name (body_of head.now)) (sig_row fields.now)) }
     requires names { GoodNames (named_fields (with_module env.old (kinds_of head.now) include_name (body_of head.now)) (sig_row fields.now)) (with_names_after (sig_row fields.now) before) }
-    ensures given { IfOk result (λ m. BindsMean (named_fields (with_module env.old (kinds_of head.now) include_name (body_of head.now)) (sig_row fields.now)) (with_names_after (sig_row fields.now) before) (binds_of rest.now) (module_of m)) }
+    ensures given { IfOk result (λ r. RestMeans (named_fields (with_module env.old (kinds_of head.now) include_name (body_of head.now)) (sig_row fields.now)) (with_names_after (sig_row fields.now) before) (binds_of rest.now) r) }
     ensures refused { IfErr result (λ e. RefusedAs (named_fields (with_module env.old (kinds_of head.now) include_name (body_of head.now)) (sig_row fields.now)) (binds_task (with_names_after (sig_row fields.now) before) (binds_of rest.now)) e) }
     ensures same { OnOk result (env.new ≡ env.old) }
 {
     let names = with_names(before, fields)?;
     push_included(alloc, env, head, fields)?;
-    let found = binds(alloc, env, names, rest)?;
+    let found = gathered(alloc, env, names, rest)?;
     leave(env, fields.items().len());
     leave(env, head.kinds().items().len() + 1);
     Ok(found)

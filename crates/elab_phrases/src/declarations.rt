@@ -19,12 +19,13 @@ use elab_rules::places::decl_place;
 use elab_rules::scopes::{fields_of, leave, push_fields, push_type_vars};
 use elab_rules::sets::{NameSet, with_names};
 use elab_rules::signature_rules::{
-    abstract_rule, declarations_rule, distinct_rule, include_rule, module_rule, no_fields,
-    signature_rule, type_rule, value_rule,
+    abstract_rule, declarations_rule, distinct_rule, include_rule, module_rule, signature_rule,
+    type_rule, value_rule,
 };
 use fing_refusals::Refusal;
 use fing_syntax::{Decl, DeclWhat, SigEx, SpanName, TyEx};
 use semantic_sigs::{Abs, Env};
+use sig_rules::Declarations;
 use std::alloc::Global;
 
 // A declaration.
@@ -118,19 +119,19 @@ pub(crate) fn decls(
     env: &mut Env,
     before: NameSet,
     list: &[Decl],
-) -> Result<Abs, Refusal>
+) -> Result<Declarations, Refusal>
     requires { OkEnv env.old }
     ensures given { IfOk result (λ x. DeclsMean env.old before (decls_of list.now) x) }
     ensures refused { IfErr result (λ e. RefusedAs env.old (decls_task before (decls_of list.now)) e) }
     ensures same { OnOk result (env.new ≡ env.old) }
 {
     match list {
-        [] => Ok(no_fields(alloc)?),
+        [] => Ok(Declarations::new(alloc)),
         [first, rest @ ..] => {
             let head = decl(alloc, env, first)?;
             distinct_rule(env, decl_place(first), &before, &head)?;
             let tail = decls_under(alloc, env, before, &head, rest)?;
-            declarations_rule(alloc, &head, &tail)
+            declarations_rule(alloc, &head, tail)
         }
     }
 }
@@ -143,7 +144,7 @@ fn decls_under(
     before: NameSet,
     head: &Abs,
     rest: &[Decl],
-) -> Result<Abs, Refusal>
+) -> Result<Declarations, Refusal>
     requires env { OkEnv (named_fields (type_vars env.old (kinds_of head.now)) (fields_in head.now)) }
     requires structure { body_of head.now ≡ Str (fields_in head.now) }
     ensures given { IfOk result (λ x. DeclsMean (named_fields (type_vars env.old (kinds_of head.now)) (fields_in head.now)) (with_names_after (fields_in head.now) before) (decls_of rest.now) x) }

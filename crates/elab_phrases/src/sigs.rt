@@ -72,7 +72,8 @@ fn sig_decls(alloc: Global, env: &mut Env, list: &[Decl]) -> Result<Abs, Refusal
     ensures refused { IfErr result (λ e. (at : Place) → RefusedAs env.old (a_sig (SigAt at (SigDecls (decls_of list.now)))) e) }
     ensures same { OnOk result (env.new ≡ env.old) }
 {
-    decls(alloc, env, NameSet::new(alloc), list)
+    let found = decls(alloc, env, NameSet::new(alloc), list)?;
+    Ok(found.whole(alloc)?)
 }
 
 // A signature under a module of a name and a signature.

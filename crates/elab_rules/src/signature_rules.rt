@@ -1,5 +1,5 @@
 // The rules of signatures and declarations, refused at a place in an environment.
-ghost use Rattle.std.specs.Prelude.{◌≡◌, ◌∷◌, [], List, IfErr, IfOk, OnOk, map};
+ghost use Rattle.std.specs.Prelude.{◌≡◌, ◌∷◌, List, IfErr, IfOk, OnOk, map};
 ghost use Rattle.std.specs.Option.{option_map};
 ghost use Rattle.omega_kinds.specs.Kind.{Kind as KindTree};
 ghost use Rattle.omega_kinds.specs.View.{kind_tree};
@@ -28,11 +28,11 @@ use applicative_functors::lift;
 use fing_refusals::{ElabWhy, Refusal};
 use fing_syntax::{SpanName, TyEx};
 use fing_text::Span;
-use omega_kinds::{Kind, Kinds, Mem, Name, Names};
-use semantic_sigs::{Abs, Env, Kinded, Sig, SigFields, SigNode};
+use omega_kinds::{Kind, Mem, Name, Names};
+use semantic_sigs::{Abs, Env, Kinded};
 use sig_rules::{
-    SigRefusal, decl_is, decl_meta, decl_module, decl_of, decl_val, distinct, functor_sig, include,
-    seq_decl, where_type,
+    Declarations, SigRefusal, decl_is, decl_meta, decl_module, decl_of, decl_val, distinct,
+    functor_sig, include, where_type,
 };
 use std::alloc::Global;
 
@@ -119,20 +119,16 @@ pub fn distinct_rule(env: &Env, at: Span, before: &NameSet, next: &Abs) -> Resul
     distinct(before, next).map_err(|why| sig_refusal(env, at, why))
 }
 
-/// The signature of no declarations. `Err` is want of memory.
-pub fn no_fields(alloc: Global) -> Result<Abs, Mem>
-    ensures { IfOk result (λ x. x ≡ Ex [] (Str SigRow.End)) }
-{
-    let body = Sig::make(alloc, SigNode::Str(SigFields::new(alloc)))?;
-    Abs::make(alloc, Kinds::new(alloc), body)
-}
-
 /// A declaration and those after it, whose labels are apart.
-pub fn declarations_rule(alloc: Global, first: &Abs, rest: &Abs) -> Result<Abs, Refusal>
-    ensures given { IfOk result (λ x. (ks js : List KindTree) (fs gs : SigRow) → first.now ≡ Ex ks (Str fs) → rest.now ≡ Ex js (Str gs) → AreApart fs gs → DeclarationsGive first.now rest.now x) }
+pub fn declarations_rule(
+    alloc: Global,
+    first: &Abs,
+    rest: Declarations,
+) -> Result<Declarations, Refusal>
+    ensures given { IfOk result (λ x. (ks js : List KindTree) (fs gs : SigRow) → first.now ≡ Ex ks (Str fs) → rest ≡ Ex js (Str gs) → AreApart fs gs → DeclarationsGive first.now rest x) }
     ensures refused { IfErr result (λ e. e ≡ want_of_memory) }
 {
-    Ok(seq_decl(alloc, first, rest)?)
+    Ok(rest.after(alloc, first)?)
 }
 
 /// `fun (X : S1) -> S2`.

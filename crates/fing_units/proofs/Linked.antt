@@ -13,15 +13,17 @@ use Rattle.omega_terms.specs.Term.{Term, TermRow}
 use Rattle.sig_definitions.specs.Env.{Env, kinds}
 use Rattle.sig_definitions.specs.Signatures.FieldOrder.{with_name}
 use Rattle.sig_definitions.specs.Signatures.Sig.{Abs, Module, Sig, SigRow, made}
-use Rattle.sig_laws.specs.Good.{KindedModule}
-use Rattle.sig_laws.proofs.Formed.WellFormedShape.{kinded}
+use Rattle.sig_laws.specs.Good.{OkModule}
+use Rattle.sig_laws.proofs.Algebra.FormLaws.{kinds-type_vars}
 use Rattle.semantic_sigs.specs.Inner.Made.{module_of}
 use Rattle.semantic_sigs.specs.Inner.View.{kinds_of}
 use Rattle.module_judgments.specs.Sequence.{Collected, Seq}
-use Rattle.unit_judgments.specs.Interfaces.{hidden_in, with_interface, env_of}
+use Rattle.unit_judgments.specs.Interfaces.{hidden_in, sig_in, with_interface, env_of}
 use Rattle.unit_judgments.specs.Link.{UnitModule, interface_of, names_after, Differs, Foreign, Links, OkUnits}
 use Rattle.unit_judgments.proofs.Places.{own-at, ok-at, differs-not, differs-below, foreign-at, front-all}
 use Rattle.unit_judgments.proofs.Steps.{LinkedFrom, env-next, names-next, unit-good, rest-good, linked-all, linked-end, linked-next}
+use Rattle.module_rests.specs.Inner.Rests.{Comes}
+use Rattle.module_rests.specs.declared.rests.Rest.{Rest}
 use Rattle.fing_units.specs.Inner.Units.{unit_of, units_of}
 use Rattle.fing_units.specs.declared.unit_module.UnitModule.{UnitModule as CodeUnit}
 use Rattle.fing_units.proofs.Entering.{first-of}
@@ -79,32 +81,49 @@ hidden-kinds f (Abs.Ex ks s) ts e = refl
 abbrev pub LinkedAll : List UnitModule → List CodeUnit → Module → Type 0
 LinkedAll all left m = (back : List UnitModule) × (units_of left ++ back ≡ all) × LinkedFrom (units_of left) back m
 
+-- a rest on the way comes to what the units at the back are linked to
+abbrev pub LinkedRest : List UnitModule → List CodeUnit → Rest → Type 0
+LinkedRest all left r = (m : Module) × LinkedAll all left m × Comes (kinds (env_of (map interface_of (units_of left)))) r m
+
 -- behind the last unit the link is the structure of all names
-pub linked-start : (us : List CodeUnit) (fs : SigRow) (es : TermRow) (m : Module) → ((n : ℕ) → Differs (units_of us) n → ⊥) → OkUnits (units_of us) → Collected (env_of (map interface_of (units_of us))) (names_after [] (units_of us)) fs es → m ≡ made Pure (Abs.Ex [] (Sig.Str fs)) [] (Term.Fields es) → LinkedAll (units_of us) us m
-linked-start us fs es m h w c e = ([], append-nil (units_of us), subst (LinkedFrom (units_of us) []) (sym e) (linked-end (units_of us) (front-all (units_of us) h w) c))
+pub linked-start : (us : List CodeUnit) (fs : SigRow) (es : TermRow) (m : Module) (r : Rest) → ((n : ℕ) → Differs (units_of us) n → ⊥) → OkUnits (units_of us) → Collected (env_of (map interface_of (units_of us))) (names_after [] (units_of us)) fs es → m ≡ made Pure (Abs.Ex [] (Sig.Str fs)) [] (Term.Fields es)
+    → ((ctx : List Kind) → Comes ctx r m) → LinkedRest (units_of us) us r
+linked-start us fs es m r h w c e comes = (m, ([], append-nil (units_of us), subst (LinkedFrom (units_of us) []) (sym e) (linked-end (units_of us) (front-all (units_of us) h w) c)), comes (kinds (env_of (map interface_of (units_of us)))))
+
+-- the interface of a unit brings the kinds of what it hides
+unit-context : (g : Env) (x : Name) (m : Module) → kinds (with_interface g x (sig_in m)) ≡ extend (kinds g) (hidden_in m)
+unit-context g x (made f (Abs.Ex ks s) ts e) = kinds-type_vars g ks
 
 -- one more unit, in a row with what is linked behind it, is linked
-pub linked-step : (all : List UnitModule) (left rest : List CodeUnit) (u : CodeUnit) (w m : Module)
+pub linked-step : (all : List UnitModule) (left rest : List CodeUnit) (u : CodeUnit) (before after : Rest)
     → left ≡ rest ++ u ∷ []
     → ((n : ℕ) → Differs all n → ⊥)
     → OkUnits all
-    → ((ctx : List Kind) → KindedModule ctx (module_of u.module) → KindedModule (extend ctx (kinds_of u.module.sig)) w → Seq ctx (module_of u.module) w m)
-    → LinkedAll all left w
-    → LinkedAll all rest m
-linked-step all left rest u w m last h good s (back, whole, linked) =
+    → ((ctx : List Kind) (w : Module) → OkModule ctx (module_of u.module) → OkModule (extend ctx (kinds_of u.module.sig)) w → Comes (extend ctx (kinds_of u.module.sig)) before w → (m : Module) × Seq ctx (module_of u.module) w m × Comes ctx after m)
+    → LinkedRest all left before
+    → LinkedRest all rest after
+linked-step all left rest u before after last h good s (w, (back, whole, linked), comes) =
     let front = units_of rest in
     let v = unit_of u in
-    let ctx = kinds (env_of (map interface_of front)) in
+    let g = env_of (map interface_of front) in
     let split : units_of left ≡ front ++ v ∷ [] = ap units_of last ∙ map-append unit_of rest (u ∷ []) in
     let e : front ++ v ∷ back ≡ all = sym (append_assoc front (v ∷ []) back) ∙ (ap (λ xs. xs ++ back) (sym split) ∙ whole) in
     let own = own-at front v back (sym e) h in
     let ok = ok-at front v back (sym e) good in
     let inner : LinkedFrom (front ++ v ∷ []) back w = subst (λ xs. LinkedFrom xs back w) split linked in
-    let under = subst (λ ks. KindedModule (extend ctx ks) w) (hidden-kinds u.module.effect u.module.sig u.module.types u.module.term) (kinded (extend ctx (hidden_in (module_of u.module))) w (rest-good front v inner)) in
-    let q = s ctx (kinded ctx (module_of u.module) (unit-good front v own ok)) under in
-    (v ∷ back, e, linked-next front v back own ok inner q)
+    let hides = hidden-kinds u.module.effect u.module.sig u.module.types u.module.term in
+    let under = subst (λ ks. OkModule (extend (kinds g) ks) w) hides (rest-good front v inner) in
+    let context : kinds (env_of (map interface_of (units_of left))) ≡ extend (kinds g) (kinds_of u.module.sig) = ap (λ xs. kinds (env_of (map interface_of xs))) split ∙ (ap kinds (env-next front v) ∙ (unit-context g u.name (module_of u.module) ∙ ap (extend (kinds g)) hides)) in
+    let q = s (kinds g) w (unit-good front v own ok) under (subst (λ ctx. Comes ctx before w) context comes) in
+    (q.0, (v ∷ back, e, linked-next front v back own ok inner q.1), q.2)
 
-pub linked-done : (all : List UnitModule) (left : List CodeUnit) (m : Module) → left ≡ [] → ((n : ℕ) → Differs all n → ⊥) → LinkedAll all left m → Links all m
-linked-done all left m e h (back, whole, linked) =
+none-left : (all : List UnitModule) (left : List CodeUnit) (m : Module) → left ≡ [] → ((n : ℕ) → Differs all n → ⊥) → LinkedAll all left m → Links all m
+none-left all left m e h (back, whole, linked) =
     let same : back ≡ all = ap (λ xs. units_of xs ++ back) (sym e) ∙ whole in
     linked-all all m h (subst (λ us. LinkedFrom [] us m) same (subst (λ xs. LinkedFrom (units_of xs) back m) e linked))
+
+pub linked_done : (all : List UnitModule) (left : List CodeUnit) (r : Rest) (m : Module) → left ≡ [] → ((n : ℕ) → Differs all n → ⊥)
+    → ((ctx : List Kind) (w : Module) → OkModule ctx w → Comes ctx r w → m ≡ w)
+    → LinkedRest all left r → Links all m
+linked_done all left r m e h s (w, (back, whole, linked), comes) =
+    subst (Links all) (sym (s (kinds (env_of (map interface_of (units_of left)))) w linked.ok comes)) (none-left all left w e h (back, whole, linked))

@@ -16,7 +16,8 @@ use crate::interfaces::Interfaces;
 use crate::refusal::LinkRefusal;
 use crate::scopes::push_interface;
 use crate::unit_module::UnitModule;
-use module_rules::{end_struct, seq_bind};
+use module_rests::Rest;
+use module_rules::end_struct;
 use omega_kinds::{Mem, Name, same_name};
 use semantic_sigs::{Abs, Env, Module};
 use sig_rules::NameSet;
@@ -85,16 +86,19 @@ fn shows(unit: &UnitModule, name: &Name, sig: &Abs) -> bool
 ///
 /// Rossberg, Russo and Dreyer, "F-ing modules", sections 4 and 7, Elaboration, Bindings; separate units are this project's
 /// own.
+#[tactic(auto, using(crate::proofs::Linked::linked_done))]
 pub fn join(alloc: Global, units: Vec<UnitModule>) -> Result<Module, Mem>
     requires own { (n : ℕ) → Differs (units_of units.items) n → ⊥ }
     requires good { OkUnits (units_of units.items) }
     ensures { IfOk result (λ m. Links (units_of units.items) (module_of m)) }
 {
-    let mut whole = end_of(alloc, &units)?;
+    let end = end_of(alloc, &units)?;
+    let mut rest = Rest::of(alloc, end);
     let mut left = units;
     while let Some(unit) = left.pop() {
-        whole = seq_bind(alloc, unit.module, whole)?;
+        rest = rest.bind(alloc, unit.module)?;
     }
+    let whole = rest.join(alloc)?;
     Ok(whole)
 }
 

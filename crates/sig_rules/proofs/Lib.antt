@@ -1,6 +1,7 @@
 pub mod Declared
 pub mod Fixing
 pub mod Following
+pub mod Gathered
 pub mod Including
 pub mod Lists
 pub mod Merging

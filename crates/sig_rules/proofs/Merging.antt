@@ -59,11 +59,11 @@ rises-without (z ∷ []) x [] r = tt
 rises-without (z ∷ []) x (y ∷ ys) r = (name-transitive z.0 x.0 y.0 r.0 r.1.0, r.1.1)
 rises-without (z ∷ w ∷ ws) x xs r = (r.0, rises-without (w ∷ ws) x xs r.1)
 
-before-all : (x : Name × Sig) (xs : SigPairs) → Rises (x ∷ xs) → BeforeAll x.0 (sig_row xs)
+pub before-all : (x : Name × Sig) (xs : SigPairs) → Rises (x ∷ xs) → BeforeAll x.0 (sig_row xs)
 before-all x [] r = tt
 before-all x (y ∷ ys) r = (r.0, before_all-before x.0 y.0 (sig_row ys) r.0 (before-all y ys r.1))
 
-rises-end : (done : SigPairs) (xs : SigPairs) → Rises (done ++ xs) → Rises xs
+pub rises-end : (done : SigPairs) (xs : SigPairs) → Rises (done ++ xs) → Rises xs
 rises-end [] xs r = r
 rises-end (x ∷ []) [] r = tt
 rises-end (x ∷ []) (y ∷ ys) r = r.1

@@ -1,5 +1,5 @@
 use Rattle.elab_laws.proofs.Kept.{sig_ok}
-use Rattle.elab_judgments.specs.Judgments.Meaning.{ArgTysMean, ArgsMean, BindsMean, DeclMeans, OpsMean, SigMeans}
+use Rattle.elab_judgments.specs.Judgments.Meaning.{ArgTysMean, ArgsMean, DeclMeans, OpsMean, SigMeans}
 use Rattle.elab_judgments.specs.Judgments.Meaning.ArgTysMean.{next_arg, no_args}
 use Rattle.elab_judgments.specs.Judgments.Meaning.ArgsMean.{next_type, next_value, no_arg}
 use Rattle.elab_judgments.specs.Judgments.Meaning.BindMeans.{bind_module, bind_signature, bind_ty, bind_val}
@@ -15,8 +15,8 @@ use Rattle.elab_phrases.proofs.CaseSteps.{BranchesLeft, branch-env, branches-lat
 use Rattle.elab_phrases.proofs.FieldSteps.{ExpsLeft, TypesLeft, exps-later, exps-next, exps-none, record-means, record-parts, record-rule, record_type-means, record_type-parts, record_type-rule, sum_type-means, sum_type-parts, sum_type-rule, types-later, types-next, types-none}
 use Rattle.elab_phrases.proofs.FixSteps.{entered, fix-env-in, left, value-env-in}
 use Rattle.elab_rules.proofs.Given.{err-at, err-map, exit, no_star, no_type, ok-at, ok-map, stays}
-use Rattle.elab_phrases.proofs.Included.{bind-include, body-module, ended, include-in, include-means, include-none, include-rest, include-size, included-env, included-names, left-included, left-under as mods-left-under, means-bind, placed-at, refused-bind}
-use Rattle.elab_phrases.proofs.Means.{bind-env, bind-kinded, bind-names, binds-in, binds-mean, decls-again-in, decls-in, functor-means, generative-means, mod-kinded, mod_functor-in, param-env, refine-in, rest-module, sig_fun-in}
+use Rattle.elab_phrases.proofs.Included.{bind-include, body-module, ended, include-in, include-joined, include-means, include-none, include-rest, include-size, included-env, included-names, left-included, left-under as mods-left-under, means-bind, placed-at, refused-bind}
+use Rattle.elab_phrases.proofs.Means.{bind-env, bind-names, bind-rest, binds-in, decls-again-in, decls-in, functor-means, generative-means, joined, mod-kinded, mod_functor-in, param-env, refine-in, sig_fun-in}
 use Rattle.elab_phrases.proofs.Moved.{injection-at, refused-in, roll-at, rule-at, test-at}
 use Rattle.elab_rules.proofs.Refuse.Expressions.{arg-later, arg-no_arrow, arg-rule, arg-value, exp_apply-args, exp_apply-function, exp_field-again, exp_field-value, exp_fix-body, exp_fix-param, exp_fix-result, exp_fix-rule, exp_get-no_record, exp_get-record, exp_get-rule, exp_if-no, exp_if-rule, exp_if-test, exp_if-test_type, exp_if-yes, exp_lam-body, exp_lam-param, exp_lam-rule, exp_ops-first, exp_ops-rest, exp_pack-name, exp_pack-sig, exp_path-module, exp_path-use, exp_ty_lam-body, operand-later, operand-left, operand-right, operand-rule, ty_arg-later as exps-ty_arg-later, ty_arg-no_all, ty_arg-rule as exps-ty_arg-rule, ty_arg-type as exps-ty_arg-type}
 use Rattle.elab_rules.proofs.Refuse.Modules.{bind_module-module, bind_signature-sig, bind_ty-type, bind_val-value, binds-first, include-module, mod_functor-param, mod_project-rule, mod_project-whole, mod_seal-match, mod_seal-name, mod_seal-sig, mod_struct-list, mod_unpack-rule, mod_unpack-sig, mod_unpack-value}
@@ -27,6 +27,7 @@ use Rattle.elab_rules.proofs.Ruled.{is-structure}
 use Rattle.elab_phrases.proofs.SigLaws.{abstract-means, decl-body, decl-in, decls-mean, fields-env, left-decl, left-under, lifted-means, module-in, no-row, param-in, refused-row, row-means, row-size, sig-in}
 use Rattle.elab_rules.proofs.Slices.{empty}
 use Rattle.elab_phrases.proofs.UseSteps.{found-in, pack-means, pack-unmatched}
+use Rattle.elab_phrases.specs.Inner.Rests.{RestMeans}
 use Rattle.elab_rules.specs.Inner.Answered.{RefusedAs}
 use Rattle.fing_syntax.specs.Inner.Leaves.{op_of, place, spelled}
 use Rattle.fing_syntax.specs.Phrase.{BindAt, BindInclude, Exp, MoreBinds, Span}
@@ -496,7 +497,7 @@ declarations::decl_include-returns-clause-given t c = ok-at _ c.include_rule.ens
 -- declarations in a row
 
 pub declarations::decls-returns-in_err-head-in-len1-up-clause-refused : goal.declarations::decls-returns-in_err-head-in-len1-up-clause-refused
-declarations::decls-returns-in_err-head-in-len1-up-clause-refused t c = exit _ c.from_residual-in_err-head-in-len1-up.result c.in_err-head-in-len1-up.field-0.0 c.from_residual-in_err-head-in-len1-up.ensures.1 (refused-row c.args.list.now c.first-item.result c.in-len1-up.len_at_least c.first-item.is (decls-first c.in_err-head-in-len1-up.ensures.refused))
+declarations::decls-returns-in_err-head-in-len1-up-clause-refused t c = exit _ c.from_residual.result c.in_err-head-in-len1-up.field-0.0 c.from_residual.ensures.1 (refused-row c.args.list.now c.first-item.result c.in-len1-up.len_at_least c.first-item.is (decls-first c.in_err-head-in-len1-up.ensures.refused))
 
 pub declarations::decls-returns-in_err-distinct_rule-in-len1-up-clause-refused : goal.declarations::decls-returns-in_err-distinct_rule-in-len1-up-clause-refused
 declarations::decls-returns-in_err-distinct_rule-in-len1-up-clause-refused t c = let head = c.in_ok-head-in-len1-up in exit _ c.from_residual-in_err-distinct_rule-in-len1-up.result c.in_err-distinct_rule-in-len1-up.field-0.0 c.from_residual-in_err-distinct_rule-in-len1-up.ensures.1 (refused-row c.args.list.now c.first-item.result c.in-len1-up.len_at_least c.first-item.is (decls-again-in head.head head.ensures.given (rule-at head.ensures.same c.decl_place.ensures c.in_err-distinct_rule-in-len1-up.ensures.refused)))
@@ -507,8 +508,8 @@ declarations::decls-decls_under-requires t c = let head = c.in_ok-head-in-len1-u
 pub declarations::decls-returns-in_err-tail-in-len1-up-clause-refused : goal.declarations::decls-returns-in_err-tail-in-len1-up-clause-refused
 declarations::decls-returns-in_err-tail-in-len1-up-clause-refused t c = let head = c.in_ok-head-in-len1-up in exit _ c.from_residual-in_err-tail-in-len1-up.result c.in_err-tail-in-len1-up.field-0.0 c.from_residual-in_err-tail-in-len1-up.ensures.1 (refused-row c.args.list.now c.first-item.result c.in-len1-up.len_at_least c.first-item.is (decls-in head.head head.ensures.given c.in_ok-distinct_rule-in-len1-up.ensures.given (rw head.ensures.same at c.in_err-tail-in-len1-up.ensures.refused)))
 
-pub declarations::decls-returns-in_ok-no_fields-in-empty-clause-given : goal.declarations::decls-returns-in_ok-no_fields-in-empty-clause-given
-declarations::decls-returns-in_ok-no_fields-in-empty-clause-given t c = no-row c.args.list.now c.in-empty.len_below c.in_ok-no_fields-in-empty.ensures
+pub declarations::decls-returns-in-empty-clause-given : goal.declarations::decls-returns-in-empty-clause-given
+declarations::decls-returns-in-empty-clause-given t c = no-row c.args.list.now c.in-empty.len_below c.new.ensures
 
 pub declarations::decls-returns-in_ok-tail-in-len1-up-clause-given : goal.declarations::decls-returns-in_ok-tail-in-len1-up-clause-given
 declarations::decls-returns-in_ok-tail-in-len1-up-clause-given t c = let head = c.in_ok-head-in-len1-up in let tail = c.in_ok-tail-in-len1-up in let later = rw head.ensures.same at tail.ensures.given in ok-map _ c.declarations_rule.ensures.given (λ x p. row-means c.args.list.now c.first-item.result c.in-len1-up.len_at_least c.first-item.is (decls-mean head.head tail.tail x head.ensures.given c.in_ok-distinct_rule-in-len1-up.ensures.given later p))
@@ -521,11 +522,11 @@ declarations::decls_under-returns-clause-same t c = let g = c.args.env.now in le
 
 -- signatures of declarations
 
-pub sigs::sig_decls-returns-clause-refused : goal.sigs::sig_decls-returns-clause-refused
-sigs::sig_decls-returns-clause-refused t c = err-at _ (rw c.new.ensures at c.decls.ensures.refused) (λ e r at. sig_decls-list r)
+pub sigs::sig_decls-returns-in_err-found-clause-refused : goal.sigs::sig_decls-returns-in_err-found-clause-refused
+sigs::sig_decls-returns-in_err-found-clause-refused t c = exit _ c.from_residual.result c.in_err-found.field-0.0 c.from_residual.ensures.1 (λ at. sig_decls-list (rw c.new.ensures at c.in_err-found.ensures.refused))
 
 pub sigs::sig_decls-returns-clause-given : goal.sigs::sig_decls-returns-clause-given
-sigs::sig_decls-returns-clause-given t c = ok-at _ (rw c.new.ensures at c.decls.ensures.given) (λ x p at. SigMeans.sig_decls p)
+sigs::sig_decls-returns-clause-given t c = λ at. SigMeans.sig_decls (rw c.in_ok-whole.ensures (rw c.new.ensures at c.in_ok-found.ensures.given))
 
 -- signatures of functors
 
@@ -638,8 +639,11 @@ bindings::bind-returns-in-Include-clause-refused t c = refused-bind c.phrase.vie
 
 -- bindings in a row
 
-pub bindings::binds-returns-in_ok-end_rule-in-empty-clause-given : goal.bindings::binds-returns-in_ok-end_rule-in-empty-clause-given
-bindings::binds-returns-in_ok-end_rule-in-empty-clause-given t c = ended c.args.list.now (module_of c.in_ok-end_rule-in-empty.field-0) c.in-empty.len_below c.requires.names c.in_ok-end_rule-in-empty.ensures
+pub bindings::binds-returns-clause-given : goal.bindings::binds-returns-clause-given
+bindings::binds-returns-clause-given t c = joined c.args.env.now c.args.before (binds c.args.list.now) c.in_ok-rest.rest (module_of c.in_ok-whole.whole) c.requires.env c.requires.names.1 c.in_ok-rest.ensures.given c.in_ok-whole.ensures
+
+pub bindings::gathered-returns-in_ok-end-in-empty-clause-given : goal.bindings::gathered-returns-in_ok-end-in-empty-clause-given
+bindings::gathered-returns-in_ok-end-in-empty-clause-given t c = (module_of c.in_ok-end-in-empty.end, ended c.args.list.now (module_of c.in_ok-end-in-empty.end) c.in-empty.len_below c.requires.names c.in_ok-end-in-empty.ensures, c.of.ensures (kinds c.args.env.now))
 
 pub bindings::binds_under-returns-clause-same : goal.bindings::binds_under-returns-clause-same
 bindings::binds_under-returns-clause-same t c = mods-left-under c.args.env.now c.items.result.now _ c.args.name.now _ _ _ (c.items.ensures ∙ c.kinds.ensures) (c.in_ok-found.ensures.same ∙ c.in_ok-push_module.ensures) c.leave.ensures
@@ -660,7 +664,7 @@ pub bindings::included-include_rule-requires : goal.bindings::included-include_r
 bindings::included-include_rule-requires t c = is-structure c.in_ok-head.head.effect c.in_ok-head.head.sig c.in_ok-head.head.types c.in_ok-head.head.term _ (sym c.body.ensures ∙ c.in-Some.ensures)
 
 pub bindings::included-returns-clause-given : goal.bindings::included-returns-clause-given
-bindings::included-returns-clause-given t c = let means = c.in_ok-head.ensures.given in let is = sym c.body.ensures ∙ c.in-Some.ensures in let rest = rw c.in_ok-head.ensures.same at c.in_ok-tail.ensures.given in λ at. include-means c.in_ok-head.head.sig means is rest (c.in_ok-include_rule.ensures _ (mod-kinded _ _ _ c.requires.env means) (include-rest _ _ _ _ c.in_ok-head.head.sig _ _ _ _ _ c.requires.env c.requires.names means is rest))
+bindings::included-returns-clause-given t c = let y = c.in_ok-head.head.sig in let means = c.in_ok-head.ensures.given in let is = sym c.body.ensures ∙ c.in-Some.ensures in let tail = rw c.in_ok-head.ensures.same at c.in_ok-tail.ensures.given in let rest = include-joined c.args.env.now c.args.before c.args.whole.now (binds c.args.rest.now) c.in_ok-head.head.effect y c.in_ok-head.head.types c.in_ok-head.head.term (sig_row c.in-Some.fields.now) c.in_ok-tail.tail (module_of c.in_ok-last.last) c.requires.env c.requires.names means is tail c.in_ok-last.ensures in λ at. (module_of c.in_ok-made.made, include-means y means is rest (c.in_ok-made.ensures (kinds c.args.env.now) (mod-kinded _ _ _ c.requires.env means) (include-rest _ _ _ _ y _ _ _ _ _ c.requires.env c.requires.names means is rest)), c.of.ensures (kinds c.args.env.now))
 
 pub bindings::included_under-returns-clause-same : goal.bindings::included_under-returns-clause-same
 bindings::included_under-returns-clause-same t c = left-included c.args.env.now c.items-2.result.now c.args.head.now c.args.fields.now c.items.result.now _ _ _ c.items.ensures.value (c.items-2.ensures ∙ c.kinds.ensures) (c.in_ok-found.ensures.same ∙ c.in_ok-push_included.ensures) c.leave.ensures c.leave-2.ensures
@@ -669,7 +673,7 @@ pub bindings::binds_from-included-requires : goal.bindings::binds_from-included-
 bindings::binds_from-included-requires t c = (omega (arith, c.decreases, include-size c.args.first.now c.in-Some.whole.now c.in-Some.ensures), (c.requires.env, c.requires.names))
 
 pub bindings::binds_from-returns-clause-given : goal.bindings::binds_from-returns-clause-given
-bindings::binds_from-returns-clause-given t c = ok-map {P = λ m. (at : Span) → BindsMean c.args.env.now c.args.before (MoreBinds (BindAt at (BindInclude c.in-Some.whole.now)) (binds c.args.rest.now)) (module_of m)} {Q = λ m. BindsMean c.args.env.now c.args.before (MoreBinds c.args.first.now (binds c.args.rest.now)) (module_of m)} c.included.result c.included.ensures.given (λ m p. rw c.in-Some.ensures.1 (p c.in-Some.ensures.0))
+bindings::binds_from-returns-clause-given t c = ok-map {P = λ r. (at : Span) → RestMeans c.args.env.now c.args.before (MoreBinds (BindAt at (BindInclude c.in-Some.whole.now)) (binds c.args.rest.now)) r} {Q = λ r. RestMeans c.args.env.now c.args.before (MoreBinds c.args.first.now (binds c.args.rest.now)) r} c.included.result c.included.ensures.given (λ r p. rw c.in-Some.ensures.1 (p c.in-Some.ensures.0))
 
 pub bindings::binds_from-returns-clause-refused : goal.bindings::binds_from-returns-clause-refused
 bindings::binds_from-returns-clause-refused t c = err-map {P = λ e. (at : Span) → RefusedAs c.args.env.now (binds_task c.args.before (MoreBinds (BindAt at (BindInclude c.in-Some.whole.now)) (binds c.args.rest.now))) e} {Q = λ e. RefusedAs c.args.env.now (binds_task c.args.before (MoreBinds c.args.first.now (binds c.args.rest.now))) e} c.included.result c.included.ensures.refused (λ e r. rw c.in-Some.ensures.1 (r c.in-Some.ensures.0))
@@ -684,7 +688,7 @@ pub bindings::bound-returns-in_err-tail-clause-refused : goal.bindings::bound-re
 bindings::bound-returns-in_err-tail-clause-refused t c = exit _ c.from_residual-in_err-tail.result c.in_err-tail.field-0.0 c.from_residual-in_err-tail.ensures.1 (binds-in c.args.first.now c.in_ok-own.own.1.sig c.requires.single c.in_ok-own.ensures.given (rw c.in_ok-own.ensures.same at c.in_err-tail.ensures.refused))
 
 pub bindings::bound-returns-clause-given : goal.bindings::bound-returns-clause-given
-bindings::bound-returns-clause-given t c = let means = c.in_ok-own.ensures.given in let rest = rw c.in_ok-own.ensures.same at c.in_ok-tail.ensures.given in binds-mean c.in_ok-own.own.1.sig means rest (c.in_ok-seq_bind.ensures _ (bind-kinded _ _ _ _ c.requires.env means) (rest-module _ _ _ _ _ c.in_ok-own.own.1.sig _ _ _ _ c.requires.env c.requires.names means rest))
+bindings::bound-returns-clause-given t c = bind-rest c.args.env.now c.args.before (binds c.args.rest.now) c.in_ok-own.own.0 c.args.first.now c.in_ok-own.own.1.effect c.in_ok-own.own.1.sig c.in_ok-own.own.1.types c.in_ok-own.own.1.term c.in_ok-tail.tail c.in_ok-more.more c.requires.env c.requires.names c.in_ok-own.ensures.given (rw c.in_ok-own.ensures.same at c.in_ok-tail.ensures.given) c.in_ok-more.ensures
 
 pub declarations::decl_val-returns-in_err-found-clause-refused : goal.declarations::decl_val-returns-in_err-found-clause-refused
 declarations::decl_val-returns-in_err-found-clause-refused t c = exit _ c.from_residual.result c.in_err-found.field-0.0 c.from_residual.ensures.1 (λ at. decl_val-type c.in_err-found.ensures.refused)

@@ -150,14 +150,17 @@ decreases-modules::mod_unpack l = 4 * (exp_size l.value.now + sig_size l.by.now)
 abbrev pub decreases-bindings::binds : goal.decreases-bindings::binds
 decreases-bindings::binds l = 4 * binds_size (binds l.list.now) + 2
 
+abbrev pub decreases-bindings::gathered : goal.decreases-bindings::gathered
+decreases-bindings::gathered l = 4 * binds_size (binds l.list.now) + 1
+
 abbrev pub decreases-bindings::binds_under : goal.decreases-bindings::binds_under
-decreases-bindings::binds_under l = 4 * binds_size (binds l.rest.now) + 3
+decreases-bindings::binds_under l = 4 * binds_size (binds l.rest.now) + 2
 
 abbrev pub decreases-bindings::included : goal.decreases-bindings::included
 decreases-bindings::included l = 4 * (mod_size l.whole.now + binds_size (binds l.rest.now)) + 4
 
 abbrev pub decreases-bindings::included_under : goal.decreases-bindings::included_under
-decreases-bindings::included_under l = 4 * binds_size (binds l.rest.now) + 3
+decreases-bindings::included_under l = 4 * binds_size (binds l.rest.now) + 2
 
 abbrev pub decreases-bindings::bind : goal.decreases-bindings::bind
 decreases-bindings::bind l = 4 * bind_size l.phrase.now
@@ -181,10 +184,10 @@ abbrev pub decreases-expressions::exp_field : goal.decreases-expressions::exp_fi
 decreases-expressions::exp_field l = 4 * (exp_size l.first.now.1 + field_exps_size (field_exps l.rest.now)) + 3
 
 abbrev pub decreases-bindings::binds_from : goal.decreases-bindings::binds_from
-decreases-bindings::binds_from l = 4 * (bind_size l.first.now + binds_size (binds l.rest.now)) + 5
+decreases-bindings::binds_from l = 4 * (bind_size l.first.now + binds_size (binds l.rest.now)) + 4
 
 abbrev pub decreases-bindings::bound : goal.decreases-bindings::bound
-decreases-bindings::bound l = 4 * (bind_size l.first.now + binds_size (binds l.rest.now)) + 4
+decreases-bindings::bound l = 4 * (bind_size l.first.now + binds_size (binds l.rest.now)) + 3
 
 abbrev pub decreases-types::ty_sum : goal.decreases-types::ty_sum
 decreases-types::ty_sum l = 4 * field_tys_size (field_tys l.labels.now) + 3

@@ -15,10 +15,10 @@ end_of-requires c =
 
 pub loop-unit-init : goal.loop-unit-init
 loop-unit-init c =
-    let e = c.in_ok-whole.ensures in
-    linked-start c.args.units.items e.0 e.1 (module_of c.in_ok-whole.whole) c.requires.own c.requires.good
-    (subst (λ us. Collected (env_of (map interface_of (units_of us))) (names_after [] (units_of us)) e.0 e.1) c.deref.ensures.value e.2) e.3
+    let e = c.in_ok-end.ensures in
+    linked-start c.args.units.items e.0 e.1 (module_of c.in_ok-end.end) c.of-rest.result c.requires.own c.requires.good
+    (subst (λ us. Collected (env_of (map interface_of (units_of us))) (names_after [] (units_of us)) e.0 e.1) c.deref.ensures.value e.2) e.3 c.of-rest.ensures
 
 pub loop-unit-preserved : goal.loop-unit-preserved
 loop-unit-preserved c =
-    linked-step (units_of c.args.units.items) c.loop-unit.left.items c.pop.new.self.items c.in-Some.unit (module_of c.loop-unit.whole) (module_of c.in_ok-whole-2.whole) c.in-Some.ensures.items c.requires.own c.requires.good c.in_ok-whole-2.ensures c.loop-unit.invariant
+    linked-step (units_of c.args.units.items) c.loop-unit.left.items c.pop.new.self.items c.in-Some.unit c.loop-unit.rest c.in_ok-rest.rest c.in-Some.ensures.items c.requires.own c.requires.good c.in_ok-rest.ensures c.loop-unit.invariant
