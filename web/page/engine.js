@@ -8,7 +8,9 @@ const MOST_REPLY = 1 << 29; // bytes of the longest reply
 const NAME = "program"; // by which a page for people calls the source
 
 // What `fing_show_page` calls the views.
-const VIEWS = {page: 0, paper: 1, "paper-latex": 2, term: 3, "term-latex": 4};
+const VIEWS = {
+  page: 0, paper: 1, "paper-latex": 2, term: 3, "term-latex": 4, steps: 5, derivation: 6, "derivation-html": 7,
+};
 
 // Why the engine threw: its stack was too small, it had no memory, or something else.
 function breakOf(error) {
@@ -82,12 +84,13 @@ function showOf(module, mostMemory = MOST_MEMORY) {
 }
 
 // Answers questions by the two modules. A question has words, a source, and perhaps a view of VIEWS, with the name of the
-// source where that is not NAME. With a view the answer also has the `page` for people, if `fing` accepts or refuses.
+// source where that is not NAME. With a view the answer also has the `page` for people, if `fing` accepts or refuses; a
+// program is accepted also where its run meets a fault or spends its budget.
 function answererOf({fing, show}, mostMemory) {
   const reply = fingOf(fing, mostMemory), page = showOf(show, mostMemory);
   return async function answer({words, source, view, name = NAME}) {
     const said = await reply(words, source);
-    if (view === undefined || ![0, 1].includes(said.status)) return said;
+    if (view === undefined || ![0, 1, 3, 4].includes(said.status)) return said;
     return {...said, page: await page(VIEWS[view], name, source)};
   };
 }

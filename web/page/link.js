@@ -16,25 +16,27 @@ function fromBase64(text) {
 }
 
 // What a link can show, the tabs of the page.
-const SHOWN_BY_LINKS = ["page", "paper", "term", "check", "emit", "run", "link"];
+const SHOWN_BY_LINKS = ["page", "paper", "term", "derivation", "steps", "check", "emit", "run", "link"];
 
-async function fragmentOf({source, command, budget, simplify, latex}) {
+async function fragmentOf({source, command, budget, simplify, latex, plain}) {
   const packed = await through(new TextEncoder().encode(source), new CompressionStream("deflate-raw"));
   const fields = new URLSearchParams({show: command});
   if (command === "run" && budget !== "1000000") fields.set("budget", budget);
   if (command === "emit" && simplify) fields.set("simplify", "");
   if (["paper", "term"].includes(command) && latex) fields.set("latex", "");
+  if (command === "derivation" && plain) fields.set("plain", "");
   fields.set("program", toBase64(packed));
   return "#" + fields;
 }
 
-// What a fragment says: `source` or the name of an `example`, and `command`, `budget`, `simplify` and `latex` where they are given.
-// It throws where the program cannot be read.
+// What a fragment says: `source` or the name of an `example`, and `command`, `budget`, `simplify`, `latex` and `plain` where
+// they are given. It throws where the program cannot be read.
 async function fieldsOf(fragment) {
   const fields = new URLSearchParams(fragment.replace(/^#/, ""));
   const textOf = name => fields.get(name) ?? undefined, isSet = name => fields.has(name) || undefined;
   const command = SHOWN_BY_LINKS.find(it => it === fields.get("show"));
-  const shown = {command, budget: textOf("budget"), simplify: isSet("simplify"), latex: isSet("latex"), example: textOf("example")};
+  const flags = {simplify: isSet("simplify"), latex: isSet("latex"), plain: isSet("plain")};
+  const shown = {command, budget: textOf("budget"), ...flags, example: textOf("example")};
   if (!fields.has("program")) return shown;
   const bytes = await through(fromBase64(fields.get("program")), new DecompressionStream("deflate-raw"));
   return {...shown, source: new TextDecoder("utf-8", {fatal: true}).decode(bytes)};

@@ -2,8 +2,9 @@
 
 const FIRST = "counter"; // the program that is shown where the link names none
 const FIRST_TAB = "page";
-const VIEWED = ["page", "paper", "term"]; // the tabs that show a page for people
+const VIEWED = ["page", "paper", "term", "derivation", "steps"]; // the tabs that show a page for people
 const WAIT = 200; // milliseconds from the last key to the question
+const STEPS = "1000000"; // the budget of the run whose steps are shown
 const LIMIT = 20000; // milliseconds that a question may take
 const PATIENCE = 500; // milliseconds after which the page says that it works on one
 const GRACE = 400; // milliseconds that it may go on while a newer one waits
@@ -99,8 +100,10 @@ function start(onAnswer, onBreak) {
 let typing = null, patience = null;
 const ask = askerOf({start, tell, limit: LIMIT, grace: GRACE});
 
-// The words for `fing` that the tab asks for. A page for people comes with the reply of `check`, which has the place.
+// The words for `fing` that the tab asks for. A page for people comes with the reply of `check`, or of the run that it shows:
+// this has the place of a refusal.
 function wordsNow() {
+  if (state.command === "steps") return ["run", "--budget", STEPS];
   if (VIEWED.includes(state.command)) return ["check"];
   if (state.command === "run") return ["run", "--budget", $("budget").value.trim()];
   return state.command === "emit" && $("simplify").checked ? ["emit", "--simplify"] : [state.command];
@@ -109,7 +112,8 @@ function wordsNow() {
 // The view of the tab, or none where it shows a reply.
 function viewNow() {
   if (!VIEWED.includes(state.command)) return undefined;
-  return state.command !== "page" && $("latex").checked ? `${state.command}-latex` : state.command;
+  if (state.command === "derivation") return $("plain").checked ? "derivation" : "derivation-html";
+  return ["paper", "term"].includes(state.command) && $("latex").checked ? `${state.command}-latex` : state.command;
 }
 
 // What is asked, without the source, as one text.
@@ -131,7 +135,7 @@ function question() {
 // Marks what is shown as old, until there is an answer.
 function setBusy(isBusy) {
   clearTimeout(patience);
-  $("reply").classList.toggle("old", isBusy);
+  for (const id of ["reply", "tree"]) $(id).classList.toggle("old", isBusy);
   const text = `Working … The page stops after ${LIMIT / 1000} seconds, or when you type.`;
   if (isBusy) patience = setTimeout(() => setVerdict({mood: "none", text}), PATIENCE);
 }
@@ -156,7 +160,7 @@ function show({words, view, source}, answer) {
   setVerdict(verdict);
   showReply(shown.reply, view !== undefined);
   for (const line of document.querySelectorAll("[data-reading]")) {
-    line.hidden = shown.status !== 0 || line.dataset.reading !== (view ?? words[0]).replace("-latex", "");
+    line.hidden = shown.status !== 0 || line.dataset.reading !== (view ?? words[0]).replace(/-\w+$/, "");
   }
   explain(topicOf(answer));
   document.body.dataset.time = answer.time ?? "";
@@ -173,8 +177,12 @@ function setVerdict({mood, text}) {
 }
 
 function showReply(reply, isPage) {
-  const text = reply.slice(0, SHOWN), parts = isPage ? partsOf(text) : null;
-  if (parts) $("reply").replaceChildren(parts.title, excerptBlock(parts.excerpt), parts.rest);
+  const text = reply.slice(0, SHOWN), parts = isPage ? partsOf(text) : null, tree = isPage ? treeOf(text) : null;
+  $("tree").replaceChildren(...(tree ?? []).map(elementOf));
+  $("tree").hidden = $("fold").hidden = $("unfold").hidden = !tree;
+  $("reply").hidden = Boolean(tree);
+  if (tree) $("reply").textContent = "";
+  else if (parts) $("reply").replaceChildren(parts.title, excerptBlock(parts.excerpt), parts.rest);
   else $("reply").textContent = text;
   makeReachable($("reply").querySelector(".excerpt"));
   $("note").hidden = reply.length <= SHOWN;
@@ -187,6 +195,22 @@ function excerptBlock(text) {
   block.className = "excerpt";
   block.textContent = text;
   return block;
+}
+
+// A part of the tree of a derivation: a text, or an element with its parts.
+function elementOf(part) {
+  if (typeof part === "string") return part;
+  const element = document.createElement(part.name);
+  if (part.name === "details") element.open = true;
+  if (part.name === "div") element.className = "leaf";
+  if (part.href) Object.assign(element, {href: targetFrom(part.href), target: "_blank", rel: "noopener"});
+  element.append(...part.parts.map(elementOf));
+  return element;
+}
+
+// Folds or unfolds all rules in the outermost one.
+function setFolded(isFolded) {
+  for (const rule of $("tree").querySelectorAll("details details")) rule.open = !isFolded;
 }
 
 // A block that is wider than its place can be scrolled by keys too.
@@ -260,6 +284,7 @@ function choose(command) {
   $("steps").hidden = command !== "run";
   $("simpler").hidden = command !== "emit";
   $("in-latex").hidden = !["paper", "term"].includes(command);
+  $("as-text").hidden = command !== "derivation";
   question();
 }
 
@@ -310,6 +335,7 @@ async function loadLink() {
   if (fields?.budget) $("budget").value = fields.budget;
   if (fields?.simplify) $("simplify").checked = true;
   if (fields?.latex) $("latex").checked = true;
+  if (fields?.plain) $("plain").checked = true;
   if (fields?.command) choose(fields.command);
   const {name, source, notice} = loadedBy(fields, {names, first: FIRST, draft: draft.read()});
   if (notice) history.replaceState(null, "", exampleFragment(name));
@@ -319,8 +345,8 @@ async function loadLink() {
 
 // Puts the link of what is shown into the address.
 async function setLink() {
-  const {checked: simplify} = $("simplify"), {checked: latex} = $("latex");
-  const shown = {command: state.command, budget: $("budget").value.trim(), simplify, latex};
+  const {checked: simplify} = $("simplify"), {checked: latex} = $("latex"), {checked: plain} = $("plain");
+  const shown = {command: state.command, budget: $("budget").value.trim(), simplify, latex, plain};
   const fragment = await fragmentOf({source: editor.getValue(), ...shown});
   history.replaceState(null, "", fragment);
 }
@@ -374,6 +400,9 @@ editor.on("change", (_, {origin}) => {
 $("budget").addEventListener("input", askSoon);
 $("simplify").addEventListener("change", question);
 $("latex").addEventListener("change", question);
+$("plain").addEventListener("change", question);
+$("fold").addEventListener("click", () => setFolded(true));
+$("unfold").addEventListener("click", () => setFolded(false));
 $("go").addEventListener("click", showPlace);
 $("copy").addEventListener("click", copyLink);
 $("what").addEventListener("click", showAbout);

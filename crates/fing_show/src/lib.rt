@@ -1,22 +1,32 @@
-// What is shown to people of a source: the page of its refusal, or of its signature, its term or a phrase, and the verdict.
+// What is shown to people of a source: the page of its refusal, or of its signature, its term, its run, its derivation or a
+// phrase, and the verdict.
 // Stands on fing_lexer, fing_parser, fing_elab and elab_phrases (from bytes to a meaning or a refusal), and on the crates
 // show_text to show_syntax (pages).
-// Proved: the verdict is the one of the rules, with the place of a refusal; making the page ends. No clause speaks of
-// the page: that it belongs to the verdict, and all that it says, is only tested.
+// Proved: the verdict is the one of the rules, with the place of a refusal; the end of a run is what the whole term comes to
+// within the budget; making the page ends. No clause speaks of the page: that it belongs to the verdict, and all that it
+// says, is only tested.
 #![tactic(auto)]
 
+#[cfg(test)]
+mod derivation_tests;
+mod derivations;
 #[cfg(test)]
 mod name_tests;
 mod omega;
 #[cfg(test)]
 mod omega_tests;
+#[cfg(test)]
+mod order_tests;
 mod pages;
 #[cfg(test)]
 mod paper_tests;
 #[cfg(test)]
 mod phrase_tests;
 mod places;
+mod running;
 mod showing;
+#[cfg(test)]
+mod step_tests;
 #[cfg(test)]
 mod syntax_tests;
 #[cfg(test)]
@@ -25,5 +35,6 @@ mod term_tests;
 mod tests;
 mod view;
 
+pub use show_figures::Form;
 pub use showing::{Shown, Verdict, show};
 pub use view::View;

@@ -3,6 +3,7 @@ ghost use Rattle.std.specs.Prelude.{[]};
 ghost use Rattle.omega_terms.specs.Typing.{HasType};
 ghost use Rattle.sig_definitions.specs.Signatures.Encoding.{enc_abs};
 
+use crate::derivations::derivation_page;
 use crate::omega::omega_page;
 use crate::places::meaning_at;
 use crate::view::View;
@@ -12,8 +13,8 @@ use fing_refusals::Refusal;
 use fing_syntax::Program;
 use fing_text::Span;
 use omega_kinds::{Effect, Mem, Name};
-use semantic_sigs::Abs;
-use show_paper::{LATEX, UNICODE, put_program as put_paper};
+use show_order::orders_of;
+use show_paper::{LATEX, Symbols, UNICODE, put_program as put_paper};
 use show_places::{offset_at, phrase_at};
 use show_reasons::{
     Explanation, explanation_of, lexical_explanation, lexical_place, put_end, put_sentence,
@@ -121,7 +122,7 @@ pub(crate) fn refused_page(
     end_page(page, explanation)
 }
 
-/// The page of a program that means something: what the view shows of it.
+/// The page of a program that means something: what the view shows of it, and for a view of its run the signature.
 pub(crate) fn accepted_page(
     alloc: Global,
     given: Given<'_>,
@@ -131,13 +132,16 @@ pub(crate) fn accepted_page(
     requires { HasType [] [] found.now.whole (enc_abs found.now.sig) }
 {
     let page = match given.view {
-        View::Source => source_page(alloc, found.effect, &found.sig)?,
-        View::Paper => put_paper(alloc, &UNICODE, found.effect, &found.sig)?,
-        View::Latex => put_paper(alloc, &LATEX, found.effect, &found.sig)?,
+        View::Source | View::Steps { .. } => source_page(alloc, program, found)?,
+        View::Paper => paper_page(alloc, &UNICODE, program, found)?,
+        View::Latex => paper_page(alloc, &LATEX, program, found)?,
         View::Term => put_term(alloc, &UNICODE, &found.whole)?,
         View::TermLatex => put_term(alloc, &LATEX, &found.whole)?,
         View::Phrase { line, column } => phrase_page(alloc, given, program, (line, column))?,
         View::TermOmega => return omega_page(alloc, found),
+        View::Derivation(form) => {
+            return derivation_page(alloc, form, given.named, program, found);
+        }
     };
     Ok(page.into_bytes())
 }
@@ -158,7 +162,7 @@ fn phrase_page(
     };
     put_excerpt(&mut page, given.named.name, source, found.span)?;
     match meaning_at(alloc, given.tokens, found)? {
-        Some(meaning) => put_phrase(page, meaning.names, &meaning.abs),
+        Some(meaning) => put_phrase(page, meaning.names, &meaning.abs, meaning.orders.whole()),
         None => {
             page.put(b"Nothing is shown of this phrase.\n")?;
             Ok(page)
@@ -166,12 +170,24 @@ fn phrase_page(
     }
 }
 
-// The page of a program in the syntax of a source: its effect and its signature.
-fn source_page(alloc: Global, effect: Effect, sig: &Abs) -> Result<Page, Mem> {
+// The page of a program in the syntax of a source: its effect and its signature, in the order of the source.
+fn source_page(alloc: Global, program: &Program, found: &Elaborated) -> Result<Page, Mem> {
     let mut page = Page::new(alloc);
-    page.put(match effect {
+    page.put(match found.effect {
         Effect::Pure => b"pure\n".as_slice(),
         Effect::Impure => b"impure\n",
     })?;
-    put_program(page, sig)
+    let orders = orders_of(alloc, program)?;
+    put_program(page, &found.sig, orders.whole())
+}
+
+// The page of a program in the notation of the literature, in the order of the source.
+fn paper_page(
+    alloc: Global,
+    symbols: &'static Symbols,
+    program: &Program,
+    found: &Elaborated,
+) -> Result<Page, Mem> {
+    let orders = orders_of(alloc, program)?;
+    put_paper(alloc, symbols, found.effect, &found.sig, orders.whole())
 }

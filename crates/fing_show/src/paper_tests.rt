@@ -10,7 +10,7 @@ const HIDING: [(&str, &str); 7] = [
 :> sig type c val start : c val next : c -> c end
 val n = C.next C.start",
         "P ∃α:⋆.
-{C : {c : [= α : ⋆], next : [α → α], start : [α]}, n : [α]}
+{C : {c : [= α : ⋆], start : [α], next : [α → α]}, n : [α]}
 ",
     ),
     (
@@ -33,9 +33,9 @@ val p = pack struct type t = Int val x = 1 end : S
 module M = unpack p : S",
         "I ∃α:⋆.
 {
-  M : {t : [= α : ⋆], x : [α]},
   S : [= ∃β:⋆. {t : [= β : ⋆], x : [β]}],
-  p : [∃β:⋆. {t : {.typ : ∀γ:(⋆ → ⋆). γ β → γ β}, x : {.val : β}}]
+  p : [∃β:⋆. {t : {.typ : ∀γ:(⋆ → ⋆). γ β → γ β}, x : {.val : β}}],
+  M : {t : [= α : ⋆], x : [α]}
 }
 ",
     ),
@@ -64,9 +64,9 @@ type p = fun (t : Type) => {x : t, y : Int} -> Bool
 val id = fun [b : Type] => fun (x : b) => x
 val twice = fun (f : Int -> Int) => fun (x : Int) => f (f x)",
         "P {
-  id : [∀α:⋆. α → α],
   k : [= λα:(⋆ → ⋆). α (α int) : (⋆ → ⋆) → ⋆],
   p : [= λα:⋆. {x : α, y : int} → bool : ⋆ → ⋆],
+  id : [∀α:⋆. α → α],
   twice : [(int → int) → int → int]
 }
 ",
@@ -84,9 +84,9 @@ val twice = fun (f : Int -> Int) => fun (x : Int) => f (f x)",
 val second = fun (x : {left : Int, right : Int}) => x#right
 module Inner = struct val number = 1 end",
         "P {
-  Inner : {number : [int]},
   first : [{left : int, right : int} → int],
-  second : [{left : int, right : int} → int]
+  second : [{left : int, right : int} → int],
+  Inner : {number : [int]}
 }
 ",
     ),
@@ -151,9 +151,9 @@ val second = fun (x : {left : Int, right : Int}) => x#right
 module Inner = struct val number = 1 end",
         "\\begin{array}{l}
 \\mathsf{P}\\ \\{\\\\{}
-\\quad \\mathit{Inner} : \\{\\mathit{number} : [\\mathsf{int}]\\},\\\\{}
 \\quad \\mathit{first} : [\\{\\mathit{left} : \\mathsf{int}, \\mathit{right} : \\mathsf{int}\\} \\to \\mathsf{int}],\\\\{}
-\\quad \\mathit{second} : [\\{\\mathit{left} : \\mathsf{int}, \\mathit{right} : \\mathsf{int}\\} \\to \\mathsf{int}]\\\\{}
+\\quad \\mathit{second} : [\\{\\mathit{left} : \\mathsf{int}, \\mathit{right} : \\mathsf{int}\\} \\to \\mathsf{int}],\\\\{}
+\\quad \\mathit{Inner} : \\{\\mathit{number} : [\\mathsf{int}]\\}\\\\{}
 \\}
 \\end{array}
 ",

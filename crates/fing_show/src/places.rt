@@ -7,6 +7,7 @@ use fing_syntax::{Mod, ModWhat, Program};
 use fing_text::{SOURCE_LIMIT, Span};
 use omega_kinds::{Kinds, Mem, Name};
 use semantic_sigs::{Abs, Entry, Env};
+use show_order::{Orders, orders_of_bound};
 use show_places::{BOUND, Found, MISSING, planted};
 use show_scopes::names_in;
 use std::alloc::Global;
@@ -52,12 +53,13 @@ fn names_after(
     Ok(Vec::new(alloc))
 }
 
-/// What a phrase means where it stands: its signature as that of a binding, and the names of the type variables in scope
-/// outside it.
+/// What a phrase means where it stands: its signature as that of a binding, the order of its components in the source,
+/// and the names of the type variables in scope outside it.
 #[derive(Drop)]
 pub(crate) struct Meaning {
     pub(crate) names: Vec<Option<Name>>,
     pub(crate) abs: Abs,
+    pub(crate) orders: Orders,
 }
 
 /// What a phrase of a program means where it stands; `None` where it means nothing. `Err` is out of memory.
@@ -79,19 +81,22 @@ pub(crate) fn meaning_at(
 
 // What the phrase means that is bound in a program just before a name that nothing has.
 fn meaning_in(alloc: Global, program: Program) -> Result<Option<Meaning>, Mem> {
+    let orders = orders_of_bound(alloc, &program, BOUND.as_bytes())?;
     let mut env = Env::new(alloc);
     let Err(refusal) = module_in(alloc, &mut env, &whole(program)) else {
         return Ok(None);
     };
     match &refusal.why {
         ElabWhy::Mem => Err(Mem),
-        ElabWhy::Unbound(name) if name.bytes() == MISSING.as_bytes() => bound_last(alloc, env),
+        ElabWhy::Unbound(name) if name.bytes() == MISSING.as_bytes() => {
+            bound_last(alloc, env, orders)
+        }
         _ => Ok(None),
     }
 }
 
-// What is bound last in an environment, if its name is that of the phrase.
-fn bound_last(alloc: Global, env: Env) -> Result<Option<Meaning>, Mem> {
+// What is bound last in an environment, if its name is that of the phrase, whose components have this order.
+fn bound_last(alloc: Global, env: Env, orders: Orders) -> Result<Option<Meaning>, Mem> {
     let mut env = env;
     let Some(Entry::Named(name, sig)) = env.pop() else {
         return Ok(None);
@@ -102,7 +107,7 @@ fn bound_last(alloc: Global, env: Env) -> Result<Option<Meaning>, Mem> {
     let kinds = pop_kinds(alloc, &mut env)?;
     let abs = Abs::make(alloc, kinds, sig)?;
     let names = names_in(alloc, env)?;
-    Ok(Some(Meaning { names, abs }))
+    Ok(Some(Meaning { names, abs, orders }))
 }
 
 // Takes the last type variables of an environment away, with the entry before them. Gives their kinds in order.

@@ -1,11 +1,14 @@
 // From a source's bytes to its verdict and its page.
-ghost use Rattle.std.specs.Prelude.{◌≡◌, ◌⊎◌, ◌≤◌, IfOk, length};
+ghost use Rattle.std.specs.Prelude.{◌≡◌, ◌⊎◌, ◌≤◌, IfOk, None, length};
 ghost use Rattle.fing_lexer.specs.declared.lexer.LexRefusal.TheVariants.{Mem as WantOfMemory};
 ghost use Rattle.fing_lexer.specs.Tokens.{RefusalOf};
 ghost use Rattle.fing_show.specs.Inner.Judged.{IsReported, Judges, JudgesProgram, JudgesTokens};
+ghost use Rattle.fing_show.specs.Inner.Ran.{Runs, RunsProgram, RunsTokens, budget_of};
+ghost use Rattle.fing_show.specs.declared.showing.Verdict.TheVariants.{NoTokens};
 
-use crate::pages::{Given, Named, accepted_page, lexical_page, refused_page, syntax_page};
+use crate::pages::{Given, Named, lexical_page, refused_page, syntax_page};
 use crate::places::names_at;
+use crate::running::accepted;
 use crate::view::View;
 use fing_elab::elab;
 use fing_lexer::{LexRefusal, Token, tokens};
@@ -14,6 +17,7 @@ use fing_refusals::{ElabWhy, Refusal};
 use fing_syntax::Program;
 use fing_text::{SOURCE_LIMIT, Span};
 use omega_kinds::Mem;
+use omega_machine::End;
 use std::alloc::Global;
 
 /// What the rules say of a source.
@@ -29,21 +33,24 @@ pub enum Verdict {
     NoMeaning { at: Span },
 }
 
-/// A verdict and the page that shows it.
+/// A verdict and the page that shows it, and what the run of an accepted program comes to where its steps are shown.
 #[derive(Drop)]
 pub struct Shown {
     pub verdict: Verdict,
     pub text: Vec<u8>,
+    pub end: Option<End>,
 }
 
 /// What is shown of a source of at most 1,048,576 bytes, which a page calls by the name. The verdict is the one that
 /// the rules give. For a refusal the page has the place, an excerpt, a sentence, a hint and where docs/errors.md
-/// explains it, and for a program what the view shows of it. `Err` is out of memory.
+/// explains it, and for a program what the view shows of it. Where that is its steps, `end` is what its whole term comes to
+/// within the budget. `Err` is out of memory.
 ///
 /// Rossberg, Russo and Dreyer, "F-ing modules", sections 4 to 7, Elaboration.
 pub fn show(alloc: Global, name: &[u8], source: &[u8], view: View) -> Result<Shown, Mem>
     requires { length source.now ≤ SOURCE_LIMIT }
-    ensures { IfOk result (λ s. Judges source.now s.verdict) }
+    ensures verdict { IfOk result (λ s. Judges source.now s.verdict) }
+    ensures end { IfOk result (λ s. Runs source.now (budget_of view) s.verdict s.end) }
 {
     match tokens(alloc, source) {
         Ok(tokens) => show_tokens(alloc, Named { name, source }, &tokens, view),
@@ -54,7 +61,7 @@ pub fn show(alloc: Global, name: &[u8], source: &[u8], view: View) -> Result<Sho
 // What is shown of bytes that have no tokens for this reason, which may be out of memory.
 fn show_lexical(alloc: Global, name: &[u8], source: &[u8], why: LexRefusal) -> Result<Shown, Mem>
     requires { (why ≡ WantOfMemory) ⊎ RefusalOf source.now why }
-    ensures { IfOk result (λ s. Judges source.now s.verdict) }
+    ensures { IfOk result (λ s. Judges source.now s.verdict × (s.verdict ≡ NoTokens why) × (s.end ≡ None)) }
 {
     if let LexRefusal::Mem = why {
         return Err(Mem);
@@ -62,13 +69,15 @@ fn show_lexical(alloc: Global, name: &[u8], source: &[u8], why: LexRefusal) -> R
     Ok(Shown {
         verdict: Verdict::NoTokens(why),
         text: lexical_page(alloc, name, source, why)?,
+        end: None,
     })
 }
 
 // What is shown of the tokens of a source.
 fn show_tokens(alloc: Global, named: Named<'_>, tokens: &[Token], view: View) -> Result<Shown, Mem>
     requires { length tokens.now ≤ SOURCE_LIMIT }
-    ensures { IfOk result (λ s. JudgesTokens tokens.now s.verdict) }
+    ensures verdict { IfOk result (λ s. JudgesTokens tokens.now s.verdict) }
+    ensures end { IfOk result (λ s. RunsTokens tokens.now (budget_of view) s.verdict s.end) }
 {
     let given = Given {
         named,
@@ -81,19 +90,25 @@ fn show_tokens(alloc: Global, named: Named<'_>, tokens: &[Token], view: View) ->
         Err(ParseRefusal::Syntax { at }) => Ok(Shown {
             verdict: Verdict::NoProgram { at },
             text: syntax_page(alloc, given, at)?,
+            end: None,
         }),
     }
 }
 
 // What is shown of the program that a source is.
 fn show_program(alloc: Global, given: Given<'_>, program: Program) -> Result<Shown, Mem>
-    ensures { IfOk result (λ s. JudgesProgram program s.verdict) }
+    ensures verdict { IfOk result (λ s. JudgesProgram program s.verdict) }
+    ensures end { IfOk result (λ s. RunsProgram program (budget_of given.entry.view) s.verdict s.end) }
 {
     match elab(alloc, &program) {
-        Ok(found) => Ok(Shown {
-            verdict: Verdict::Accepted,
-            text: accepted_page(alloc, given, &program, &found)?,
-        }),
+        Ok(found) => {
+            let shown = accepted(alloc, given, &program, &found)?;
+            Ok(Shown {
+                verdict: Verdict::Accepted,
+                text: shown.text,
+                end: shown.end,
+            })
+        }
         Err(refusal) => show_refusal(alloc, given.named, program, &refusal),
     }
 }
@@ -105,7 +120,7 @@ fn show_refusal(
     program: Program,
     refusal: &Refusal,
 ) -> Result<Shown, Mem>
-    ensures { IfOk result (λ s. IsReported refusal.now s.verdict) }
+    ensures { IfOk result (λ s. IsReported refusal.now s.verdict × (s.end ≡ None)) }
 {
     if let ElabWhy::Mem = refusal.why {
         return Err(Mem);
@@ -114,5 +129,6 @@ fn show_refusal(
     Ok(Shown {
         verdict: Verdict::NoMeaning { at: refusal.at },
         text: refused_page(alloc, named, names, refusal)?,
+        end: None,
     })
 }

@@ -5,8 +5,13 @@ use std::alloc::Global;
 use std::process::Abort;
 use std::test::Fail;
 
-// What is shown of a source with a name.
-fn shown(rt: &impl Abort, alloc: Global, source: &str, view: View) -> Result<Shown, Fail> {
+/// What is shown of a source with a name.
+pub(crate) fn shown(
+    rt: &impl Abort,
+    alloc: Global,
+    source: &str,
+    view: View,
+) -> Result<Shown, Fail> {
     let bytes = source.as_bytes();
     assert!(rt; bytes.len() <= SOURCE_LIMIT);
     Ok(show(alloc, b"a.fing", bytes, view)?)
@@ -210,8 +215,8 @@ val n = C.next C.start",
         "pure
 module C : sig
   type c
-  val next : C.c -> C.c
   val start : C.c
+  val next : C.c -> C.c
 end
 val n : C.c
 hidden: C.c
@@ -223,9 +228,9 @@ type p = fun (t : Type) => {x : t, y : Int} -> Bool
 val id = fun [b : Type] => fun (x : b) => x
 val twice = fun (f : Int -> Int) => fun (x : Int) => f (f x)",
         "pure
-val id : [a : Type] -> a -> a
 type k = fun (a : Type -> Type) => a (a Int)
 type p = fun (a : Type) => {x : a, y : Int} -> Bool
+val id : [a : Type] -> a -> a
 val twice : (Int -> Int) -> Int -> Int
 ",
     ),
@@ -275,15 +280,15 @@ end
 val p = pack struct type t = Int val x = 1 end : S
 module M = unpack p : S",
         "impure
-module M : sig
-  type t
-  val x : M.t
-end
 signature S = sig
   type t
   val x : t
 end
 val p : pack sig .. end
+module M : sig
+  type t
+  val x : M.t
+end
 hidden: M.t
 ",
     ),

@@ -2,11 +2,16 @@
 ghost use Rattle.std.specs.Prelude.{◌≡◌, ◌≤◌, ◌<◌, MatchOption, ℕ, length, take, drop};
 ghost use Rattle.fing_show_c.specs.Inner.Returns.{IsWritten, Returns, exit_number, page_status};
 
-use fing_show::{Shown, Verdict, View, show};
+use fing_show::{Form, Shown, Verdict, View, show};
 use fing_text::SOURCE_LIMIT;
 use std::alloc::Global;
 
-/// How a call ends; its number is the exit status of `fing-show`.
+// How many steps of a run are shown, and the budget of the run: those of `fing-show --steps`.
+const SHOWN_STEPS: u64 = 20;
+
+const BUDGET: u64 = 1000000;
+
+/// How a call ends; its number is the status that the call returns.
 #[derive(Clone, Copy, Debug, PartialEq, Eq)]
 pub enum Status {
     /// The page of a source that is accepted was written.
@@ -39,7 +44,7 @@ fn without_page(status: Status) -> Answer
 
 // The view with a number.
 fn view_of(number: u8) -> Option<View>
-    ensures { MatchOption result (5 ≤ number) (λ _. number < 5) }
+    ensures { MatchOption result (8 ≤ number) (λ _. number < 8) }
 {
     match number {
         0 => Some(View::Source),
@@ -47,6 +52,12 @@ fn view_of(number: u8) -> Option<View>
         2 => Some(View::Latex),
         3 => Some(View::Term),
         4 => Some(View::TermLatex),
+        5 => Some(View::Steps {
+            shown: SHOWN_STEPS,
+            budget: BUDGET,
+        }),
+        6 => Some(View::Derivation(Form::Text)),
+        7 => Some(View::Derivation(Form::Html)),
         _ => None,
     }
 }
@@ -95,7 +106,7 @@ fn answer_view(alloc: Global, view: View, name: &[u8], source: &[u8], page: &mut
     requires { length source.now ≤ SOURCE_LIMIT }
     ensures within { result.written ≤ length page.new }
     ensures rest { drop result.written page.new ≡ drop result.written page.old }
-    ensures returns { (number : ℕ) → number < 5 → Returns number source.now (length page.old) (take result.written page.new) result.status }
+    ensures returns { (number : ℕ) → number < 8 → Returns number source.now (length page.old) (take result.written page.new) result.status }
 {
     match show(alloc, name, source, view) {
         Ok(shown) => answer_shown(&shown, page),

@@ -15,10 +15,12 @@ use std::alloc::Global;
 /// Does what the program `fing-show` does, over memory.
 ///
 /// `view` is what is shown of an accepted program: 0 its signature in the syntax of a source, 1 its signature in the
-/// notation of the literature, 2 the same in LaTeX, 3 its term in this notation, 4 the same in LaTeX. `name` is what the
-/// page calls the source. The page of the source is written to the beginning of `page`, whose rest stays as it was, and
-/// `written` becomes the number of bytes that were written. The result is the exit status of the program: 0 where the
-/// source is accepted, and 1 where it is refused.
+/// notation of the literature, 2 the same in LaTeX, 3 its term in this notation, 4 the same in LaTeX, 5 the first 20 steps
+/// of its run with the end that it has within 1,000,000 steps, 6 the tree of the rules that derive it, 7 the same in HTML.
+/// `name` is what the page calls the source. The page of the source is written to the beginning of `page`, whose rest stays
+/// as it was, and `written` becomes the number of bytes that were written. The result is 0 where the source is accepted,
+/// and 1 where it is refused. With view 5 the program `fing-show --steps` also has an exit status for a run that meets a
+/// fault and for one that spends its budget; here the source is accepted, and its page says so.
 ///
 /// The other statuses have no whole page. With 6 the page is longer than the room for it, which its beginning then fills.
 /// Nothing is written with 2, where no view has this number; with 7, out of memory, also where the page would have more

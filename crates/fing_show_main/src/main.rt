@@ -1,19 +1,25 @@
-// The program `fing-show [--color WHEN] [--paper | [--latex | --omega] [--term] | --type-at LINE:COLUMN] [FILE]`: reads a
-// source, writes its page, or with `--omega` compact Omega text, to standard output, and ends with the status of the
-// verdict. Stands on clap (words), fing_text (bytes in and out), fing_show (pages), show_colour (pages in colour) and
+// The program `fing-show [--color WHEN] [--paper | [--latex | --omega] [--term] | --derivation [--latex | --html] |
+// --type-at LINE:COLUMN | --steps[=N]] [FILE]`: reads a source, writes its page, or with `--omega` compact Omega text, to
+// standard output, and ends with the status of the verdict, or of the run whose steps are shown. Stands on clap (words),
+// fing_text (bytes in and out), fing_show (pages), omega_machine (ends of runs), show_colour (pages in colour) and
 // omega_compact (compact text).
 // Proved: it is safe and ends. The verdict is in the contract of `show` of fing_show; no clause speaks of the page or
 // of the exit status.
 #![tactic(auto)]
 
 mod colour;
+mod derivations;
+mod steps;
 
 use crate::colour::{Colour, colour_in, colour_option, is_coloured};
+use crate::derivations::{derivation_in, derivation_option, html_option};
+use crate::steps::{steps_in, steps_option};
 use clap::error::Error;
 use clap::{Arg, ArgAction, Command};
 use fing_show::{Shown, Verdict, View, show};
 use fing_text::{ReadEnd, SOURCE_LIMIT, Source, StdSink, StdSource, put, read_all};
 use omega_compact::compact;
+use omega_machine::End;
 use show_colour::coloured;
 use std::alloc::{AllocError, Global};
 use std::fs::File;
@@ -26,6 +32,8 @@ enum Status {
     Accepted = 0,
     Refused = 1,
     Words = 2,
+    Faulted = 3,
+    Spent = 4,
     ReadFault = 5,
     WriteFault = 6,
     NoMemory = 7,
@@ -66,7 +74,7 @@ fn command<'a>(alloc: Global) -> Result<Command<'a>, AllocError> {
     let latex = flag(
         alloc,
         "latex",
-        "Shows it in this notation, in LaTeX for math mode",
+        "Shows it in this notation, or a derivation, in LaTeX for math mode",
     );
     let term = flag(
         alloc,
@@ -85,7 +93,7 @@ fn command<'a>(alloc: Global) -> Result<Command<'a>, AllocError> {
         .help("Shows the type, kind or signature of the smallest phrase there");
     Command::new(alloc, "fing-show")
         .version("0.9.0")
-        .about("Shows why a program is refused, or its signature or its term")
+        .about("Shows why a program is refused, or its signature, its term or its run")
         .no_binary_name(true)
         .arg(file)?
         .arg(paper.conflicts_with("latex")?.conflicts_with("term")?)?
@@ -99,6 +107,9 @@ fn command<'a>(alloc: Global) -> Result<Command<'a>, AllocError> {
                 .conflicts_with("term")?
                 .conflicts_with("omega")?,
         )?
+        .arg(derivation_option(alloc)?)?
+        .arg(html_option(alloc)?)?
+        .arg(steps_option(alloc)?)?
         .arg(colour_option(alloc))
 }
 
@@ -109,6 +120,8 @@ enum Task<'a> {
     Show(View),
     // The phrase at this place of it is shown.
     ShowAt(&'a str),
+    // So many steps of its run are shown, and the end.
+    ShowSteps(&'a str),
     // It is made compact Omega text.
     Compact,
 }
@@ -132,12 +145,15 @@ fn wish_in<'a>(alloc: Global, words: &'a [String]) -> Result<Wish<'a>, Error> {
         (false, false) if matches.get_flag("paper") => View::Paper,
         (false, false) => View::Source,
     };
+    let view = derivation_in(&matches).unwrap_or(view);
     let task = match (matches.get_flag("omega"), matches.get_flag("term")) {
         (true, true) => Task::Show(View::TermOmega),
         (true, false) => Task::Compact,
-        (false, _) => matches
-            .get_str("type-at")
-            .map_or(Task::Show(view), Task::ShowAt),
+        (false, _) => match (matches.get_str("type-at"), matches.get_str("steps")) {
+            (Some(place), _) => Task::ShowAt(place),
+            (None, Some(count)) => Task::ShowSteps(count),
+            (None, None) => Task::Show(view),
+        },
     };
     Ok(Wish {
         file: matches.get_str("FILE"),
@@ -160,6 +176,19 @@ fn view_at(rt: &HostRuntime, place: &str) -> Result<View, Status> {
         Some(view) => Ok(view),
         None => {
             let _ = eprintln!(rt; "fing-show: --type-at takes LINE:COLUMN, as in 3:14");
+            Err(Status::Words)
+        }
+    }
+}
+
+// The view of so many steps. Words that are no such number are told on standard error.
+fn steps_of(rt: &HostRuntime, count: &str) -> Result<View, Status> {
+    match steps_in(count) {
+        Some(view) => Ok(view),
+        None => {
+            let _ = eprintln!(rt;
+                "fing-show: --steps takes a number up to 10000000, as in --steps=100"
+            );
             Err(Status::Words)
         }
     }
@@ -240,10 +269,12 @@ fn write_page(rt: &HostRuntime, text: &[u8], status: Status) -> Status {
     }
 }
 
-// The status of a verdict.
-fn status_of(verdict: Verdict) -> Status {
-    match verdict {
-        Verdict::Accepted => Status::Accepted,
+// The status of what is shown: that of the verdict, and where a run is shown that of its end.
+fn status_of(shown: &Shown) -> Status {
+    match (shown.verdict, &shown.end) {
+        (Verdict::Accepted, Some(End::Fault { .. })) => Status::Faulted,
+        (Verdict::Accepted, Some(End::Spent)) => Status::Spent,
+        (Verdict::Accepted, _) => Status::Accepted,
         _ => Status::Refused,
     }
 }
@@ -252,7 +283,7 @@ fn status_of(verdict: Verdict) -> Status {
 fn show_wish(rt: &HostRuntime, wish: Wish<'_>, view: View) -> Result<Status, Status> {
     let shown = show_file(rt, wish.file, view)?;
     let shown = in_colour(rt, wish.colour, shown)?;
-    Ok(write_page(rt, &shown.text, status_of(shown.verdict)))
+    Ok(write_page(rt, &shown.text, status_of(&shown)))
 }
 
 // Does what the words ask for, and gives the status.
@@ -260,6 +291,7 @@ fn fulfil(rt: &HostRuntime, wish: Wish<'_>) -> Result<Status, Status> {
     match wish.task {
         Task::Show(view) => show_wish(rt, wish, view),
         Task::ShowAt(place) => show_wish(rt, wish, view_at(rt, place)?),
+        Task::ShowSteps(count) => show_wish(rt, wish, steps_of(rt, count)?),
         Task::Compact => {
             let text = compact_file(rt, wish.file)?;
             Ok(write_page(rt, &text, Status::Accepted))

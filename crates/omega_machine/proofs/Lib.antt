@@ -9,3 +9,4 @@ pub mod Refocused
 pub mod PackedValues
 pub mod Runs
 pub mod Texts
+pub mod Stepped

@@ -31,10 +31,10 @@ use Rattle.omega_terms.specs.ValueText.{value_text}
 use Rattle.omega_machine.proofs.Plugs.{plug-typed, plug-step, plug-fault}
 use Rattle.omega_machine.proofs.PackedValues.{packed-value}
 
-next : (n : ℕ) → suc n ≡ n + 1
+pub next : (n : ℕ) → suc n ≡ n + 1
 next n = omega arith
 
-one-more : {e d c : Term} {n : ℕ} → Reaches e n d → Step d c → Reaches e (suc n) c
+pub one-more : {e d c : Term} {n : ℕ} → Reaches e n d → Step d c → Reaches e (suc n) c
 one-more Reaches.none s = Reaches.step s Reaches.none
 one-more (Reaches.step t r) s = Reaches.step t (one-more r s)
 

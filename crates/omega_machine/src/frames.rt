@@ -1,11 +1,13 @@
 // Evaluation contexts: a closed term with a hole, as a list of frames, the outermost first.
-use omega_kinds::Label;
+ghost use Rattle.std.specs.Prelude.{◌≡◌, IfOk};
+
+use omega_kinds::{Label, Mem};
 use omega_terms::{Op, Term, TermFields};
 use omega_types::Ty;
 
 /// A form with a hole, which has another part to reduce after the hole, or is a value once the hole is.
 #[derive(Drop)]
-pub(crate) enum Waiting {
+pub enum Waiting {
     /// a call's function, with the argument
     Function(Term),
     /// an operator's left side, with the right one
@@ -22,7 +24,7 @@ pub(crate) enum Waiting {
 
 /// A form with a hole, which makes a step or a fault once a value stands in it.
 #[derive(Drop)]
-pub(crate) enum Ready {
+pub enum Ready {
     /// a call's argument, with the function
     Argument(Term),
     /// the function that is applied to the type
@@ -41,9 +43,27 @@ pub(crate) enum Ready {
     Unrolled,
 }
 
+impl Ready {
+    // The same form, with its parts shared. `Err` is out of memory.
+    pub(crate) fn share(&self) -> Result<Ready, Mem>
+        ensures { IfOk result (λ f. f ≡ self.now) }
+    {
+        match self {
+            Ready::Argument(function) => Ok(Ready::Argument(function.share()?)),
+            Ready::Instance(ty) => Ok(Ready::Instance(ty.share()?)),
+            Ready::Part(label) => Ok(Ready::Part(label.share()?)),
+            Ready::Opened(body) => Ok(Ready::Opened(body.share()?)),
+            Ready::Test(yes, no) => Ok(Ready::Test(yes.share()?, no.share()?)),
+            Ready::Right(op, left) => Ok(Ready::Right(*op, left.share()?)),
+            Ready::Cased(whole) => Ok(Ready::Cased(whole.share()?)),
+            Ready::Unrolled => Ok(Ready::Unrolled),
+        }
+    }
+}
+
 /// A form with a hole.
 #[derive(Drop)]
-pub(crate) enum Frame {
+pub enum Frame {
     Waiting(Waiting),
     Ready(Ready),
 }

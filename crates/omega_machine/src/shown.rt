@@ -40,7 +40,7 @@ impl Shown {
 
 /// The text of a program's value: for each field of the record inside all packages, in label order, the label, ` = `,
 /// the shown form and a line end. `Err` is out of memory.
-pub(crate) fn show_program(alloc: Global, value: &Term) -> Result<Shown, Mem>
+pub fn show_program(alloc: Global, value: &Term) -> Result<Shown, Mem>
     ensures { IfOk result (λ s. s ≡ value_text value.now) }
 {
     let mut bytes = Vec::new(alloc);

@@ -4,26 +4,27 @@ use crate::types::put_type;
 use crate::writer::Writer;
 use omega_kinds::{Effect, Kind, Kinds, Mem};
 use semantic_sigs::{Abs, Sig, SigFields, SigNode};
+use show_order::Order;
 use type_normal::{NormalTy, plain};
 
-/// Writes a signature. `Err` is out of memory.
+/// Writes a signature, whose components come in an order. `Err` is out of memory.
 ///
 /// Rossberg, Russo and Dreyer, "F-ing modules", section 4, Semantic signatures, and section 7.
 #[cycle(sigs)]
 #[inline(never)]
-pub(crate) fn put_sig(writer: &mut Writer, sig: &Sig) -> Result<(), Mem> {
+pub(crate) fn put_sig(writer: &mut Writer, sig: &Sig, order: Order<'_>) -> Result<(), Mem> {
     match sig.node() {
         SigNode::Val(ty) => put_value(writer, ty),
         SigNode::Typ(ty, kind) => put_constructor(writer, ty, kind),
         SigNode::Meta(abs) => {
             writer.put("[= ")?;
-            put_abs(writer, abs)?;
+            put_abs(writer, abs, order)?;
             writer.put("]")
         }
-        SigNode::Str(fields) => put_structure(writer, fields),
+        SigNode::Str(fields) => put_structure(writer, fields, order),
         SigNode::Fun { .. } => {
             writer.open()?;
-            put_functor(writer, sig)?;
+            put_functor(writer, sig, order)?;
             writer.close()
         }
     }
@@ -48,21 +49,23 @@ fn put_constructor(writer: &mut Writer, ty: &NormalTy, kind: &Kind) -> Result<()
 // Writes the signature of a structure.
 #[cycle(sigs)]
 #[inline(never)]
-fn put_structure(writer: &mut Writer, fields: &SigFields) -> Result<(), Mem> {
+#[tactic(auto, using(crate::proofs::ShownBelow::shown_below))]
+fn put_structure(writer: &mut Writer, fields: &SigFields, order: Order<'_>) -> Result<(), Mem> {
     let brackets = writer.symbols().record;
     if fields.items().is_empty() {
         return writer.put_empty(brackets);
     }
+    let shown = order.arranged(writer.alloc(), fields.items())?;
     writer.open_list(brackets)?;
     let mut is_first = true;
-    for field in fields.items() {
+    for field in &shown {
         if !is_first {
             writer.put_comma()?;
         }
         is_first = false;
         writer.put_name(field.0.bytes())?;
         writer.put(" : ")?;
-        put_sig(writer, &field.1)?;
+        put_sig(writer, &field.1, order.component(&field.0))?;
     }
     writer.close_list(brackets)
 }
@@ -70,7 +73,7 @@ fn put_structure(writer: &mut Writer, fields: &SigFields) -> Result<(), Mem> {
 // Writes the signature of a functor, and all arrows of its result in the same group.
 #[cycle(sigs)]
 #[inline(never)]
-fn put_functor(writer: &mut Writer, sig: &Sig) -> Result<(), Mem> {
+fn put_functor(writer: &mut Writer, sig: &Sig, order: Order<'_>) -> Result<(), Mem> {
     let SigNode::Fun {
         effect,
         kinds,
@@ -81,9 +84,9 @@ fn put_functor(writer: &mut Writer, sig: &Sig) -> Result<(), Mem> {
         return Ok(());
     };
     put_binders(writer, writer.symbols().all, kinds)?;
-    put_parameter(writer, param)?;
+    put_parameter(writer, param, order.parameter())?;
     put_arrow(writer, *effect)?;
-    put_result(writer, result)?;
+    put_result(writer, result, order.result())?;
     unbind(writer, kinds);
     Ok(())
 }
@@ -91,33 +94,33 @@ fn put_functor(writer: &mut Writer, sig: &Sig) -> Result<(), Mem> {
 // Writes the parameter of a functor, a functor in parentheses.
 #[cycle(sigs)]
 #[inline(never)]
-fn put_parameter(writer: &mut Writer, param: &Sig) -> Result<(), Mem> {
+fn put_parameter(writer: &mut Writer, param: &Sig, order: Order<'_>) -> Result<(), Mem> {
     let SigNode::Fun { .. } = param.node() else {
-        return put_sig(writer, param);
+        return put_sig(writer, param, order);
     };
     writer.put("(")?;
-    put_sig(writer, param)?;
+    put_sig(writer, param, order)?;
     writer.put(")")
 }
 
 // Writes the result of a functor: one that hides nothing and is a functor goes on in the same group.
 #[cycle(sigs)]
 #[inline(never)]
-fn put_result(writer: &mut Writer, abs: &Abs) -> Result<(), Mem> {
+fn put_result(writer: &mut Writer, abs: &Abs, order: Order<'_>) -> Result<(), Mem> {
     if abs.kinds().items().is_empty()
         && let SigNode::Fun { .. } = abs.body().node()
     {
-        return put_functor(writer, abs.body());
+        return put_functor(writer, abs.body(), order);
     }
-    put_abs(writer, abs)
+    put_abs(writer, abs, order)
 }
 
-// Writes an abstract signature.
+/// Writes an abstract signature. `Err` is out of memory.
 #[cycle(sigs)]
 #[inline(never)]
-fn put_abs(writer: &mut Writer, abs: &Abs) -> Result<(), Mem> {
+pub(crate) fn put_abs(writer: &mut Writer, abs: &Abs, order: Order<'_>) -> Result<(), Mem> {
     put_binders(writer, writer.symbols().exists, abs.kinds())?;
-    put_sig(writer, abs.body())?;
+    put_sig(writer, abs.body(), order)?;
     unbind(writer, abs.kinds());
     Ok(())
 }

@@ -25,6 +25,11 @@ impl Writer {
         }
     }
 
+    // The allocator of what is written.
+    pub(crate) fn alloc(&self) -> Global {
+        self.layout.alloc()
+    }
+
     /// The notation.
     pub fn symbols(&self) -> &'static Symbols {
         self.symbols

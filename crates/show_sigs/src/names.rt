@@ -1,27 +1,35 @@
-// The names of hidden types: the texts of their least root paths.
+// The names of hidden types: the texts of paths that lead to them.
+use crate::search::Search;
 use omega_kinds::{Kinds, Mem, Name, name_of};
 use semantic_sigs::{Abs, Item, Path, Sig};
+use show_order::Order;
 use sig_roots::roots;
 use std::alloc::Global;
 
-/// The names of the types of these kinds that a signature hides, the outermost first: the prefix and the names on their
-/// least root paths, with dots between them; `None` for one without a root path. `Err` is out of memory.
+/// The names of the types of these kinds that a signature hides, the outermost first: the prefix and the names on a path
+/// to the type, with dots between them. It is the first path in the order of the components, through structures and
+/// through functors whose parameters mention no type from outside; where none of these leads to the type it is its least
+/// root path. `None` is for a type without a root path. `Err` is out of memory.
 ///
 /// Rossberg, Russo and Dreyer, "F-ing modules", section 5, root paths.
-pub fn type_names(
+pub(crate) fn type_names(
     alloc: Global,
     kinds: &Kinds,
     body: &Sig,
+    order: Order<'_>,
     prefix: &[u8],
 ) -> Result<Vec<Option<Name>>, Mem> {
+    let mut search = Search::new(alloc, kinds.items().len(), prefix)?;
+    search.visit(body, 0, order)?;
+    let mut names = search.into_names();
     let paths = paths_of(alloc, kinds, body)?;
-    let mut names = Vec::new(alloc);
-    for path in &paths {
-        let name = match path {
-            Some(path) => Some(path_name(alloc, prefix, path)?),
-            None => None,
-        };
-        names.push(name)?;
+    for (at, path) in paths.iter().enumerate() {
+        if let Some(path) = path
+            && let Some(slot) = names.get_mut(at)
+            && slot.is_none()
+        {
+            *slot = Some(path_name(alloc, prefix, path)?);
+        }
     }
     Ok(names)
 }

@@ -2,38 +2,44 @@
 use crate::writer::Writer;
 use omega_kinds::{Kind, Mem, Name};
 use semantic_sigs::{Abs, SigNode};
+use show_order::Order;
 use show_text::Page;
 use show_types::{Naming, put_kind};
 
-/// Writes the signature of a program, one declaration a line, and then a line for each hidden type. A hidden type is
-/// declared where its least root path leads, and has this path as its name everywhere; one that no path leads to is
-/// `?N`, with its number. `Err` is out of memory.
+/// Writes the signature of a program, one declaration a line, and then a line for each hidden type. Components come in
+/// the order that is given, each once. A hidden type is declared where the first path in this order leads, and has this
+/// path as its name everywhere; one that no path leads to is `?N`, with its number. `Err` is out of memory.
 ///
 /// Rossberg, Russo and Dreyer, "F-ing modules", section 5, root paths.
-pub fn put_program(page: Page, abs: &Abs) -> Result<Page, Mem> {
+pub fn put_program(page: Page, abs: &Abs, order: Order<'_>) -> Result<Page, Mem> {
     let naming = Naming::new(page.alloc());
     let mut writer = Writer::new(page, naming);
-    writer.bind(abs.kinds(), abs.body())?;
+    writer.bind(abs.kinds(), abs.body(), order)?;
     match abs.body().node() {
-        SigNode::Str(fields) => writer.put_fields(fields)?,
-        _ => writer.put_sig(abs.body())?,
+        SigNode::Str(fields) => writer.put_fields(fields, order)?,
+        _ => writer.put_sig(abs.body(), order)?,
     }
     put_all_hidden(&mut writer, abs)?;
     Ok(writer.into_page())
 }
 
 /// Writes what a phrase is, where the type variables in scope outside it have these names, the outermost first: a value
-/// with its type, a type with its kind, or a module or a signature, and then a line for each type that a module hides.
-/// `Err` is out of memory.
-pub fn put_phrase(page: Page, names: Vec<Option<Name>>, abs: &Abs) -> Result<Page, Mem> {
+/// with its type, a type with its kind, or a module or a signature with components in the order that is given, and then a
+/// line for each type that a module hides. `Err` is out of memory.
+pub fn put_phrase(
+    page: Page,
+    names: Vec<Option<Name>>,
+    abs: &Abs,
+    order: Order<'_>,
+) -> Result<Page, Mem> {
     let count = names.len() as u64;
     let naming = Naming::named(page.alloc(), names, count)?;
     let mut writer = Writer::new(page, naming);
-    writer.bind(abs.kinds(), abs.body())?;
+    writer.bind(abs.kinds(), abs.body(), order)?;
     if let SigNode::Str(_) | SigNode::Fun { .. } = abs.body().node() {
         writer.page.put(b"module : ")?;
     }
-    writer.put_sig(abs.body())?;
+    writer.put_sig(abs.body(), order)?;
     if let SigNode::Typ(_, kind) = abs.body().node() {
         writer.page.put(b" : ")?;
         put_kind(&mut writer.page, kind)?;

@@ -2,6 +2,7 @@
 use crate::names::{add_step, type_names};
 use omega_kinds::{Effect, Kind, Kinds, Mem, Name};
 use semantic_sigs::{Abs, Sig, SigFields, SigNode};
+use show_order::Order;
 use show_text::Page;
 use show_types::{Naming, put_kind, put_ty};
 use sig_roots::rooted;
@@ -62,8 +63,9 @@ impl Writer {
     }
 
     // The types of these kinds, which a signature hides, come into scope, with their paths as names.
-    pub(crate) fn bind(&mut self, kinds: &Kinds, body: &Sig) -> Result<(), Mem> {
-        let names = type_names(self.page.alloc(), kinds, body, self.frame.path.as_slice())?;
+    pub(crate) fn bind(&mut self, kinds: &Kinds, body: &Sig, order: Order<'_>) -> Result<(), Mem> {
+        let path = self.frame.path.as_slice();
+        let names = type_names(self.page.alloc(), kinds, body, order, path)?;
         for name in names {
             self.naming.add(name)?;
         }
@@ -100,13 +102,15 @@ impl Writer {
         self.page.put_times(b' ', self.indent.saturating_mul(2))
     }
 
-    // Writes the declarations of fields, each on a line.
+    // Writes the declarations of fields in an order, each on a line.
     #[cycle(sigs)]
-    pub(crate) fn put_fields(&mut self, fields: &SigFields) -> Result<(), Mem> {
-        for field in fields.items() {
+    #[tactic(auto, using(crate::proofs::ShownBelow::shown_below))]
+    pub(crate) fn put_fields(&mut self, fields: &SigFields, order: Order<'_>) -> Result<(), Mem> {
+        let shown = order.arranged(self.page.alloc(), fields.items())?;
+        for field in &shown {
             let length = self.frame.path.len();
             add_step(&mut self.frame.path, &field.0)?;
-            self.put_field(&field.0, &field.1)?;
+            self.put_field(&field.0, &field.1, order.component(&field.0))?;
             self.frame.path.truncate(length);
         }
         Ok(())
@@ -114,7 +118,7 @@ impl Writer {
 
     // Writes the declaration of a field.
     #[cycle(sigs)]
-    fn put_field(&mut self, name: &Name, sig: &Sig) -> Result<(), Mem> {
+    fn put_field(&mut self, name: &Name, sig: &Sig, order: Order<'_>) -> Result<(), Mem> {
         self.put_indent()?;
         match sig.node() {
             SigNode::Val(ty) => {
@@ -124,11 +128,11 @@ impl Writer {
             SigNode::Typ(ty, kind) => self.put_declared(name, ty, kind)?,
             SigNode::Meta(abs) => {
                 self.page.put_all(&[b"signature ", name.bytes(), b" = "])?;
-                self.put_apart(abs)?;
+                self.put_apart(abs, order)?;
             }
             SigNode::Str(_) | SigNode::Fun { .. } => {
                 self.page.put_all(&[b"module ", name.bytes(), b" : "])?;
-                self.put_sig(sig)?;
+                self.put_sig(sig, order)?;
             }
         }
         self.page.put(b"\n")
@@ -163,20 +167,20 @@ impl Writer {
         }
     }
 
-    // Writes a signature.
+    // Writes a signature, whose components come in an order.
     #[cycle(sigs)]
-    pub(crate) fn put_sig(&mut self, sig: &Sig) -> Result<(), Mem> {
+    pub(crate) fn put_sig(&mut self, sig: &Sig, order: Order<'_>) -> Result<(), Mem> {
         match sig.node() {
             SigNode::Str(fields) if fields.items().is_empty() => self.page.put(b"sig end"),
-            SigNode::Str(fields) => self.put_structure(fields),
+            SigNode::Str(fields) => self.put_structure(fields, order),
             SigNode::Fun {
                 effect,
                 kinds,
                 param,
                 result,
             } => {
-                self.put_param(param, kinds)?;
-                self.put_result(result, *effect, kinds)?;
+                self.put_param(param, kinds, order.parameter())?;
+                self.put_result(result, *effect, kinds, order.result())?;
                 self.unbind(kinds);
                 Ok(())
             }
@@ -190,18 +194,18 @@ impl Writer {
             }
             SigNode::Meta(abs) => {
                 self.page.put(b"signature = ")?;
-                self.put_apart(abs)
+                self.put_apart(abs, order)
             }
         }
     }
 
     // Writes a structure of one field at least.
     #[cycle(sigs)]
-    fn put_structure(&mut self, fields: &SigFields) -> Result<(), Mem> {
+    fn put_structure(&mut self, fields: &SigFields, order: Order<'_>) -> Result<(), Mem> {
         let indent = self.indent;
         self.page.put(b"sig\n")?;
         self.indent = indent.saturating_add(1);
-        self.put_fields(fields)?;
+        self.put_fields(fields, order)?;
         self.indent = indent;
         self.put_indent()?;
         self.page.put(b"end")
@@ -209,13 +213,13 @@ impl Writer {
 
     // Writes the parameter of a functor, whose types come into scope.
     #[cycle(sigs)]
-    fn put_param(&mut self, param: &Sig, kinds: &Kinds) -> Result<(), Mem> {
+    fn put_param(&mut self, param: &Sig, kinds: &Kinds, order: Order<'_>) -> Result<(), Mem> {
         let name = self.parameter();
         let inner = self.frame_at(name)?;
         let outer = mem::replace(&mut self.frame, inner);
         self.page.put_all(&[b"fun (", name, b" : "])?;
-        self.bind(kinds, param)?;
-        self.put_sig(param)?;
+        self.bind(kinds, param, order)?;
+        self.put_sig(param, order)?;
         self.page.put(b")")?;
         self.frame = outer;
         Ok(())
@@ -223,37 +227,43 @@ impl Writer {
 
     // Writes the result of a functor with these variables.
     #[cycle(sigs)]
-    fn put_result(&mut self, target: &Abs, effect: Effect, kinds: &Kinds) -> Result<(), Mem> {
+    fn put_result(
+        &mut self,
+        target: &Abs,
+        effect: Effect,
+        kinds: &Kinds,
+        order: Order<'_>,
+    ) -> Result<(), Mem> {
         match effect {
             Effect::Pure => {
                 self.page.put(b" => ")?;
                 let under = self.frame.under;
                 self.frame.under = under.saturating_add(kinds.items().len() as u64);
-                self.put_sig(target.body())?;
+                self.put_sig(target.body(), order)?;
                 self.frame.under = under;
                 Ok(())
             }
             Effect::Impure => {
                 self.page.put(b" -> ")?;
                 let inner = self.frame_at(self.frame.path.as_slice())?;
-                self.put_abs(target, inner)
+                self.put_abs(target, inner, order)
             }
         }
     }
 
     // Writes a signature that stands for itself, with paths of its own.
     #[cycle(sigs)]
-    fn put_apart(&mut self, abs: &Abs) -> Result<(), Mem> {
+    fn put_apart(&mut self, abs: &Abs, order: Order<'_>) -> Result<(), Mem> {
         let inner = self.frame_at(b"")?;
-        self.put_abs(abs, inner)
+        self.put_abs(abs, inner, order)
     }
 
     // Writes an abstract signature from a frame on.
     #[cycle(sigs)]
-    fn put_abs(&mut self, abs: &Abs, inner: Frame) -> Result<(), Mem> {
+    fn put_abs(&mut self, abs: &Abs, inner: Frame, order: Order<'_>) -> Result<(), Mem> {
         let outer = mem::replace(&mut self.frame, inner);
-        self.bind(abs.kinds(), abs.body())?;
-        self.put_sig(abs.body())?;
+        self.bind(abs.kinds(), abs.body(), order)?;
+        self.put_sig(abs.body(), order)?;
         self.unbind(abs.kinds());
         self.frame = outer;
         Ok(())

@@ -4,7 +4,7 @@ use omega_terms::{Op, Term, TermNode};
 /// Which terms stand at a place without parentheses: all, those that can be operands, those that can be applied, and
 /// those that can be arguments.
 #[derive(Clone, Copy, Debug, PartialEq, Eq)]
-pub(crate) enum Room {
+pub enum Room {
     Whole,
     Operand,
     Applied,
@@ -30,8 +30,31 @@ pub(crate) fn needs_parentheses(node: &TermNode, room: Room) -> bool {
 }
 
 /// Whether a term is a function `fn`: a call of it is shown as a `let`.
-pub(crate) fn is_function(term: &Term) -> bool {
+pub fn is_function(term: &Term) -> bool {
     matches!(term.node(), TermNode::Lam(_, _))
+}
+
+/// Whether a term is written as it is where a larger one is left out: a variable, a number, a boolean, a text, an empty
+/// record, one of one such term, or a path from it.
+pub(crate) fn is_short(term: &Term) -> bool {
+    match term.node() {
+        TermNode::Var(_) | TermNode::Int(_) | TermNode::Bool(_) | TermNode::Text(_) => true,
+        TermNode::Get(record, _) => is_short(record),
+        TermNode::Fields(fields) => match fields.items() {
+            [] => true,
+            [field] => is_leaf(&field.1),
+            _ => false,
+        },
+        _ => false,
+    }
+}
+
+// Whether a term has no parts.
+fn is_leaf(term: &Term) -> bool {
+    matches!(
+        term.node(),
+        TermNode::Var(_) | TermNode::Int(_) | TermNode::Bool(_) | TermNode::Text(_)
+    )
 }
 
 /// Whether a term is shown as `let` or as `unpack`.
@@ -49,7 +72,7 @@ pub(crate) fn is_abstraction(term: &Term) -> bool {
 }
 
 /// How an operator is written.
-pub(crate) fn operator_text(op: Op) -> &'static str {
+pub fn operator_text(op: Op) -> &'static str {
     match op {
         Op::Add => "+",
         Op::Sub => "-",

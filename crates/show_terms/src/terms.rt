@@ -3,7 +3,7 @@ use crate::forms::{Room, is_abstraction, is_binding, needs_parentheses, operator
 use crate::writer::TermWriter;
 use omega_kinds::{Label, Mem};
 use omega_terms::{Term, TermFields, TermNode};
-use show_paper::{Symbols, put_inner, put_type};
+use show_paper::{Symbols, put_inner};
 use show_text::Page;
 use std::alloc::Global;
 
@@ -17,16 +17,29 @@ pub fn put_term(alloc: Global, symbols: &'static Symbols, term: &Term) -> Result
     writer.text.page()
 }
 
+/// Writes a term at a place, within the limits of the writer. `Err` is out of memory.
+pub fn put_part(writer: &mut TermWriter, term: &Term, room: Room) -> Result<(), Mem> {
+    put_at(writer, term, room)
+}
+
 // Writes a term at a place.
 #[cycle(terms)]
 #[inline(never)]
 fn put_at(writer: &mut TermWriter, term: &Term, room: Room) -> Result<(), Mem> {
-    if !needs_parentheses(term.node(), room) {
-        return put_form(writer, term);
+    if writer.is_cut(term) {
+        return writer.put_cut();
     }
-    writer.text.put("(")?;
+    let is_grouped = needs_parentheses(term.node(), room);
+    if is_grouped {
+        writer.text.put("(")?;
+    }
+    writer.enter();
     put_form(writer, term)?;
-    writer.text.put(")")
+    writer.leave();
+    if is_grouped {
+        writer.text.put(")")?;
+    }
+    Ok(())
 }
 
 // Writes a term without parentheses round it.
@@ -82,7 +95,7 @@ fn put_abstraction(writer: &mut TermWriter, term: &Term) -> Result<(), Mem> {
             writer.text.put_sign(symbols.lambda, 1)?;
             writer.put_variable(0)?;
             writer.text.put_sign(symbols.of_kind, 1)?;
-            put_type(&mut writer.text, ty)?;
+            writer.put_type(ty)?;
             put_body(writer, body)?;
             writer.unbind(1);
         }
@@ -105,9 +118,12 @@ fn put_abstraction(writer: &mut TermWriter, term: &Term) -> Result<(), Mem> {
 #[inline(never)]
 fn put_body(writer: &mut TermWriter, body: &Term) -> Result<(), Mem> {
     writer.text.put(".")?;
-    if is_abstraction(body) {
+    if is_abstraction(body) && !writer.is_cut(body) {
         writer.text.put_space()?;
-        return put_abstraction(writer, body);
+        writer.enter();
+        put_abstraction(writer, body)?;
+        writer.leave();
+        return Ok(());
     }
     writer.text.put_word_break()?;
     put_at(writer, body, Room::Whole)
@@ -138,7 +154,7 @@ fn put_let(writer: &mut TermWriter, term: &Term) -> Result<(), Mem> {
     writer.put_variable(0)?;
     writer.unbind(1);
     writer.text.put(" : ")?;
-    put_type(&mut writer.text, ty)?;
+    writer.put_type(ty)?;
     put_bound(writer, argument)?;
     writer.bind(1);
     put_rest(writer, body)?;
@@ -164,8 +180,8 @@ fn put_unpack(writer: &mut TermWriter, term: &Term) -> Result<(), Mem> {
     Ok(())
 }
 
-// Writes the variables that the opening of a package binds.
-fn put_opened(writer: &mut TermWriter) -> Result<(), Mem> {
+/// Writes the variables that the opening of a package binds, in their brackets.
+pub fn put_opened(writer: &mut TermWriter) -> Result<(), Mem> {
     let brackets = writer.symbols().sum;
     writer.bind(1);
     writer.text.bind(1);
@@ -202,8 +218,11 @@ fn put_bound(writer: &mut TermWriter, term: &Term) -> Result<(), Mem> {
 #[cycle(terms)]
 #[inline(never)]
 fn put_rest(writer: &mut TermWriter, body: &Term) -> Result<(), Mem> {
-    if is_binding(body) {
-        return put_binding(writer, body);
+    if is_binding(body) && !writer.is_cut(body) {
+        writer.enter();
+        put_binding(writer, body)?;
+        writer.leave();
+        return Ok(());
     }
     put_at(writer, body, Room::Whole)
 }
@@ -230,7 +249,7 @@ fn put_instance(writer: &mut TermWriter, term: &Term) -> Result<(), Mem> {
     put_at(writer, function, Room::Applied)?;
     writer.text.put_space()?;
     writer.text.put("[")?;
-    put_type(&mut writer.text, ty)?;
+    writer.put_type(ty)?;
     writer.text.put("]")
 }
 
@@ -243,12 +262,16 @@ fn put_fields(writer: &mut TermWriter, fields: &TermFields) -> Result<(), Mem> {
         return writer.text.put_empty(brackets);
     }
     writer.text.open_list(brackets)?;
-    let mut is_first = true;
+    let mut count = 0_u32;
     for field in fields.items() {
-        if !is_first {
+        if count > 0 {
             writer.text.put_comma()?;
         }
-        is_first = false;
+        if writer.is_full(count) {
+            writer.put_cut()?;
+            break;
+        }
+        count = count.saturating_add(1);
         writer.text.put_label(&field.0)?;
         writer.text.put(" = ")?;
         put_at(writer, &field.1, Room::Whole)?;
@@ -280,12 +303,12 @@ fn put_package(writer: &mut TermWriter, term: &Term) -> Result<(), Mem> {
     let brackets = writer.symbols().sum;
     writer.put_word("pack")?;
     writer.text.open_list(brackets)?;
-    put_type(&mut writer.text, hidden)?;
+    writer.put_type(hidden)?;
     writer.text.put_comma()?;
     put_at(writer, content, Room::Whole)?;
     writer.text.close_list(brackets)?;
     writer.put_between("as")?;
-    put_type(&mut writer.text, ty)
+    writer.put_type(ty)
 }
 
 // Writes a choice.
@@ -336,9 +359,9 @@ fn put_fix(writer: &mut TermWriter, term: &Term) -> Result<(), Mem> {
     writer.text.put("(")?;
     writer.put_variable(0)?;
     writer.text.put(" : ")?;
-    put_type(&mut writer.text, from)?;
+    writer.put_type(from)?;
     writer.text.put(") : ")?;
-    put_type(&mut writer.text, to)?;
+    writer.put_type(to)?;
     writer.text.put(".")?;
     writer.text.put_word_break()?;
     put_at(writer, body, Room::Whole)?;
@@ -358,7 +381,7 @@ fn put_injection(writer: &mut TermWriter, term: &Term) -> Result<(), Mem> {
     writer.text.put_space()?;
     put_at(writer, content, Room::Argument)?;
     writer.put_between("as")?;
-    put_type(&mut writer.text, ty)
+    writer.put_type(ty)
 }
 
 // Writes a case.
@@ -371,8 +394,16 @@ fn put_case(writer: &mut TermWriter, term: &Term) -> Result<(), Mem> {
     writer.put_word("case")?;
     put_at(writer, subject, Room::Operand)?;
     writer.text.put(" : ")?;
-    put_type(&mut writer.text, ty)?;
+    writer.put_type(ty)?;
     writer.put_between("of")?;
+    writer.bind(1);
+    put_branches(writer, branches)?;
+    writer.unbind(1);
+    Ok(())
+}
+
+/// Writes the branches of a case, which bind a variable, within the limits of the writer.
+pub fn put_cases(writer: &mut TermWriter, branches: &TermFields) -> Result<(), Mem> {
     writer.bind(1);
     put_branches(writer, branches)?;
     writer.unbind(1);
@@ -388,12 +419,16 @@ fn put_branches(writer: &mut TermWriter, branches: &TermFields) -> Result<(), Me
         return writer.text.put_empty(brackets);
     }
     writer.text.open_list(brackets)?;
-    let mut is_first = true;
+    let mut count = 0_u32;
     for branch in branches.items() {
-        if !is_first {
+        if count > 0 {
             writer.text.put_comma()?;
         }
-        is_first = false;
+        if writer.is_full(count) {
+            writer.put_cut()?;
+            break;
+        }
+        count = count.saturating_add(1);
         put_branch_head(writer, &branch.0)?;
         put_at(writer, &branch.1, Room::Whole)?;
     }
@@ -421,7 +456,7 @@ fn put_rolled(writer: &mut TermWriter, term: &Term) -> Result<(), Mem> {
     writer.put_word("roll")?;
     put_at(writer, content, Room::Argument)?;
     writer.put_between("as")?;
-    put_type(&mut writer.text, ty)
+    writer.put_type(ty)
 }
 
 // Writes what is taken out of a recursive type.

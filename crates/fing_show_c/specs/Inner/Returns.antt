@@ -31,12 +31,12 @@ pub data IsWritten (v : Verdict) (text : List ℕ) (room : ℕ) (written : List 
   whole : written ≡ text → IsWritten v text room written (page_status v)
   cut : (rest : List ℕ) → text ≡ written ++ rest → 0 < length rest → length written ≡ room → IsWritten v text room written status.Cut
 
--- the cause of each status, and what is written with it; the views have the numbers below 5
+-- the cause of each status, and what is written with it; the views have the numbers below 8
 pub data Returns (view : ℕ) (source : List ℕ) (room : ℕ) (written : List ℕ) : Status → Type 0 where
-  shown : {v : Verdict} {text : List ℕ} {s : Status} → view < 5 → length source ≤ limit → Judges source v → IsWritten v text room written s → Returns view source room written s
-  no_view : 5 ≤ view → written ≡ [] → Returns view source room written status.NoView
-  too_long : view < 5 → limit < length source → written ≡ [] → Returns view source room written status.TooLong
-  no_memory : view < 5 → length source ≤ limit → written ≡ [] → Returns view source room written status.NoMemory
+  shown : {v : Verdict} {text : List ℕ} {s : Status} → view < 8 → length source ≤ limit → Judges source v → IsWritten v text room written s → Returns view source room written s
+  no_view : 8 ≤ view → written ≡ [] → Returns view source room written status.NoView
+  too_long : view < 8 → limit < length source → written ≡ [] → Returns view source room written status.TooLong
+  no_memory : view < 8 → length source ≤ limit → written ≡ [] → Returns view source room written status.NoMemory
 
 -- the same for the number of the status
 pub data ReturnsNumber (view : ℕ) (source : List ℕ) (room : ℕ) (written : List ℕ) : ℕ → Type 0 where

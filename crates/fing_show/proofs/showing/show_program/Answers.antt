@@ -1,10 +1,18 @@
 use Rattle.elab_rules.proofs.Given.{ok-map}
 use Rattle.fing_show.specs.Inner.Judged.{JudgesProgram}
+use Rattle.fing_show.specs.Inner.Ran.{RunsProgram, budget_of}
+use Rattle.fing_show.proofs.Ran.{without-meaning}
 use Rattle.fing_show.proofs.Verdicts.{no-meaning}
 use Rattle.fing_show.proofs.showing.show_program.Goals as goal
 
-pub returns-in_ok-accepted_page-in-Ok : goal.returns-in_ok-accepted_page-in-Ok
-returns-in_ok-accepted_page-in-Ok c = JudgesProgram.meant c.in-Ok.ensures.means
+pub returns-in_ok-shown-in-Ok-clause-verdict : goal.returns-in_ok-shown-in-Ok-clause-verdict
+returns-in_ok-shown-in-Ok-clause-verdict c = JudgesProgram.meant c.in-Ok.ensures.means
 
-pub returns-in-Err : goal.returns-in-Err
-returns-in-Err c = ok-map c.show_refusal.result c.show_refusal.ensures (λ s p. no-meaning c.args.program c.in-Err.refusal s.verdict c.in-Err.ensures.refused p)
+pub returns-in_ok-shown-in-Ok-clause-end : goal.returns-in_ok-shown-in-Ok-clause-end
+returns-in_ok-shown-in-Ok-clause-end c = RunsProgram.meant c.in-Ok.ensures.means c.in_ok-shown-in-Ok.ensures
+
+pub returns-in-Err-clause-verdict : goal.returns-in-Err-clause-verdict
+returns-in-Err-clause-verdict c = ok-map c.show_refusal.result c.show_refusal.ensures (λ s p. no-meaning c.args.program c.in-Err.refusal s.verdict c.in-Err.ensures.refused p.0)
+
+pub returns-in-Err-clause-end : goal.returns-in-Err-clause-end
+returns-in-Err-clause-end c = ok-map c.show_refusal.result c.show_refusal.ensures (λ s p. without-meaning c.args.program (budget_of c.args.given.view) c.in-Err.refusal s.verdict s.end p.0 p.1)

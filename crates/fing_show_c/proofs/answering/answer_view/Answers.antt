@@ -4,7 +4,7 @@ use Rattle.fing_show_c.specs.declared.answering.Answer.{Answer}
 use Rattle.fing_show_c.proofs.answering.answer_view.Goals as goal
 
 pub returns-in-Ok-clause-returns : goal.returns-in-Ok-clause-returns
-returns-in-Ok-clause-returns c = λ number known. Returns.shown known c.requires c.in-Ok.ensures c.answer_shown.ensures.status
+returns-in-Ok-clause-returns c = λ number known. Returns.shown known c.requires c.in-Ok.ensures.verdict c.answer_shown.ensures.status
 
 pub returns-in-Err-clause-returns : goal.returns-in-Err-clause-returns
 returns-in-Err-clause-returns c = λ number known.
