@@ -8,9 +8,9 @@ use Rattle.omega_terms.specs.Term.{Term}
 use Rattle.omega_terms.specs.Steps.{End, Result, Outcome as Ends}
 use Rattle.omega_terms.specs.Typing.{HasType}
 use Rattle.omega_laws.proofs.Runs.{outcome}
-use Rattle.omega_checker.specs.Found.{normal_at, synth_in}
-use Rattle.omega_checker.specs.SameTy.{same_ty}
-use Rattle.omega_checker.proofs.Exact.{unkinded, untyped, differs, typed}
+use Rattle.omega_node_laws.specs.Found.{normal_at, synth_in}
+use Rattle.omega_node_laws.specs.SameTy.{same_ty}
+use Rattle.omega_node_laws.proofs.Exact.{unkinded, untyped, differs, typed}
 use Rattle.omega_terms.specs.ValueText.{value_text}
 use Rattle.omega_spelling.specs.Omega.{IsOmega}
 use Rattle.omega_spelling.specs.Refusals.{is_too_deep}

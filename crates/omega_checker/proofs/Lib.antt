@@ -1,9 +1,3 @@
-pub mod Trees
-pub mod ForCode
-pub mod VarSteps
 pub mod NormalAlready
+pub mod Calls
 pub mod PutSteps
-pub mod CallSteps
-pub mod FieldLoop
-pub mod Inverted
-pub mod Exact

@@ -10,9 +10,9 @@ use Rattle.omega_types.specs.Normality.Neutral.{n_var, n_apply}
 use Rattle.omega_types.proofs.KindsFound.{lookup-found, found-lookup, fresh-sound, fresh-complete, kind_in-complete}
 use Rattle.omega_types.proofs.LawProofs.{normal_of_normal}
 use Rattle.omega_types.proofs.Preservation.{normal-kind}
-use Rattle.omega_checker.specs.Found.{normal_at}
+use Rattle.omega_node_laws.specs.Found.{normal_at}
 use Rattle.omega_checker.specs.Inner.IsNormal.{at_star, at_arrow, with_arg, is_normal, are_normal, neutral_kind}
-use Rattle.omega_checker.proofs.Trees.{no, both-true, kind_eq-yes, kind_eq-self}
+use Rattle.omega_node_laws.proofs.Trees.{no, both-true, kind_eq-yes, kind_eq-self}
 
 -- ---- the small steps
 

@@ -1,5 +1,5 @@
 -- A type put in for a variable, and the type that is found, compared form by form.
-use Rattle.std.proofs.Common.{◌≡◌, ℕ, zero, suc, ◌+◌, ◌≤◌, ◌↔◌, Bool as Truth, true, false, IsTrue, length, refl, sym, ap, ap₂, subst, ◌∙◌}
+use Rattle.std.proofs.Common.{◌≡◌, ℕ, zero, suc, ◌+◌, ◌≤◌, ◌↔◌, Bool as Truth, true, false, IsTrue, List, length, refl, sym, ap, ap₂, subst, ◌∙◌}
 use Rattle.std.proofs.lemmas.List.{length-map}
 use Rattle.omega_kinds.specs.Kind.{Kind}
 use Rattle.omega_types.specs.Ty.{Ty}
@@ -10,8 +10,10 @@ use Rattle.omega_types.specs.Normaliser.{Args, Part, stuck, whole, tree, apply_p
 use Rattle.omega_types.specs.Substitution.{rename}
 use Rattle.omega_types.proofs.Steps.{map_parts}
 use Rattle.type_normal.proofs.FillSteps.{apply-star, put_in-unchanged, put_in-under, put_in-outermost, row-put_in}
-use Rattle.type_normal.proofs.Rows.{row-length}
-use Rattle.omega_checker.proofs.Trees.{no}
+use Rattle.type_store.specs.Shape.{Parts}
+use Rattle.type_store.specs.Trees.{row_at}
+use Rattle.type_store.proofs.PartSteps.{row_at-length}
+use Rattle.omega_node_laws.proofs.Trees.{no}
 
 -- a test of two types is one of two others that are the same
 pub same-if : {b : Truth} {s t u v : Ty} → (IsTrue b ↔ s ≡ t) → u ≡ s → v ≡ t → (IsTrue b ↔ u ≡ v)
@@ -26,9 +28,10 @@ put-under k i depth n m a t e f = put_in-under k i depth a t ∙ ap₂ (λ p q. 
 pub put-outermost : (k : Kind) (a b t : Ty) → b ≡ a → hsubst k zero a t ≡ tree (put_in k (args k) zero (shift 0 0 b) t)
 put-outermost k a b t e = sym (ap (λ u. tree (put_in k (args k) zero (shift 0 0 u) t)) e ∙ put_in-outermost k zero a t)
 
--- the fields stay as many
-pub put-length : (k : Kind) (i : ℕ) (a : Ty) (xs ys : Pairs) → put_in_row k (args k) i a (row xs) ≡ row ys → length xs ≡ length ys
-put-length k i a xs ys h = sym (length-map xs (λ x. (x.0, hsubst k i a x.1))) ∙ row-length (map_parts (hsubst k i a) xs) ys (row-put_in k i a xs ∙ h)
+-- the parts of a numbered record stay as many
+pub parts-length : (k : Kind) (i : ℕ) (a : Ty) (xs : Pairs) (ts : List Ty) (parts : Parts) → put_in_row k (args k) i a (row xs) ≡ row_at ts parts → length xs ≡ length parts
+parts-length k i a xs ts parts h =
+    sym (row_at-length ts parts (map_parts (hsubst k i a) xs) (sym (row-put_in k i a xs ∙ h)) ∙ length-map xs (λ x. (x.0, hsubst k i a x.1)))
 
 -- ---- the variable is no operator
 

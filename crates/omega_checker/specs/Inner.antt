@@ -1,2 +1,1 @@
 pub mod IsNormal
-pub mod Vars

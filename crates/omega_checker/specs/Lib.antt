@@ -1,4 +1,2 @@
-pub mod SameTy
-pub mod Found
 pub mod Judgment
 pub mod Inner

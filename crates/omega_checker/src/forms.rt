@@ -1,342 +1,385 @@
-// The typing rule of each form, from the types of its parts.
-ghost use Rattle.std.specs.Prelude.{◌≡◌, zero, IfOk};
+// The typing rule of each form, from the numbers of the types of its parts.
+ghost use Rattle.std.specs.Prelude.{◌≡◌, ◌<◌, zero, IfOk, Some, length};
 ghost use Rattle.std.specs.Option.{option_map};
+ghost use Rattle.omega_kinds.specs.Kind.{Star};
 ghost use Rattle.omega_kinds.specs.View.{kind_tree};
-ghost use Rattle.omega_types.specs.Fields.{row};
-ghost use Rattle.omega_types.specs.KindIn.{kind_in};
-ghost use Rattle.omega_types.specs.Inner.Scope.{scope_of};
+ghost use Rattle.omega_types.specs.Normaliser.{hsubst};
 ghost use Rattle.omega_types.specs.Ty.{Ty as TyTree};
-ghost use Rattle.omega_types.specs.Inner.View.{ty_of};
-ghost use Rattle.type_normal.specs.Mentioned.{is_mentioned};
+ghost use Rattle.omega_node_laws.specs.Found.{call_type, get_type, if_same, if_type, inj_type, inst_type, is_found as is_found_of, lowered as lowered_of, normal_at as normal_at_of, op_type, pack_type, roll_type, unroll_type};
+ghost use Rattle.omega_node_laws.specs.Scope.{Finds, IsIn, IsPackage, IsSum, Makes, parameter_type, type_at};
 ghost use Rattle.omega_terms.specs.Typing.{result_type};
-ghost use Rattle.omega_checker.specs.Found.{normal_at as normal_at_of, put_normal as put_normal_of, call_type, inst_type, part_at as part_at_of, get_type, pack_type, lowered as lowered_of, if_type, op_type, fix_type, inj_type, roll_type, unroll_type, is_found as is_found_of};
-ghost use Rattle.omega_checker.specs.SameTy.{same_ty};
+ghost use Rattle.type_store.specs.Numbers.{NumberOf};
+ghost use Rattle.type_store.specs.Trees.{at};
 
-use crate::normality::is_normal;
-use crate::putting::is_put;
-use omega_kinds::{Kind, Label, Mem, same_kind};
+use crate::scope::Scope;
+use omega_kinds::{Kind, Label, Mem};
 use omega_terms::Op;
-use omega_types::{Ty, TyFields, TyNode, kind_of};
+use omega_types::{Ty, TyNode};
 use std::alloc::Global;
-use type_normal::{NormalTy, as_normal, hsubst, lower, mentions, normal, plain, same};
+use type_normal::{NormalTy, as_normal, plain};
+use type_store::{Form, copied};
 
-// The kind of a type, and none where it has none.
-fn find_kind(alloc: Global, ctx: &[Kind], ty: &Ty) -> Result<Option<Kind>, Mem>
-    ensures { IfOk result (λ o. option_map kind_tree o ≡ kind_in (scope_of ctx.now) ty.now) }
-{
-    kind_of(alloc, ctx, ty)
-}
+impl Scope {
+    /// The number of `int`. `Err` is out of memory.
+    pub(crate) fn int(&mut self) -> Result<u64, Mem>
+        ensures { IfOk result (λ n. Makes self.old self.new n TyTree.Int) }
+    {
+        self.make(Form::Int)
+    }
 
-// The normal form of a type that may not be normal yet, and none where it has not the kind.
-fn normalised(alloc: Global, ctx: &[Kind], ty: &Ty, kind: &Kind) -> Result<Option<NormalTy>, Mem>
-    ensures { IfOk result (λ o. o ≡ normal_at_of (scope_of ctx.now) ty.now (kind_tree kind.now)) }
-{
-    match find_kind(alloc, ctx, ty)? {
-        Some(found) => {
-            if same_kind(&found, kind) {
-                Ok(Some(normal(alloc, ctx, ty, kind)?))
-            } else {
-                Ok(None)
+    /// The number of `bool`. `Err` is out of memory.
+    pub(crate) fn bool(&mut self) -> Result<u64, Mem>
+        ensures { IfOk result (λ n. Makes self.old self.new n TyTree.Bool) }
+    {
+        self.make(Form::Bool)
+    }
+
+    /// The number of `text`. `Err` is out of memory.
+    pub(crate) fn text(&mut self) -> Result<u64, Mem>
+        ensures { IfOk result (λ n. Makes self.old self.new n TyTree.Text) }
+    {
+        self.make(Form::Text)
+    }
+
+    /// The number of `(-> T T)`. `Err` is out of memory.
+    pub(crate) fn arrow(&mut self, from: u64, to: u64) -> Result<u64, Mem>
+        requires from { from < length self.old.types }
+        requires to { to < length self.old.types }
+        ensures { IfOk result (λ n. Makes self.old self.new n (TyTree.Arrow (at self.old.types from) (at self.old.types to))) }
+    {
+        self.make(Form::Arrow(from, to))
+    }
+
+    /// The number of the normal form of a type, and none where it has not the kind. `Err` is out of memory.
+    pub(crate) fn named(&mut self, ty: &Ty, kind: &Kind) -> Result<Option<u64>, Mem>
+        ensures { IfOk result (λ o. Finds self.old self.new o (normal_at_of self.old.kinds ty.now (kind_tree kind.now))) }
+    {
+        match self.normal(ty, kind)? {
+            Some(found) => Ok(Some(self.put(&found)?)),
+            None => Ok(None),
+        }
+    }
+
+    /// The number of a type that is likely to be the one at a number: where it is, the type is not tested. None where it has
+    /// not kind `*`. `Err` is out of memory.
+    pub(crate) fn parameter(&mut self, ty: &Ty, likely: u64) -> Result<Option<u64>, Mem>
+        requires { likely < length self.old.types }
+        ensures { IfOk result (λ o. Finds self.old self.new o (parameter_type self.old.kinds ty.now (at self.old.types likely))) }
+    {
+        if self.is_tree(likely, ty) {
+            Ok(Some(likely))
+        } else {
+            self.named(ty, &Kind::Star)
+        }
+    }
+
+    /// The type of a function.
+    pub(crate) fn function(&mut self, from: u64, to: Option<u64>) -> Result<Option<u64>, Mem>
+        requires from { from < length self.old.types }
+        requires to { IsIn self.old.types to }
+        ensures { IfOk result (λ o. Finds self.old self.new o (option_map (TyTree.Arrow (at self.old.types from)) (type_at self.old.types to))) }
+    {
+        match to {
+            Some(to) => Ok(Some(self.arrow(from, to)?)),
+            None => Ok(None),
+        }
+    }
+
+    /// The type of a function from types.
+    pub(crate) fn type_function(
+        &mut self,
+        kind: &Kind,
+        body: Option<u64>,
+    ) -> Result<Option<u64>, Mem>
+        requires { IsIn self.old.types body }
+        ensures { IfOk result (λ o. Finds self.old self.new o (option_map (TyTree.All (kind_tree kind.now)) (type_at self.old.types body))) }
+    {
+        match body {
+            Some(body) => Ok(Some(self.make(Form::All(kind.share()?, body))?)),
+            None => Ok(None),
+        }
+    }
+
+    /// The type of a call.
+    pub(crate) fn called(&self, function: Option<u64>, arg: u64) -> Option<u64>
+        requires function { IsIn self.now.types function }
+        requires arg { arg < length self.now.types }
+        ensures { NumberOf self.now.types result (call_type (type_at self.now.types function) (Some (at self.now.types arg))) }
+    {
+        let Some(function) = function else {
+            return None;
+        };
+        match self.form(function) {
+            Form::Arrow(from, to) => {
+                if self.same(*from, arg) {
+                    Some(*to)
+                } else {
+                    None
+                }
             }
-        }
-        None => Ok(None),
-    }
-}
-
-/// The normal form of a type, and none where it has not the kind. A type that is normal is given back as it is.
-/// `Err` is out of memory.
-pub(crate) fn normal_at(
-    alloc: Global,
-    ctx: &[Kind],
-    ty: &Ty,
-    kind: &Kind,
-) -> Result<Option<NormalTy>, Mem>
-    ensures { IfOk result (λ o. o ≡ normal_at_of (scope_of ctx.now) ty.now (kind_tree kind.now)) }
-{
-    if is_normal(alloc, ctx, ty, kind)? {
-        Ok(Some(part(ty)?))
-    } else {
-        normalised(alloc, ctx, ty, kind)
-    }
-}
-
-/// Whether two normal types are the same tree.
-pub(crate) fn agree(left: &NormalTy, right: &NormalTy) -> bool
-    ensures { result ≡ same_ty left.now right.now }
-{
-    same(left, right)
-}
-
-/// A type by its outermost form. `Err` is out of memory.
-pub(crate) fn make(alloc: Global, node: TyNode) -> Result<NormalTy, Mem>
-    ensures { IfOk result (λ t. t ≡ ty_of node) }
-{
-    Ok(as_normal(Ty::make(alloc, node)?))
-}
-
-/// A part of a normal type. `Err` is out of memory.
-pub(crate) fn part(ty: &Ty) -> Result<NormalTy, Mem>
-    ensures { IfOk result (λ t. t ≡ ty.now) }
-{
-    Ok(as_normal(ty.share()?))
-}
-
-/// The type of a call.
-pub(crate) fn called(
-    function: Option<NormalTy>,
-    arg: Option<NormalTy>,
-) -> Result<Option<NormalTy>, Mem>
-    ensures { IfOk result (λ o. o ≡ call_type function arg) }
-{
-    let (Some(function), Some(arg)) = (function, arg) else {
-        return Ok(None);
-    };
-    if let TyNode::Arrow(from, to) = plain(&function).node() {
-        if agree(&part(from)?, &arg) {
-            return Ok(Some(part(to)?));
+            _ => None,
         }
     }
-    Ok(None)
-}
 
-// The body of a binder with a type put in for its variable.
-fn put_normal(
-    alloc: Global,
-    kind: &Kind,
-    body: &Ty,
-    arg: Option<NormalTy>,
-) -> Result<Option<NormalTy>, Mem>
-    ensures { IfOk result (λ o. o ≡ put_normal_of (kind_tree kind.now) body.now arg) }
-{
-    match arg {
-        Some(arg) => Ok(Some(hsubst(alloc, &part(body)?, 0, &arg, kind)?)),
-        None => Ok(None),
-    }
-}
-
-/// The type of an instance of a term at a type.
-pub(crate) fn instantiated(
-    alloc: Global,
-    ctx: &[Kind],
-    term: Option<NormalTy>,
-    ty: &Ty,
-) -> Result<Option<NormalTy>, Mem>
-    ensures { IfOk result (λ o. o ≡ inst_type (scope_of ctx.now) term ty.now) }
-{
-    let Some(term) = term else {
-        return Ok(None);
-    };
-    if let TyNode::All(kind, body) = plain(&term).node() {
-        let arg = normal_at(alloc, ctx, ty, kind)?;
-        return put_normal(alloc, kind, body, arg);
-    }
-    Ok(None)
-}
-
-// The type at a label of a record.
-fn part_at(fields: &TyFields, label: &Label) -> Result<Option<NormalTy>, Mem>
-    ensures { IfOk result (λ o. o ≡ part_at_of (row fields.now) label.now) }
-{
-    match fields.find(label) {
-        Some(ty) => Ok(Some(part(ty)?)),
-        None => Ok(None),
-    }
-}
-
-/// The type of a field.
-pub(crate) fn field_type(whole: Option<NormalTy>, label: &Label) -> Result<Option<NormalTy>, Mem>
-    ensures { IfOk result (λ o. o ≡ get_type whole label.now) }
-{
-    let Some(whole) = whole else {
-        return Ok(None);
-    };
-    if let TyNode::Fields(fields) = plain(&whole).node() {
-        return part_at(fields, label);
-    }
-    Ok(None)
-}
-
-/// The type of a package: the target, where the body has the type that it asks for.
-pub(crate) fn packed(
-    alloc: Global,
-    ctx: &[Kind],
-    hidden: &Ty,
-    target: Option<NormalTy>,
-    body: Option<NormalTy>,
-) -> Result<Option<NormalTy>, Mem>
-    ensures { IfOk result (λ o. o ≡ pack_type (scope_of ctx.now) hidden.now target body) }
-{
-    let (Some(target), Some(body)) = (target, body) else {
-        return Ok(None);
-    };
-    if let TyNode::Ex(kind, inner) = plain(&target).node() {
-        if let Some(hidden) = normal_at(alloc, ctx, hidden, kind)? {
-            if is_put(alloc, kind, inner, &hidden, &body)? {
-                return Ok(Some(target.share()?));
-            }
+    /// The type of an instance of a term at a type.
+    pub(crate) fn instantiated(&mut self, term: Option<u64>, ty: &Ty) -> Result<Option<u64>, Mem>
+        requires { IsIn self.old.types term }
+        ensures { IfOk result (λ o. Finds self.old self.new o (inst_type self.old.kinds (type_at self.old.types term) ty.now)) }
+    {
+        let Some(term) = term else {
+            return Ok(None);
+        };
+        let Form::All(kind, body) = self.form(term) else {
+            return Ok(None);
+        };
+        let kind = kind.share()?;
+        let body = *body;
+        match self.named(ty, &kind)? {
+            Some(arg) => Ok(Some(self.fill(body, arg, &kind)?)),
+            None => Ok(None),
         }
     }
-    Ok(None)
-}
 
-/// The type outside of a type variable, where it does not mention the variable.
-pub(crate) fn lowered(alloc: Global, ty: Option<NormalTy>) -> Result<Option<NormalTy>, Mem>
-    ensures { IfOk result (λ o. o ≡ lowered_of ty) }
-{
-    match ty {
-        Some(ty) => {
-            if has_variable(&ty) {
-                Ok(None)
-            } else {
-                Ok(Some(lower(alloc, &ty, 1)?))
-            }
-        }
-        None => Ok(None),
-    }
-}
-
-// Whether the innermost type variable is free in the type.
-fn has_variable(ty: &NormalTy) -> bool
-    ensures { result ≡ is_mentioned zero ty.now }
-{
-    mentions(ty, 0)
-}
-
-/// The type of a choice.
-pub(crate) fn chosen(
-    alloc: Global,
-    test: Option<NormalTy>,
-    yes: Option<NormalTy>,
-    no: Option<NormalTy>,
-) -> Result<Option<NormalTy>, Mem>
-    ensures { IfOk result (λ o. o ≡ if_type test yes no) }
-{
-    let (Some(test), Some(yes), Some(no)) = (test, yes, no) else {
-        return Ok(None);
-    };
-    let truth = make(alloc, TyNode::Bool)?;
-    if agree(&test, &truth) && agree(&yes, &no) {
-        return Ok(Some(yes));
-    }
-    Ok(None)
-}
-
-/// The type of an operator on two numbers.
-pub(crate) fn computed(
-    alloc: Global,
-    op: Op,
-    left: Option<NormalTy>,
-    right: Option<NormalTy>,
-) -> Result<Option<NormalTy>, Mem>
-    ensures { IfOk result (λ o. o ≡ op_type op left right) }
-{
-    let (Some(left), Some(right)) = (left, right) else {
-        return Ok(None);
-    };
-    let number = make(alloc, TyNode::Int)?;
-    if agree(&left, &number) && agree(&right, &number) {
-        return Ok(Some(result_type(alloc, op)?));
-    }
-    Ok(None)
-}
-
-// The type of an operator's result.
-fn result_type(alloc: Global, op: Op) -> Result<NormalTy, Mem>
-    ensures { IfOk result (λ t. t ≡ result_type op) }
-{
-    match op {
-        Op::Less | Op::Equal => make(alloc, TyNode::Bool),
-        Op::Add | Op::Sub | Op::Mul | Op::Div | Op::Rem => make(alloc, TyNode::Int),
-    }
-}
-
-/// The type of a function.
-pub(crate) fn arrow(alloc: Global, from: &NormalTy, to: &NormalTy) -> Result<NormalTy, Mem>
-    ensures { IfOk result (λ t. t ≡ TyTree.Arrow from.now to.now) }
-{
-    make(
-        alloc,
-        TyNode::Arrow(plain(from).share()?, plain(to).share()?),
-    )
-}
-
-/// The type of a function that calls itself, where its body has the type that it says.
-pub(crate) fn fixed(
-    alloc: Global,
-    from: &NormalTy,
-    to: &NormalTy,
-    body: Option<NormalTy>,
-) -> Result<Option<NormalTy>, Mem>
-    ensures { IfOk result (λ o. o ≡ fix_type from.now to.now body) }
-{
-    let Some(body) = body else {
-        return Ok(None);
-    };
-    if agree(to, &body) {
-        return Ok(Some(arrow(alloc, from, to)?));
-    }
-    Ok(None)
-}
-
-/// The type of a term injected at a label: the target, where it is a sum that has the term's type there.
-pub(crate) fn injected(
-    label: &Label,
-    target: Option<NormalTy>,
-    body: Option<NormalTy>,
-) -> Result<Option<NormalTy>, Mem>
-    ensures { IfOk result (λ o. o ≡ inj_type label.now target body) }
-{
-    let (Some(target), Some(body)) = (target, body) else {
-        return Ok(None);
-    };
-    if let TyNode::Sum(parts) = plain(&target).node() {
-        if let Some(wanted) = part_at(parts, label)? {
-            if agree(&wanted, &body) {
-                return Ok(Some(target.share()?));
-            }
+    /// The type of a field.
+    pub(crate) fn field_type(&self, whole: Option<u64>, label: &Label) -> Option<u64>
+        requires { IsIn self.now.types whole }
+        ensures { NumberOf self.now.types result (get_type (type_at self.now.types whole) label.now) }
+    {
+        match whole {
+            Some(whole) => self.field(whole, label),
+            None => None,
         }
     }
-    Ok(None)
-}
 
-/// Whether a type was found, and is this one.
-pub(crate) fn is_found(wanted: &NormalTy, found: &Option<NormalTy>) -> bool
-    ensures { result ≡ is_found_of wanted.now found.now }
-{
-    match found {
-        Some(found) => agree(wanted, found),
-        None => false,
-    }
-}
-
-/// The type of a rolled term: the target, where it is recursive and the term has the type that it unfolds to.
-pub(crate) fn rolled(
-    alloc: Global,
-    target: Option<NormalTy>,
-    body: Option<NormalTy>,
-) -> Result<Option<NormalTy>, Mem>
-    ensures { IfOk result (λ o. o ≡ roll_type target body) }
-{
-    let (Some(target), Some(body)) = (target, body) else {
-        return Ok(None);
-    };
-    if let TyNode::Mu(inner) = plain(&target).node() {
-        if is_put(alloc, &Kind::Star, inner, &target, &body)? {
-            return Ok(Some(target.share()?));
+    /// The kind of what a package type hides, with the number of its body; none where the type is no package type.
+    pub(crate) fn package(&self, ty: Option<u64>) -> Result<Option<(Kind, u64)>, Mem>
+        requires { IsIn self.now.types ty }
+        ensures { IfOk result (λ o. IsPackage self.now.types ty o) }
+    {
+        let Some(ty) = ty else {
+            return Ok(None);
+        };
+        match self.form(ty) {
+            Form::Ex(kind, body) => Ok(Some((kind.share()?, *body))),
+            _ => Ok(None),
         }
     }
-    Ok(None)
-}
 
-/// The type of an unrolled term: what the term's recursive type unfolds to.
-pub(crate) fn unrolled(alloc: Global, whole: Option<NormalTy>) -> Result<Option<NormalTy>, Mem>
-    ensures { IfOk result (λ o. o ≡ unroll_type whole) }
-{
-    let Some(whole) = whole else {
-        return Ok(None);
-    };
-    if let TyNode::Mu(inner) = plain(&whole).node() {
-        return Ok(Some(hsubst(alloc, &part(inner)?, 0, &whole, &Kind::Star)?));
+    /// The type of a package: the target, where the body has the type that it asks for.
+    pub(crate) fn packed(&mut self, hidden: &Ty, target: &Ty, body: u64) -> Result<Option<u64>, Mem>
+        requires { body < length self.old.types }
+        ensures { IfOk result (λ o. Finds self.old self.new o (pack_type self.old.kinds hidden.now (normal_at_of self.old.kinds target.now Star) (Some (at self.old.types body)))) }
+    {
+        let Some(target) = self.normal(target, &Kind::Star)? else {
+            return Ok(None);
+        };
+        let TyNode::Ex(kind, inner) = plain(&target).node() else {
+            return Ok(None);
+        };
+        let Some(hidden) = self.normal(hidden, kind)? else {
+            return Ok(None);
+        };
+        match kind {
+            Kind::Star => self.packed_type(kind, inner, &hidden, body),
+            Kind::Arrow(..) => self.packed_operator(kind, inner, &hidden, body),
+        }
     }
-    Ok(None)
+
+    // The same where a type of kind `*` is hidden.
+    fn packed_type(
+        &mut self,
+        kind: &Kind,
+        inner: &Ty,
+        hidden: &NormalTy,
+        body: u64,
+    ) -> Result<Option<u64>, Mem>
+        requires kind { kind_tree kind.now ≡ Star }
+        requires body { body < length self.old.types }
+        ensures { IfOk result (λ o. Finds self.old self.new o (if_same (TyTree.Ex (kind_tree kind.now) inner.now) (Some (hsubst (kind_tree kind.now) zero hidden.now inner.now)) (Some (at self.old.types body)))) }
+    {
+        let hidden = self.put(hidden)?;
+        let inner = self.inner_type(inner, body)?;
+        if self.is_filled(inner, hidden, body) {
+            Ok(Some(self.make(Form::Ex(kind.share()?, inner))?))
+        } else {
+            Ok(None)
+        }
+    }
+
+    // The same where a type operator is hidden.
+    fn packed_operator(
+        &mut self,
+        kind: &Kind,
+        inner: &Ty,
+        hidden: &NormalTy,
+        body: u64,
+    ) -> Result<Option<u64>, Mem>
+        requires { body < length self.old.types }
+        ensures { IfOk result (λ o. Finds self.old self.new o (if_same (TyTree.Ex (kind_tree kind.now) inner.now) (Some (hsubst (kind_tree kind.now) zero hidden.now inner.now)) (Some (at self.old.types body)))) }
+    {
+        if self.is_put(kind, inner, hidden, body)? {
+            let inner = self.inner_type(inner, body)?;
+            Ok(Some(self.make(Form::Ex(kind.share()?, inner))?))
+        } else {
+            Ok(None)
+        }
+    }
+
+    // The number of what stands below the binder of a package type: it is likely to be much like a type from outside of it.
+    fn inner_type(&mut self, inner: &Ty, outside: u64) -> Result<u64, Mem>
+        requires { outside < length self.old.types }
+        ensures { IfOk result (λ n. Makes self.old self.new n inner.now) }
+    {
+        let like = self.raise(outside)?;
+        let inner = as_normal(inner.share()?);
+        self.put_like(&inner, like)
+    }
+
+    /// The type outside of a type variable, where it does not mention the variable.
+    pub(crate) fn lowered(&mut self, ty: Option<u64>) -> Result<Option<u64>, Mem>
+        requires { IsIn self.old.types ty }
+        ensures { IfOk result (λ o. Finds self.old self.new o (lowered_of (type_at self.old.types ty))) }
+    {
+        match ty {
+            Some(ty) => self.lower(ty),
+            None => Ok(None),
+        }
+    }
+
+    /// The type of a choice.
+    pub(crate) fn chosen(
+        &mut self,
+        test: Option<u64>,
+        yes: Option<u64>,
+        no: Option<u64>,
+    ) -> Result<Option<u64>, Mem>
+        requires test { IsIn self.old.types test }
+        requires yes { IsIn self.old.types yes }
+        requires no { IsIn self.old.types no }
+        ensures { IfOk result (λ o. Finds self.old self.new o (if_type (type_at self.old.types test) (type_at self.old.types yes) (type_at self.old.types no))) }
+    {
+        let (Some(test), Some(yes), Some(no)) = (test, yes, no) else {
+            return Ok(None);
+        };
+        let truth = self.bool()?;
+        if self.same(test, truth) && self.same(yes, no) {
+            Ok(Some(yes))
+        } else {
+            Ok(None)
+        }
+    }
+
+    /// The type of an operator on two numbers.
+    pub(crate) fn computed(
+        &mut self,
+        op: Op,
+        left: Option<u64>,
+        right: Option<u64>,
+    ) -> Result<Option<u64>, Mem>
+        requires left { IsIn self.old.types left }
+        requires right { IsIn self.old.types right }
+        ensures { IfOk result (λ o. Finds self.old self.new o (op_type op (type_at self.old.types left) (type_at self.old.types right))) }
+    {
+        let (Some(left), Some(right)) = (left, right) else {
+            return Ok(None);
+        };
+        let number = self.int()?;
+        if self.same(left, number) && self.same(right, number) {
+            Ok(Some(self.result_type(op)?))
+        } else {
+            Ok(None)
+        }
+    }
+
+    // The type of an operator's result.
+    fn result_type(&mut self, op: Op) -> Result<u64, Mem>
+        ensures { IfOk result (λ n. Makes self.old self.new n (result_type op)) }
+    {
+        match op {
+            Op::Less | Op::Equal => self.bool(),
+            Op::Add | Op::Sub | Op::Mul | Op::Div | Op::Rem => self.int(),
+        }
+    }
+
+    /// Whether a type was found, and is this one.
+    pub(crate) fn is_found(&self, wanted: u64, found: Option<u64>) -> bool
+        requires wanted { wanted < length self.now.types }
+        requires found { IsIn self.now.types found }
+        ensures { result ≡ is_found_of (at self.now.types wanted) (type_at self.now.types found) }
+    {
+        match found {
+            Some(found) => self.same(wanted, found),
+            None => false,
+        }
+    }
+
+    /// The type of a term injected at a label: the target, where it is a sum that has the term's type there.
+    pub(crate) fn injected(
+        &self,
+        label: &Label,
+        target: Option<u64>,
+        body: Option<u64>,
+    ) -> Option<u64>
+        requires target { IsIn self.now.types target }
+        requires body { IsIn self.now.types body }
+        ensures { NumberOf self.now.types result (inj_type label.now (type_at self.now.types target) (type_at self.now.types body)) }
+    {
+        let (Some(target), Some(body)) = (target, body) else {
+            return None;
+        };
+        let Some(wanted) = self.variant(target, label) else {
+            return None;
+        };
+        if self.same(wanted, body) {
+            Some(target)
+        } else {
+            None
+        }
+    }
+
+    /// The labels and numbers of a sum's parts; none where the type is no sum. `Err` is out of memory.
+    pub(crate) fn sum(&self, alloc: Global, ty: u64) -> Result<Option<Vec<(Label, u64)>>, Mem>
+        requires { ty < length self.now.types }
+        ensures { IfOk result (λ o. IsSum self.now.types ty (option_map (λ v. v.items) o)) }
+    {
+        match self.form(ty) {
+            Form::Sum(parts) => Ok(Some(copied(alloc, parts.as_slice())?)),
+            _ => Ok(None),
+        }
+    }
+
+    /// The type of a rolled term: the target, where it is recursive and the term has the type that it unfolds to.
+    pub(crate) fn rolled(
+        &mut self,
+        target: Option<u64>,
+        body: Option<u64>,
+    ) -> Result<Option<u64>, Mem>
+        requires target { IsIn self.old.types target }
+        requires body { IsIn self.old.types body }
+        ensures { IfOk result (λ o. Finds self.old self.new o (roll_type (type_at self.old.types target) (type_at self.old.types body))) }
+    {
+        let (Some(wanted), Some(body)) = (self.unrolled(target)?, body) else {
+            return Ok(None);
+        };
+        if self.same(wanted, body) {
+            Ok(target)
+        } else {
+            Ok(None)
+        }
+    }
+
+    /// The type of an unrolled term: what the term's recursive type unfolds to.
+    pub(crate) fn unrolled(&mut self, whole: Option<u64>) -> Result<Option<u64>, Mem>
+        requires { IsIn self.old.types whole }
+        ensures { IfOk result (λ o. Finds self.old self.new o (unroll_type (type_at self.old.types whole))) }
+    {
+        let Some(whole) = whole else {
+            return Ok(None);
+        };
+        let Form::Mu(inner) = self.form(whole) else {
+            return Ok(None);
+        };
+        let inner = *inner;
+        Ok(Some(self.fill(inner, whole, &Kind::Star)?))
+    }
 }

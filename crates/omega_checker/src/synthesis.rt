@@ -1,84 +1,47 @@
-// The normal type of a term.
-ghost use Rattle.std.specs.Prelude.{◌≡◌, ◌∷◌, [], IfOk, OnOk, if◌then◌else◌, None, Some};
-ghost use Rattle.std.specs.Option.{option_map};
+// The number of the normal type of a term.
+ghost use Rattle.std.specs.Prelude.{◌≡◌, ◌∷◌, ◌<◌, Some, IfOk, length};
 ghost use Rattle.omega_kinds.specs.View.{kind_tree};
-ghost use Rattle.omega_types.specs.Fields.{row};
-ghost use Rattle.omega_types.specs.Inner.Scope.{scope_of};
-ghost use Rattle.omega_types.specs.Ty.{Ty as TyTree};
+ghost use Rattle.omega_types.specs.Fields.{Rises};
 ghost use Rattle.omega_terms.specs.Fields.{term_row};
 ghost use Rattle.omega_terms.specs.Term.{Term as TermTree};
 ghost use Rattle.omega_terms.specs.Typing.{shift_all};
-ghost use Rattle.omega_checker.specs.Found.{synth_in, synth_row, and_then, call_type, of_package, lowered as lowered_of, fix_type, labels_differ, case_type, synth_branches as synth_branches_of, is_found as is_found_of};
-ghost use Rattle.omega_checker.specs.Inner.Vars.{types_of};
+ghost use Rattle.omega_node_laws.specs.Scope.{FindsBranches, FindsCall, FindsFunction, FindsLet, Synthesises, types_of};
+ghost use Rattle.omega_node_laws.specs.StepLaws.{Here};
+ghost use Rattle.type_store.specs.Trees.{ArePartsBelow, at, row_at};
 
-use crate::forms::{
-    agree, arrow, called, chosen, computed, field_type, fixed, injected, instantiated, is_found,
-    lowered, make, normal_at, packed, part, rolled, unrolled,
-};
-use crate::vars::Vars;
+use crate::scope::Scope;
 use omega_kinds::{Kind, Label, Mem, same_label};
 use omega_terms::{Op, Term, TermFields, TermNode};
-use omega_types::{Ty, TyFields, TyNode};
+use omega_types::Ty;
 use std::alloc::Global;
-use type_normal::{NormalTy, plain};
+use type_store::Form;
 
-/// The normal type of a term in the empty context, and none where it has no type. `Err` is out of memory.
-pub(crate) fn synthesise(alloc: Global, term: &Term) -> Result<Option<NormalTy>, Mem>
-    ensures { IfOk result (λ o. o ≡ synth_in [] [] term.now) }
-{
-    let mut kinds = Vec::new(alloc);
-    let mut vars = Vars::new(alloc);
-    synth(alloc, &mut kinds, &mut vars, term)
-}
-
-// The normal type of a term where variables of these kinds and types are in scope, the innermost last.
+/// The number of the type of a term, and none where it has no type. Then all types of the term's nodes have numbers.
+/// The variables in scope are at the end as they were at the start. `Err` is out of memory.
 #[cycle(synth)]
-fn synth(
-    alloc: Global,
-    kinds: &mut Vec<Kind>,
-    vars: &mut Vars,
-    term: &Term,
-) -> Result<Option<NormalTy>, Mem>
-    ensures kinds { OnOk result (scope_of kinds.new.items ≡ scope_of kinds.old.items) }
-    ensures vars { OnOk result (vars.new ≡ vars.old) }
-    ensures found { IfOk result (λ o. o ≡ synth_in (scope_of kinds.old.items) (types_of vars.old) term.now) }
+pub(crate) fn synth(alloc: Global, scope: &mut Scope, term: &Term) -> Result<Option<u64>, Mem>
+    ensures { IfOk result (λ o. Here scope.old scope.new term.now o) }
 {
     match term.node() {
-        TermNode::Var(index) => vars.find(alloc, *index),
-        TermNode::Int(_) => Ok(Some(make(alloc, TyNode::Int)?)),
-        TermNode::Bool(_) => Ok(Some(make(alloc, TyNode::Bool)?)),
-        TermNode::Text(_) => Ok(Some(make(alloc, TyNode::Text)?)),
-        TermNode::Lam(t, e) => {
-            let from = normal_at(alloc, kinds, t, &Kind::Star)?;
-            synth_function(alloc, kinds, vars, from, e)
-        }
-        TermNode::Call(f, a) => synth_call(alloc, kinds, vars, f, a),
-        TermNode::TyLam(k, e) => synth_type_function(alloc, kinds, vars, k, e),
-        TermNode::Inst(e, t) => {
-            let body = synth(alloc, kinds, vars, e)?;
-            instantiated(alloc, kinds, body, t)
-        }
-        TermNode::Fields(fields) => synth_fields(alloc, kinds, vars, fields),
-        TermNode::Get(e, l) => {
-            let whole = synth(alloc, kinds, vars, e)?;
-            field_type(whole, l)
-        }
-        TermNode::Pack(t, e, u) => synth_package(alloc, kinds, vars, t, e, u),
-        TermNode::Unpack(p, e) => {
-            let package = synth(alloc, kinds, vars, p)?;
-            synth_opened(alloc, kinds, vars, package, e)
-        }
-        TermNode::If(a, b, c) => synth_choice(alloc, kinds, vars, a, b, c),
-        TermNode::Arith(op, a, b) => synth_arith(alloc, kinds, vars, *op, a, b),
-        TermNode::Fix(t, u, e) => {
-            let from = normal_at(alloc, kinds, t, &Kind::Star)?;
-            let to = normal_at(alloc, kinds, u, &Kind::Star)?;
-            synth_fix(alloc, kinds, vars, from, to, e)
-        }
-        TermNode::Inj(l, e, t) => synth_injected(alloc, kinds, vars, l, e, t),
-        TermNode::Case(e, t, branches) => synth_case(alloc, kinds, vars, e, t, branches),
-        TermNode::Roll(e, t) => synth_rolled(alloc, kinds, vars, e, t),
-        TermNode::Unroll(e) => synth_unrolled(alloc, kinds, vars, e),
+        TermNode::Var(index) => scope.find(*index),
+        TermNode::Int(_) => Ok(Some(scope.int()?)),
+        TermNode::Bool(_) => Ok(Some(scope.bool()?)),
+        TermNode::Text(_) => Ok(Some(scope.text()?)),
+        TermNode::Lam(t, e) => synth_function(alloc, scope, t, e),
+        TermNode::Call(f, a) => synth_call(alloc, scope, f, a),
+        TermNode::TyLam(k, e) => synth_type_function(alloc, scope, k, e),
+        TermNode::Inst(e, t) => synth_instance(alloc, scope, e, t),
+        TermNode::Fields(fields) => synth_fields(alloc, scope, fields),
+        TermNode::Get(e, l) => synth_field(alloc, scope, e, l),
+        TermNode::Pack(t, e, u) => synth_package(alloc, scope, t, e, u),
+        TermNode::Unpack(p, e) => synth_opened(alloc, scope, p, e),
+        TermNode::If(a, b, c) => synth_choice(alloc, scope, a, b, c),
+        TermNode::Arith(op, a, b) => synth_arith(alloc, scope, *op, a, b),
+        TermNode::Fix(t, u, e) => synth_fix(alloc, scope, t, u, e),
+        TermNode::Inj(l, e, t) => synth_injected(alloc, scope, l, e, t),
+        TermNode::Case(e, t, branches) => synth_case(alloc, scope, e, t, branches),
+        TermNode::Roll(e, t) => synth_rolled(alloc, scope, e, t),
+        TermNode::Unroll(e) => synth_unrolled(alloc, scope, e),
     }
 }
 
@@ -87,65 +50,169 @@ fn synth(
 #[inline(never)]
 fn synth_call(
     alloc: Global,
-    kinds: &mut Vec<Kind>,
-    vars: &mut Vars,
+    scope: &mut Scope,
     function: &Term,
     arg: &Term,
-) -> Result<Option<NormalTy>, Mem>
-    ensures kinds { OnOk result (scope_of kinds.new.items ≡ scope_of kinds.old.items) }
-    ensures vars { OnOk result (vars.new ≡ vars.old) }
-    ensures found { IfOk result (λ o. o ≡ synth_in (scope_of kinds.old.items) (types_of vars.old) (TermTree.Call function.now arg.now)) }
+) -> Result<Option<u64>, Mem>
+    ensures { IfOk result (λ o. Here scope.old scope.new (TermTree.Call function.now arg.now) o) }
 {
-    let Some(found) = synth(alloc, kinds, vars, arg)? else {
+    let Some(found) = synth(alloc, scope, arg)? else {
         return Ok(None);
     };
     match function.node() {
-        TermNode::Lam(ty, body) => {
-            if agree(&part(ty)?, &found) {
-                synth_bound(alloc, kinds, vars, found, body)
-            } else {
-                synth_applied(alloc, kinds, vars, function, found)
-            }
-        }
-        _ => synth_applied(alloc, kinds, vars, function, found),
+        TermNode::Lam(ty, body) => synth_let(alloc, scope, ty, body, found),
+        _ => synth_applied(alloc, scope, function, found),
     }
 }
 
-// The type of a function at an argument of this type.
+// The type of a function that is called at once, at an argument of this type.
+#[cycle(synth)]
+fn synth_let(
+    alloc: Global,
+    scope: &mut Scope,
+    ty: &Ty,
+    body: &Term,
+    arg: u64,
+) -> Result<Option<u64>, Mem>
+    requires { arg < length scope.old.types }
+    ensures { IfOk result (λ o. FindsLet scope.old scope.new ty.now body.now arg o) }
+{
+    let Some(from) = scope.parameter(ty, arg)? else {
+        return Ok(None);
+    };
+    let function = synth_body(alloc, scope, from, body)?;
+    Ok(scope.called(function, arg))
+}
+
+// The type of any other function at an argument of this type.
 #[cycle(synth)]
 fn synth_applied(
     alloc: Global,
-    kinds: &mut Vec<Kind>,
-    vars: &mut Vars,
+    scope: &mut Scope,
     function: &Term,
-    arg: NormalTy,
-) -> Result<Option<NormalTy>, Mem>
-    ensures kinds { OnOk result (scope_of kinds.new.items ≡ scope_of kinds.old.items) }
-    ensures vars { OnOk result (vars.new ≡ vars.old) }
-    ensures found { IfOk result (λ o. o ≡ call_type (synth_in (scope_of kinds.old.items) (types_of vars.old) function.now) (Some arg)) }
+    arg: u64,
+) -> Result<Option<u64>, Mem>
+    requires { arg < length scope.old.types }
+    ensures { IfOk result (λ o. FindsCall scope.old scope.new function.now arg o) }
 {
-    let function = synth(alloc, kinds, vars, function)?;
-    called(function, Some(arg))
+    let function = synth(alloc, scope, function)?;
+    Ok(scope.called(function, arg))
+}
+
+// The type of a function, from that of its argument.
+#[cycle(synth)]
+fn synth_body(alloc: Global, scope: &mut Scope, from: u64, body: &Term) -> Result<Option<u64>, Mem>
+    requires { from < length scope.old.types }
+    ensures { IfOk result (λ o. FindsFunction scope.old scope.new from body.now o) }
+{
+    let to = synth_bound(alloc, scope, from, body)?;
+    scope.function(from, to)
 }
 
 // The type of a term under one more variable of this type.
 #[cycle(synth)]
-#[tactic(auto, using(crate::proofs::VarSteps::var_steps, crate::proofs::VarSteps::still_last))]
-fn synth_bound(
-    alloc: Global,
-    kinds: &mut Vec<Kind>,
-    vars: &mut Vars,
-    ty: NormalTy,
-    body: &Term,
-) -> Result<Option<NormalTy>, Mem>
-    ensures kinds { OnOk result (scope_of kinds.new.items ≡ scope_of kinds.old.items) }
-    ensures vars { OnOk result (vars.new ≡ vars.old) }
-    ensures found { IfOk result (λ o. o ≡ synth_in (scope_of kinds.old.items) (ty ∷ types_of vars.old) body.now) }
+fn synth_bound(alloc: Global, scope: &mut Scope, ty: u64, body: &Term) -> Result<Option<u64>, Mem>
+    requires { ty < length scope.old.types }
+    ensures { IfOk result (λ o. Synthesises scope.old scope.new scope.old.kinds (at scope.old.types ty ∷ types_of scope.old) body.now o) }
 {
-    vars.push(ty)?;
-    let found = synth(alloc, kinds, vars, body)?;
-    vars.pop();
+    scope.push(ty)?;
+    let found = synth(alloc, scope, body)?;
+    scope.pop();
     Ok(found)
+}
+
+// The type of a function.
+#[cycle(synth)]
+#[inline(never)]
+fn synth_function(
+    alloc: Global,
+    scope: &mut Scope,
+    from: &Ty,
+    body: &Term,
+) -> Result<Option<u64>, Mem>
+    ensures { IfOk result (λ o. Here scope.old scope.new (TermTree.Lam from.now body.now) o) }
+{
+    let Some(from) = scope.named(from, &Kind::Star)? else {
+        return Ok(None);
+    };
+    synth_body(alloc, scope, from, body)
+}
+
+// The type of a function from types.
+#[cycle(synth)]
+#[inline(never)]
+fn synth_type_function(
+    alloc: Global,
+    scope: &mut Scope,
+    kind: &Kind,
+    body: &Term,
+) -> Result<Option<u64>, Mem>
+    ensures { IfOk result (λ o. Here scope.old scope.new (TermTree.TyLam (kind_tree kind.now) body.now) o) }
+{
+    let found = synth_under(alloc, scope, kind, body)?;
+    scope.type_function(kind, found)
+}
+
+// The type of a term under one more type variable of this kind.
+#[cycle(synth)]
+fn synth_under(
+    alloc: Global,
+    scope: &mut Scope,
+    kind: &Kind,
+    body: &Term,
+) -> Result<Option<u64>, Mem>
+    ensures { IfOk result (λ o. Synthesises scope.old scope.new (kind_tree kind.now ∷ scope.old.kinds) (shift_all (types_of scope.old)) body.now o) }
+{
+    scope.push_type(kind)?;
+    let found = synth(alloc, scope, body)?;
+    scope.pop_type();
+    Ok(found)
+}
+
+// The type of an instance.
+#[cycle(synth)]
+#[inline(never)]
+fn synth_instance(
+    alloc: Global,
+    scope: &mut Scope,
+    body: &Term,
+    ty: &Ty,
+) -> Result<Option<u64>, Mem>
+    ensures { IfOk result (λ o. Here scope.old scope.new (TermTree.Inst body.now ty.now) o) }
+{
+    let body = synth(alloc, scope, body)?;
+    scope.instantiated(body, ty)
+}
+
+// The type of a record. Fields rise, so their labels differ.
+#[cycle(synth)]
+#[inline(never)]
+fn synth_fields(alloc: Global, scope: &mut Scope, fields: &TermFields) -> Result<Option<u64>, Mem>
+    ensures { IfOk result (λ o. Here scope.old scope.new (TermTree.Fields (term_row fields.now)) o) }
+{
+    let mut parts = Vec::with_capacity(alloc, fields.items().len())?;
+    for field in fields.items() {
+        let Some(number) = synth(alloc, scope, &field.1)? else {
+            return Ok(None);
+        };
+        parts.push((field.0.share()?, number))?;
+    }
+    Ok(Some(scope.make(Form::Fields(parts))?))
+}
+
+// The type of a field.
+#[cycle(synth)]
+#[inline(never)]
+fn synth_field(
+    alloc: Global,
+    scope: &mut Scope,
+    whole: &Term,
+    label: &Label,
+) -> Result<Option<u64>, Mem>
+    ensures { IfOk result (λ o. Here scope.old scope.new (TermTree.Get whole.now label.now) o) }
+{
+    let whole = synth(alloc, scope, whole)?;
+    Ok(scope.field_type(whole, label))
 }
 
 // The type of a package.
@@ -153,19 +220,54 @@ fn synth_bound(
 #[inline(never)]
 fn synth_package(
     alloc: Global,
-    kinds: &mut Vec<Kind>,
-    vars: &mut Vars,
+    scope: &mut Scope,
     hidden: &Ty,
     body: &Term,
     target: &Ty,
-) -> Result<Option<NormalTy>, Mem>
-    ensures kinds { OnOk result (scope_of kinds.new.items ≡ scope_of kinds.old.items) }
-    ensures vars { OnOk result (vars.new ≡ vars.old) }
-    ensures found { IfOk result (λ o. o ≡ synth_in (scope_of kinds.old.items) (types_of vars.old) (TermTree.Pack hidden.now body.now target.now)) }
+) -> Result<Option<u64>, Mem>
+    ensures { IfOk result (λ o. Here scope.old scope.new (TermTree.Pack hidden.now body.now target.now) o) }
 {
-    let target = normal_at(alloc, kinds, target, &Kind::Star)?;
-    let body = synth(alloc, kinds, vars, body)?;
-    packed(alloc, kinds, hidden, target, body)
+    let Some(body) = synth(alloc, scope, body)? else {
+        return Ok(None);
+    };
+    scope.packed(hidden, target, body)
+}
+
+// The type of an opened package.
+#[cycle(synth)]
+#[inline(never)]
+fn synth_opened(
+    alloc: Global,
+    scope: &mut Scope,
+    whole: &Term,
+    body: &Term,
+) -> Result<Option<u64>, Mem>
+    ensures { IfOk result (λ o. Here scope.old scope.new (TermTree.Unpack whole.now body.now) o) }
+{
+    let whole = synth(alloc, scope, whole)?;
+    let Some((kind, inner)) = scope.package(whole)? else {
+        return Ok(None);
+    };
+    let found = synth_inside(alloc, scope, &kind, inner, body)?;
+    scope.lowered(found)
+}
+
+// The type of a term under one more type variable of this kind and a variable of this type.
+#[cycle(synth)]
+fn synth_inside(
+    alloc: Global,
+    scope: &mut Scope,
+    kind: &Kind,
+    ty: u64,
+    body: &Term,
+) -> Result<Option<u64>, Mem>
+    requires { ty < length scope.old.types }
+    ensures { IfOk result (λ o. Synthesises scope.old scope.new (kind_tree kind.now ∷ scope.old.kinds) (at scope.old.types ty ∷ shift_all (types_of scope.old)) body.now o) }
+{
+    scope.push_type(kind)?;
+    let found = synth_bound(alloc, scope, ty, body)?;
+    scope.pop_type();
+    Ok(found)
 }
 
 // The type of a choice.
@@ -173,20 +275,17 @@ fn synth_package(
 #[inline(never)]
 fn synth_choice(
     alloc: Global,
-    kinds: &mut Vec<Kind>,
-    vars: &mut Vars,
+    scope: &mut Scope,
     test: &Term,
     yes: &Term,
     no: &Term,
-) -> Result<Option<NormalTy>, Mem>
-    ensures kinds { OnOk result (scope_of kinds.new.items ≡ scope_of kinds.old.items) }
-    ensures vars { OnOk result (vars.new ≡ vars.old) }
-    ensures found { IfOk result (λ o. o ≡ synth_in (scope_of kinds.old.items) (types_of vars.old) (TermTree.If test.now yes.now no.now)) }
+) -> Result<Option<u64>, Mem>
+    ensures { IfOk result (λ o. Here scope.old scope.new (TermTree.If test.now yes.now no.now) o) }
 {
-    let test = synth(alloc, kinds, vars, test)?;
-    let yes = synth(alloc, kinds, vars, yes)?;
-    let no = synth(alloc, kinds, vars, no)?;
-    chosen(alloc, test, yes, no)
+    let test = synth(alloc, scope, test)?;
+    let yes = synth(alloc, scope, yes)?;
+    let no = synth(alloc, scope, no)?;
+    scope.chosen(test, yes, no)
 }
 
 // The type of a computation.
@@ -194,147 +293,62 @@ fn synth_choice(
 #[inline(never)]
 fn synth_arith(
     alloc: Global,
-    kinds: &mut Vec<Kind>,
-    vars: &mut Vars,
+    scope: &mut Scope,
     op: Op,
     left: &Term,
     right: &Term,
-) -> Result<Option<NormalTy>, Mem>
-    ensures kinds { OnOk result (scope_of kinds.new.items ≡ scope_of kinds.old.items) }
-    ensures vars { OnOk result (vars.new ≡ vars.old) }
-    ensures found { IfOk result (λ o. o ≡ synth_in (scope_of kinds.old.items) (types_of vars.old) (TermTree.Arith op left.now right.now)) }
+) -> Result<Option<u64>, Mem>
+    ensures { IfOk result (λ o. Here scope.old scope.new (TermTree.Arith op left.now right.now) o) }
 {
-    let left = synth(alloc, kinds, vars, left)?;
-    let right = synth(alloc, kinds, vars, right)?;
-    computed(alloc, op, left, right)
+    let left = synth(alloc, scope, left)?;
+    let right = synth(alloc, scope, right)?;
+    scope.computed(op, left, right)
 }
 
-// The type of a function, from that of its argument.
+// The type of a function that calls itself: in its body stand the function and its argument.
 #[cycle(synth)]
-fn synth_function(
-    alloc: Global,
-    kinds: &mut Vec<Kind>,
-    vars: &mut Vars,
-    from: Option<NormalTy>,
-    body: &Term,
-) -> Result<Option<NormalTy>, Mem>
-    ensures kinds { OnOk result (scope_of kinds.new.items ≡ scope_of kinds.old.items) }
-    ensures vars { OnOk result (vars.new ≡ vars.old) }
-    ensures found { IfOk result (λ o. o ≡ and_then from (λ n. option_map (TyTree.Arrow n) (synth_in (scope_of kinds.old.items) (n ∷ types_of vars.old) body.now))) }
-{
-    let Some(from) = from else {
-        return Ok(None);
-    };
-    let to = synth_bound(alloc, kinds, vars, from.share()?, body)?;
-    match to {
-        Some(to) => Ok(Some(arrow(alloc, &from, &to)?)),
-        None => Ok(None),
-    }
-}
-
-// The type of a function from types.
-#[cycle(synth)]
-#[tactic(auto, using(crate::proofs::VarSteps::var_steps, crate::proofs::VarSteps::still_last))]
-fn synth_type_function(
-    alloc: Global,
-    kinds: &mut Vec<Kind>,
-    vars: &mut Vars,
-    kind: &Kind,
-    body: &Term,
-) -> Result<Option<NormalTy>, Mem>
-    ensures kinds { OnOk result (scope_of kinds.new.items ≡ scope_of kinds.old.items) }
-    ensures vars { OnOk result (vars.new ≡ vars.old) }
-    ensures found { IfOk result (λ o. o ≡ option_map (TyTree.All (kind_tree kind.now)) (synth_in (kind_tree kind.now ∷ scope_of kinds.old.items) (shift_all (types_of vars.old)) body.now)) }
-{
-    vars.push_type()?;
-    kinds.push(kind.share()?)?;
-    let found = synth(alloc, kinds, vars, body)?;
-    kinds.pop();
-    vars.pop_type();
-    match found {
-        Some(ty) => Ok(Some(make(alloc, TyNode::All(kind.share()?, plain(&ty).share()?))?)),
-        None => Ok(None),
-    }
-}
-
-// The type of an opened package, from that of the package.
-#[cycle(synth)]
-#[tactic(auto, using(crate::proofs::VarSteps::var_steps, crate::proofs::VarSteps::still_last))]
-fn synth_opened(
-    alloc: Global,
-    kinds: &mut Vec<Kind>,
-    vars: &mut Vars,
-    opened: Option<NormalTy>,
-    body: &Term,
-) -> Result<Option<NormalTy>, Mem>
-    ensures kinds { OnOk result (scope_of kinds.new.items ≡ scope_of kinds.old.items) }
-    ensures vars { OnOk result (vars.new ≡ vars.old) }
-    ensures found { IfOk result (λ o. o ≡ and_then opened (λ s. of_package s (λ k b. lowered_of (synth_in (k ∷ scope_of kinds.old.items) (b ∷ shift_all (types_of vars.old)) body.now)))) }
-{
-    let Some(package) = opened else {
-        return Ok(None);
-    };
-    let TyNode::Ex(kind, inner) = plain(&package).node() else {
-        return Ok(None);
-    };
-    vars.push_type()?;
-    vars.push(part(inner)?)?;
-    kinds.push(kind.share()?)?;
-    let found = synth(alloc, kinds, vars, body)?;
-    kinds.pop();
-    vars.pop();
-    vars.pop_type();
-    lowered(alloc, found)
-}
-
-// The type of a function that calls itself, from those that it says: in its body stand the function and its argument.
-#[cycle(synth)]
-#[tactic(auto, using(crate::proofs::VarSteps::var_steps, crate::proofs::VarSteps::still_last))]
+#[inline(never)]
 fn synth_fix(
     alloc: Global,
-    kinds: &mut Vec<Kind>,
-    vars: &mut Vars,
-    from: Option<NormalTy>,
-    to: Option<NormalTy>,
+    scope: &mut Scope,
+    from: &Ty,
+    to: &Ty,
     body: &Term,
-) -> Result<Option<NormalTy>, Mem>
-    ensures kinds { OnOk result (scope_of kinds.new.items ≡ scope_of kinds.old.items) }
-    ensures vars { OnOk result (vars.new ≡ vars.old) }
-    ensures found { IfOk result (λ o. o ≡ and_then from (λ n. and_then to (λ m. fix_type n m (synth_in (scope_of kinds.old.items) (n ∷ (TyTree.Arrow n m ∷ types_of vars.old)) body.now)))) }
+) -> Result<Option<u64>, Mem>
+    ensures { IfOk result (λ o. Here scope.old scope.new (TermTree.Fix from.now to.now body.now) o) }
 {
-    let (Some(from), Some(to)) = (from, to) else {
+    let Some(from) = scope.named(from, &Kind::Star)? else {
         return Ok(None);
     };
-    let arg = from.share()?;
-    let whole = arrow(alloc, &from, &to)?;
-    vars.push(whole)?;
-    vars.push(arg)?;
-    let found = synth(alloc, kinds, vars, body)?;
-    vars.pop();
-    vars.pop();
-    fixed(alloc, &from, &to, found)
+    let Some(to) = scope.named(to, &Kind::Star)? else {
+        return Ok(None);
+    };
+    let whole = scope.arrow(from, to)?;
+    let found = synth_recursive(alloc, scope, whole, from, body)?;
+    if scope.is_found(to, found) {
+        Ok(Some(whole))
+    } else {
+        Ok(None)
+    }
 }
 
-// The type of a record. Fields rise, so their labels differ.
+// The type of a term under two more variables of these types.
 #[cycle(synth)]
-fn synth_fields(
+fn synth_recursive(
     alloc: Global,
-    kinds: &mut Vec<Kind>,
-    vars: &mut Vars,
-    fields: &TermFields,
-) -> Result<Option<NormalTy>, Mem>
-    ensures kinds { OnOk result (scope_of kinds.new.items ≡ scope_of kinds.old.items) }
-    ensures vars { OnOk result (vars.new ≡ vars.old) }
-    ensures found { IfOk result (λ o. o ≡ (if labels_differ (term_row fields.now) then option_map TyTree.Fields (synth_row (scope_of kinds.old.items) (types_of vars.old) (term_row fields.now)) else None)) }
+    scope: &mut Scope,
+    outer: u64,
+    inner: u64,
+    body: &Term,
+) -> Result<Option<u64>, Mem>
+    requires outer { outer < length scope.old.types }
+    requires inner { inner < length scope.old.types }
+    ensures { IfOk result (λ o. Synthesises scope.old scope.new scope.old.kinds (at scope.old.types inner ∷ (at scope.old.types outer ∷ types_of scope.old)) body.now o) }
 {
-    let mut types = TyFields::with_capacity(alloc, fields.items().len())?;
-    for field in fields.items() {
-        let Some(ty) = synth(alloc, kinds, vars, &field.1)? else {
-            return Ok(None);
-        };
-        types.push((field.0.share()?, plain(&ty).share()?))?;
-    }
-    Ok(Some(make(alloc, TyNode::Fields(types))?))
+    scope.push(outer)?;
+    let found = synth_bound(alloc, scope, inner, body)?;
+    scope.pop();
+    Ok(found)
 }
 
 // The type of an injection.
@@ -342,19 +356,16 @@ fn synth_fields(
 #[inline(never)]
 fn synth_injected(
     alloc: Global,
-    kinds: &mut Vec<Kind>,
-    vars: &mut Vars,
+    scope: &mut Scope,
     label: &Label,
     body: &Term,
     target: &Ty,
-) -> Result<Option<NormalTy>, Mem>
-    ensures kinds { OnOk result (scope_of kinds.new.items ≡ scope_of kinds.old.items) }
-    ensures vars { OnOk result (vars.new ≡ vars.old) }
-    ensures found { IfOk result (λ o. o ≡ synth_in (scope_of kinds.old.items) (types_of vars.old) (TermTree.Inj label.now body.now target.now)) }
+) -> Result<Option<u64>, Mem>
+    ensures { IfOk result (λ o. Here scope.old scope.new (TermTree.Inj label.now body.now target.now) o) }
 {
-    let target = normal_at(alloc, kinds, target, &Kind::Star)?;
-    let body = synth(alloc, kinds, vars, body)?;
-    injected(label, target, body)
+    let target = scope.named(target, &Kind::Star)?;
+    let body = synth(alloc, scope, body)?;
+    Ok(scope.injected(label, target, body))
 }
 
 // The type of a rolled term.
@@ -362,35 +373,25 @@ fn synth_injected(
 #[inline(never)]
 fn synth_rolled(
     alloc: Global,
-    kinds: &mut Vec<Kind>,
-    vars: &mut Vars,
+    scope: &mut Scope,
     body: &Term,
     target: &Ty,
-) -> Result<Option<NormalTy>, Mem>
-    ensures kinds { OnOk result (scope_of kinds.new.items ≡ scope_of kinds.old.items) }
-    ensures vars { OnOk result (vars.new ≡ vars.old) }
-    ensures found { IfOk result (λ o. o ≡ synth_in (scope_of kinds.old.items) (types_of vars.old) (TermTree.Roll body.now target.now)) }
+) -> Result<Option<u64>, Mem>
+    ensures { IfOk result (λ o. Here scope.old scope.new (TermTree.Roll body.now target.now) o) }
 {
-    let target = normal_at(alloc, kinds, target, &Kind::Star)?;
-    let body = synth(alloc, kinds, vars, body)?;
-    rolled(alloc, target, body)
+    let target = scope.named(target, &Kind::Star)?;
+    let body = synth(alloc, scope, body)?;
+    scope.rolled(target, body)
 }
 
 // The type of an unrolled term.
 #[cycle(synth)]
 #[inline(never)]
-fn synth_unrolled(
-    alloc: Global,
-    kinds: &mut Vec<Kind>,
-    vars: &mut Vars,
-    whole: &Term,
-) -> Result<Option<NormalTy>, Mem>
-    ensures kinds { OnOk result (scope_of kinds.new.items ≡ scope_of kinds.old.items) }
-    ensures vars { OnOk result (vars.new ≡ vars.old) }
-    ensures found { IfOk result (λ o. o ≡ synth_in (scope_of kinds.old.items) (types_of vars.old) (TermTree.Unroll whole.now)) }
+fn synth_unrolled(alloc: Global, scope: &mut Scope, whole: &Term) -> Result<Option<u64>, Mem>
+    ensures { IfOk result (λ o. Here scope.old scope.new (TermTree.Unroll whole.now) o) }
 {
-    let whole = synth(alloc, kinds, vars, whole)?;
-    unrolled(alloc, whole)
+    let whole = synth(alloc, scope, whole)?;
+    scope.unrolled(whole)
 }
 
 // The type of a case.
@@ -398,42 +399,23 @@ fn synth_unrolled(
 #[inline(never)]
 fn synth_case(
     alloc: Global,
-    kinds: &mut Vec<Kind>,
-    vars: &mut Vars,
+    scope: &mut Scope,
     whole: &Term,
     target: &Ty,
     branches: &TermFields,
-) -> Result<Option<NormalTy>, Mem>
-    ensures kinds { OnOk result (scope_of kinds.new.items ≡ scope_of kinds.old.items) }
-    ensures vars { OnOk result (vars.new ≡ vars.old) }
-    ensures found { IfOk result (λ o. o ≡ synth_in (scope_of kinds.old.items) (types_of vars.old) (TermTree.Case whole.now target.now (term_row branches.now))) }
+) -> Result<Option<u64>, Mem>
+    ensures { IfOk result (λ o. Here scope.old scope.new (TermTree.Case whole.now target.now (term_row branches.now)) o) }
 {
-    let target = normal_at(alloc, kinds, target, &Kind::Star)?;
-    let whole = synth(alloc, kinds, vars, whole)?;
-    synth_cases(alloc, kinds, vars, whole, target, branches)
-}
-
-// The type of a case, from that of what is taken apart and the one that is named.
-#[cycle(synth)]
-fn synth_cases(
-    alloc: Global,
-    kinds: &mut Vec<Kind>,
-    vars: &mut Vars,
-    whole: Option<NormalTy>,
-    target: Option<NormalTy>,
-    branches: &TermFields,
-) -> Result<Option<NormalTy>, Mem>
-    ensures kinds { OnOk result (scope_of kinds.new.items ≡ scope_of kinds.old.items) }
-    ensures vars { OnOk result (vars.new ≡ vars.old) }
-    ensures found { IfOk result (λ o. o ≡ case_type whole target (synth_branches_of (scope_of kinds.old.items) (types_of vars.old) (term_row branches.now))) }
-{
-    let (Some(whole), Some(target)) = (whole, target) else {
+    let Some(target) = scope.named(target, &Kind::Star)? else {
         return Ok(None);
     };
-    let TyNode::Sum(parts) = plain(&whole).node() else {
+    let Some(whole) = synth(alloc, scope, whole)? else {
         return Ok(None);
     };
-    if synth_branches(alloc, kinds, vars, branches, parts, &target)? {
+    let Some(parts) = scope.sum(alloc, whole)? else {
+        return Ok(None);
+    };
+    if synth_branches(alloc, scope, branches, parts.as_slice(), target)? {
         Ok(Some(target))
     } else {
         Ok(None)
@@ -444,48 +426,29 @@ fn synth_cases(
 #[cycle(synth)]
 fn synth_branches(
     alloc: Global,
-    kinds: &mut Vec<Kind>,
-    vars: &mut Vars,
+    scope: &mut Scope,
     branches: &TermFields,
-    parts: &TyFields,
-    target: &NormalTy,
+    parts: &[(Label, u64)],
+    target: u64,
 ) -> Result<bool, Mem>
-    ensures kinds { OnOk result (scope_of kinds.new.items ≡ scope_of kinds.old.items) }
-    ensures vars { OnOk result (vars.new ≡ vars.old) }
-    ensures value { IfOk result (λ b. b ≡ synth_branches_of (scope_of kinds.old.items) (types_of vars.old) (term_row branches.now) (row parts.now) target.now) }
+    requires parts { ArePartsBelow (length scope.old.types) parts.now }
+    requires target { target < length scope.old.types }
+    ensures { IfOk result (λ b. FindsBranches scope.old scope.new (term_row branches.now) (row_at scope.old.types parts.now) (at scope.old.types target) b) }
 {
     let terms = branches.items();
-    let types = parts.items();
-    if terms.len() != types.len() {
+    if terms.len() != parts.len() {
         return Ok(false);
     }
-    for i in 0..types.len() {
+    for i in 0..parts.len() {
         let branch = &terms[i];
-        let ty = &types[i];
-        if !same_label(&branch.0, &ty.0) {
+        let part = &parts[i];
+        if !same_label(&branch.0, &part.0) {
             return Ok(false);
         }
-        if !synth_branch(alloc, kinds, vars, &ty.1, &branch.1, target)? {
+        let found = synth_bound(alloc, scope, part.1, &branch.1)?;
+        if !scope.is_found(target, found) {
             return Ok(false);
         }
     }
     Ok(true)
-}
-
-// Whether a branch has the target's type, under a variable of this type.
-#[cycle(synth)]
-fn synth_branch(
-    alloc: Global,
-    kinds: &mut Vec<Kind>,
-    vars: &mut Vars,
-    ty: &Ty,
-    body: &Term,
-    target: &NormalTy,
-) -> Result<bool, Mem>
-    ensures kinds { OnOk result (scope_of kinds.new.items ≡ scope_of kinds.old.items) }
-    ensures vars { OnOk result (vars.new ≡ vars.old) }
-    ensures value { IfOk result (λ b. b ≡ is_found_of target.now (synth_in (scope_of kinds.old.items) (ty.now ∷ types_of vars.old) body.now)) }
-{
-    let found = synth_bound(alloc, kinds, vars, part(ty)?, body)?;
-    Ok(is_found(target, &found))
 }

@@ -16,7 +16,7 @@ use Rattle.omega_terms.specs.KindText.{label_text}
 use Rattle.omega_terms.specs.Term.{Term, TermRow}
 use Rattle.omega_terms.specs.TermText.{byte_text, quoted_text}
 use Rattle.omega_terms.specs.Inner.View.{term_of}
-use Rattle.omega_checker.proofs.FieldLoop.{left-more}
+use Rattle.omega_node_laws.proofs.FieldLoop.{left-more}
 use Rattle.omega_terms.specs.ValueText.{shown, shown_fields, mark_at, lines, inside, record_lines, value_text}
 use Rattle.omega_machine.proofs.Reduced.{is-form}
 

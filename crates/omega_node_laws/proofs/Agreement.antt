@@ -7,7 +7,7 @@ use Rattle.omega_kinds.specs.LabelOrder.{label_cmp}
 use Rattle.omega_kinds.specs.declared.label.Label.{Label}
 use Rattle.omega_types.specs.Ty.{Ty, Row}
 use Rattle.type_store.specs.Numbers.{part_at as stored_part, field_type, variant_type, outside}
-use Rattle.omega_checker.specs.Found.{part_at, part_of, if_same, injected, lowered}
+use Rattle.omega_node_laws.specs.Found.{part_at, part_of, if_same, injected, lowered}
 
 one-part : (r : Row) (l : Label) → part_at r l ≡ stored_part r l
 one-part Row.End l = refl

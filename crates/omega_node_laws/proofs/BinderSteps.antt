@@ -12,15 +12,15 @@ use Rattle.omega_terms.specs.Typing.{shift_all}
 use Rattle.type_store.specs.Numbers.{NumberOf}
 use Rattle.type_store.specs.Trees.{at}
 use Rattle.type_store.proofs.TreeLaws.{begins-at}
-use Rattle.omega_checker.specs.Found.{and_then, normal_at, put_normal, call_type, let_type, if_same, pack_type, lowered, of_package, if_type, op_type, fix_type, synth_in}
+use Rattle.omega_node_laws.specs.Found.{and_then, normal_at, put_normal, call_type, let_type, if_same, pack_type, lowered, of_package, if_type, op_type, fix_type, synth_in}
 use Rattle.omega_node_laws.specs.Held.{Has, IsParameter, Held}
-use Rattle.omega_checker.specs.SameTy.{same_ty}
+use Rattle.omega_node_laws.specs.SameTy.{same_ty}
 use Rattle.omega_node_laws.specs.Scope.{Scope, types_of, type_at, Grows, IsWithVar, IsWithoutVar, IsWithType, IsWithoutType, Finds, Synthesises, FindsFunction, FindsLet, FindsCall, IsPackage, parameter_type}
 use Rattle.omega_node_laws.proofs.HeldMore.{held-more}
-use Rattle.omega_checker.proofs.Inverted.{map-yes, call-yes, pack-yes, lowered-yes, if_type-yes, op-yes, some-same}
+use Rattle.omega_node_laws.proofs.Inverted.{map-yes, call-yes, pack-yes, lowered-yes, if_type-yes, op-yes, some-same}
 use Rattle.omega_node_laws.proofs.ScopeSteps.{number-in, number-at, number-some, type-some, at-more, grows-itself, grows-then, var-back, type-back, with-var-types, with-type-types}
 use Rattle.omega_node_laws.proofs.SynthSteps.{moved, at-number, held-some, with-parts, has-number}
-use Rattle.omega_checker.proofs.Trees.{same_ty-self, same_ty-yes}
+use Rattle.omega_node_laws.proofs.Trees.{same_ty-self, same_ty-yes}
 
 -- a number that is missing is that of no type
 pub no-number : (ts : List Ty) (o : Option ℕ) (t : Option Ty) → ((n : ℕ) → o ≡ Some n → ⊥) → NumberOf ts o t → t ≡ None

@@ -15,13 +15,13 @@ use Rattle.type_store.specs.Numbers.{NumberOf}
 use Rattle.type_store.specs.Shape.{Parts}
 use Rattle.type_store.specs.Trees.{ArePartsBelow, Begins, Holds, at, row_at}
 use Rattle.type_store.proofs.TreeLaws.{begins-at, begins-itself, begins-length, begins-then, parts_below-more}
-use Rattle.omega_checker.specs.Found.{and_then, case_type, fix_type, if_sum, is_found, normal_at, synth_in, synth_row, synth_branches}
+use Rattle.omega_node_laws.specs.Found.{and_then, case_type, fix_type, if_sum, is_found, normal_at, synth_in, synth_row, synth_branches}
 use Rattle.omega_node_laws.specs.Held.{Held, HeldFields, HeldBranches}
 use Rattle.omega_node_laws.specs.Scope.{Scope, types_of, type_at, Grows, Makes, Finds, Synthesises, FindsBranches, IsSum}
 use Rattle.omega_node_laws.proofs.BinderSteps.{no-number, nothing}
-use Rattle.omega_checker.proofs.FieldLoop.{row_after, found-more, found-none, found-all, left-more, record-type, branches-length, passes, branch-passes, label-differs, branch-fails, all-pass}
+use Rattle.omega_node_laws.proofs.FieldLoop.{row_after, found-more, found-none, found-all, left-more, record-type, branches-length, passes, branch-passes, label-differs, branch-fails, all-pass}
 use Rattle.omega_node_laws.proofs.HeldMore.{number-more, held-more, fields-more}
-use Rattle.omega_checker.proofs.Inverted.{fix-yes, is_found-yes}
+use Rattle.omega_node_laws.proofs.Inverted.{fix-yes, is_found-yes}
 use Rattle.omega_node_laws.proofs.ScopeSteps.{in-more, number-in, type-some, grows-itself, grows-then}
 use Rattle.omega_node_laws.proofs.SynthSteps.{moved, at-number, held-some, with-parts}
 

@@ -1,20 +1,20 @@
 -- Whether a closed term has a type, from the numbers of that type and of the one that is found for the term.
 -- Main results: checks, fails, holds.
-use Rattle.std.proofs.Common.{◌≡◌, ℕ, ◌<◌, List, [], Option, Some, None, true, false, length, sym, ap, ap₂, ◌∙◌, subst}
+use Rattle.std.proofs.Common.{◌≡◌, ℕ, ◌<◌, [], Option, Some, None, true, false, length, sym, ap, ap₂, ◌∙◌, subst}
 use Rattle.omega_kinds.specs.Kind.{Kind}
 use Rattle.omega_types.specs.Ty.{Ty}
 use Rattle.omega_terms.specs.Term.{Term}
 use Rattle.omega_terms.specs.Typing.{HasType}
 use Rattle.type_store.specs.Trees.{at}
 use Rattle.type_store.proofs.TreeLaws.{begins-at}
-use Rattle.omega_checker.specs.Found.{normal_at, synth_in}
+use Rattle.omega_node_laws.specs.Found.{normal_at, synth_in}
 use Rattle.omega_node_laws.specs.Held.{Held}
 use Rattle.omega_node_laws.specs.NodeTypes.{HoldsNodeTypes}
-use Rattle.omega_checker.specs.SameTy.{same_ty}
+use Rattle.omega_node_laws.specs.SameTy.{same_ty}
 use Rattle.omega_node_laws.specs.Scope.{Scope, types_of, Finds, Synthesises}
 use Rattle.omega_node_laws.proofs.BinderSteps.{no-number}
 use Rattle.omega_node_laws.proofs.CodeSteps.{below-grows, find-in, is-some}
-use Rattle.omega_checker.proofs.Exact.{unkinded, untyped, differs, typed}
+use Rattle.omega_node_laws.proofs.Exact.{unkinded, untyped, differs, typed}
 use Rattle.omega_node_laws.proofs.NodesHeld.{closed-nodes}
 use Rattle.omega_node_laws.proofs.ScopeSteps.{type-some}
 

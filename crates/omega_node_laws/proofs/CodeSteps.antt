@@ -8,7 +8,7 @@ use Rattle.type_store.specs.Numbers.{NumberOf}
 use Rattle.type_store.specs.Shape.{Shape, Parts}
 use Rattle.type_store.specs.Trees.{IsBelow, at, tree_at}
 use Rattle.type_store.proofs.TreeLaws.{parts_below-more}
-use Rattle.omega_checker.specs.Found.{synth_in}
+use Rattle.omega_node_laws.specs.Found.{synth_in}
 use Rattle.omega_node_laws.specs.Held.{Has, Held}
 use Rattle.omega_node_laws.specs.Scope.{Scope, types_of, IsIn, IsSum, Grows, Makes, Finds, Synthesises, FindsFunction, IsWithVar, IsWithType, IsLastType}
 use Rattle.omega_node_laws.proofs.ScopeSteps.{number-in, in-more, with-type-last}

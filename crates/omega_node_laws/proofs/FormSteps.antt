@@ -16,13 +16,13 @@ use Rattle.type_store.specs.Numbers.{NumberOf, variant_type}
 use Rattle.type_store.specs.Shape.{Shape}
 use Rattle.type_store.specs.Trees.{Holds, at, tree_at}
 use Rattle.type_store.proofs.TreeLaws.{begins-at}
-use Rattle.omega_checker.specs.Found.{and_then, call_type, inj_type, if_same, if_type, inst_type, normal_at, of_package, op_type, pack_type, packed, put_normal, roll_type, rolled, unrolled, unroll_type}
-use Rattle.omega_checker.specs.SameTy.{same_ty}
-use Rattle.omega_node_laws.specs.Scope.{Scope, IsPackage, Finds, Grows, IsIn, Makes, type_at}
+use Rattle.omega_node_laws.specs.Found.{call_type, inj_type, if_same, if_type, inst_type, normal_at, op_type, pack_type, packed, put_normal, roll_type, rolled, unrolled, unroll_type}
+use Rattle.omega_node_laws.specs.SameTy.{same_ty}
+use Rattle.omega_node_laws.specs.Scope.{Scope, Finds, Grows, IsIn, Makes, type_at}
 use Rattle.omega_node_laws.proofs.Agreement.{one-variant}
 use Rattle.omega_node_laws.proofs.BinderSteps.{no-number, none-number}
 use Rattle.omega_node_laws.proofs.HeldMore.{number-more}
-use Rattle.omega_node_laws.proofs.ScopeSteps.{grows-itself, grows-then, number-of-in, type-some}
+use Rattle.omega_node_laws.proofs.ScopeSteps.{grows-itself, grows-then, type-some}
 
 -- a type that is there stays there
 here : {z c : Scope} (n : ℕ) → Grows z c → n < length z.types → Holds c.types n (at z.types n)

@@ -1,3 +1,8 @@
+pub mod Trees
+pub mod ForCode
+pub mod FieldLoop
+pub mod Inverted
+pub mod Exact
 pub mod HeldMore
 pub mod NodesHeld
 pub mod Agreement

@@ -18,11 +18,11 @@ use Rattle.omega_laws.specs.Synthesis.{Synth, SynthFields, SynthBranches}
 use Rattle.omega_laws.proofs.Synthesised.{exact, synth_one, revar, same_cons, same_refl, nf_nf, nf_kind, nf_shifted}
 use Rattle.type_store.specs.Numbers.{NumberOf}
 use Rattle.type_store.specs.Trees.{Holds}
-use Rattle.omega_checker.specs.Found.{and_then, normal_at, synth_in}
+use Rattle.omega_node_laws.specs.Found.{and_then, normal_at, synth_in}
 use Rattle.omega_node_laws.specs.Held.{Has, IsParameter, Held, HeldFields, HeldBranches}
 use Rattle.omega_node_laws.specs.NodeTypes.{HoldsType, HoldsNodeTypes, HoldsFieldTypes, HoldsBranchTypes}
-use Rattle.omega_checker.proofs.Exact.{complete}
-use Rattle.omega_checker.proofs.Inverted.{some-same, normal_at-of}
+use Rattle.omega_node_laws.proofs.Exact.{complete}
+use Rattle.omega_node_laws.proofs.Inverted.{some-same, normal_at-of}
 
 form-is : {ctx : List Kind} {t n : Ty} → NormalForm ctx t Kind.Star n → normal ctx t ≡ n
 form-is {ctx} {t} {n} h = same-normal h.1 ∙ normal_of_normal ctx n Kind.Star h.0

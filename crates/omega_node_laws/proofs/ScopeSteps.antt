@@ -1,11 +1,12 @@
 -- What stays as a scope grows, and what a binder takes is what it gave.
 -- Main results: number-in, at-more, grows-then, wrapped, var-at.
-use Rattle.std.proofs.Common.{◌≡◌, ℕ, zero, suc, ◌+◌, ◌-◌, ◌<◌, ◌≤◌, List, [], ◌∷◌, ◌++◌, Option, Some, None, All, length, map, reverse, take, slice_get, get_or, IsTrue, ◌↔◌, Bool as Truth, refl, sym, ap, ap₂, ◌∙◌, subst, arith}
+use Rattle.std.proofs.Common.{◌≡◌, ℕ, zero, suc, ◌+◌, ◌-◌, ◌<◌, ◌≤◌, List, [], ◌∷◌, ◌++◌, Option, Some, None, All, length, map, reverse, take, slice_get, get_or, IsTrue, ◌↔◌, Bool as Truth, refl, sym, ap, ap₂, ◌∙◌, subst, arith, true, if◌then◌else◌, false}
 use Rattle.std.proofs.lemmas.List.{reverse-append, map-append, length-append, length-map, length-reverse, get_or-map, get_or-reverse}
 use Rattle.std.proofs.lemmas.Option.{slice_get_past}
 use Rattle.std.proofs.Math.Seq.{take-append_seam}
 use Rattle.omega_kinds.specs.Kind.{Kind}
 use Rattle.omega_types.specs.Index.{shift}
+use Rattle.omega_types.specs.Normaliser.{hsubst}
 use Rattle.omega_types.specs.Ty.{Ty}
 use Rattle.omega_types.proofs.Single.{shift-zero, shift-shift}
 use Rattle.omega_terms.specs.Typing.{shift_all}
@@ -13,9 +14,10 @@ use Rattle.type_store.specs.Numbers.{NumberOf}
 use Rattle.type_store.specs.Trees.{Begins, Holds, at}
 use Rattle.type_store.proofs.TreeLaws.{begins-itself, begins-then, begins-length, begins-at}
 use Rattle.omega_node_laws.specs.Scope.{Scope, AreBound, type_under, types_of, IsIn, type_at, Grows, IsWithVar, IsWithoutVar, IsWithType, IsLastType, IsWithoutType, Makes, Finds}
-use Rattle.omega_checker.specs.SameTy.{same_ty}
-use Rattle.omega_checker.proofs.ForCode.{raised-vars}
-use Rattle.omega_checker.proofs.Trees.{test-is}
+use Rattle.omega_node_laws.specs.Found.{if_same}
+use Rattle.omega_node_laws.specs.SameTy.{same_ty}
+use Rattle.omega_node_laws.proofs.ForCode.{raised-vars}
+use Rattle.omega_node_laws.proofs.Trees.{test-is}
 
 -- ---- numbers that may be missing
 
@@ -207,6 +209,41 @@ tree-test ts ks d xs n t b e h = subst (λ s. b ≡ same_ty t (at s.types n)) e 
 -- the test of the list for two numbers is the test for sameness of their types
 pub same-test : {s : Scope} (ts : List Ty) (ks : List Kind) (d : ℕ) (xs : List (ℕ × ℕ)) (m n : ℕ) (b : Truth) → record { types = ts; kinds = ks; depth = d; vars = xs } ≡ s → (IsTrue b ↔ at ts m ≡ at ts n) → b ≡ same_ty (at s.types m) (at s.types n)
 same-test ts ks d xs m n b e h = subst (λ s. b ≡ same_ty (at s.types m) (at s.types n)) e (test-is b (at ts m) (at ts n) h)
+
+-- the test of the list for a type put in is the test for sameness
+pub filled-test : {s : Scope} (ts : List Ty) (ks : List Kind) (d : ℕ) (xs : List (ℕ × ℕ)) (inner hidden whole : ℕ) (b : Truth) → record { types = ts; kinds = ks; depth = d; vars = xs } ≡ s
+    → (IsTrue b ↔ hsubst Kind.Star 0 (at ts hidden) (at ts inner) ≡ at ts whole) → b ≡ same_ty (hsubst Kind.Star 0 (at s.types hidden) (at s.types inner)) (at s.types whole)
+filled-test ts ks d xs inner hidden whole b e h =
+    subst (λ s. b ≡ same_ty (hsubst Kind.Star 0 (at s.types hidden) (at s.types inner)) (at s.types whole)) e (test-is b (hsubst Kind.Star 0 (at ts hidden) (at ts inner)) (at ts whole) h)
+
+-- the test of the numbers is the one of the types that were put
+packed-test : {a b c : Scope} (k : Kind) (h i body : ℕ) (hidden inner : Ty) (t : Truth) → k ≡ Kind.Star → body < length a.types → Makes a b h hidden → Makes b c i inner
+    → t ≡ same_ty (hsubst Kind.Star 0 (at c.types h) (at c.types i)) (at c.types body) → same_ty (hsubst k 0 hidden inner) (at a.types body) ≡ t
+packed-test {a} {b} {c} k h i body hidden inner t star w m l test =
+    let x : hidden ≡ at c.types h = sym (begins-at b.types c.types h l.grows.begins m.holds.within ∙ m.holds.value) in
+    let y : inner ≡ at c.types i = sym l.holds.value in
+    let z : at a.types body ≡ at c.types body = sym (begins-at a.types c.types body (begins-then a.types b.types c.types m.grows.begins l.grows.begins) w) in
+    (λ o. same_ty (hsubst (star o) 0 (x o) (y o)) (z o)) ∙ sym test
+
+-- a package whose body is what stands below the binder, with the hidden type put in
+pub packed-finds : {a b c d : Scope} (j k : Kind) (h i n body : ℕ) (hidden inner : Ty) (t : Truth) → k ≡ Kind.Star → j ≡ k → body < length a.types → Makes a b h hidden → Makes b c i inner
+    → t ≡ same_ty (hsubst Kind.Star 0 (at c.types h) (at c.types i)) (at c.types body) → t ≡ true → Makes c d n (Ty.Ex j (at c.types i))
+    → Finds a d (Some n) (if_same (Ty.Ex k inner) (Some (hsubst k 0 hidden inner)) (Some (at a.types body)))
+packed-finds {a} {b} {c} {d} j k h i n body hidden inner t star same w m l test holds made = record {
+  grows = grows-then (grows-then m.grows l.grows) made.grows;
+  is_number =
+      subst (λ p. NumberOf d.types (Some n) (if p then Some (Ty.Ex k inner) else None)) (sym (packed-test k h i body hidden inner t star w m l test ∙ holds))
+      (record { within = made.holds.within; value = made.holds.value ∙ (λ o. Ty.Ex (same o) (l.holds.value o)) });
+}
+
+-- and one whose body is not
+pub packed-none : {a b c : Scope} (k : Kind) (h i body : ℕ) (hidden inner : Ty) (t : Truth) → k ≡ Kind.Star → body < length a.types → Makes a b h hidden → Makes b c i inner
+    → t ≡ same_ty (hsubst Kind.Star 0 (at c.types h) (at c.types i)) (at c.types body) → t ≡ false
+    → Finds a c None (if_same (Ty.Ex k inner) (Some (hsubst k 0 hidden inner)) (Some (at a.types body)))
+packed-none {a} {b} {c} k h i body hidden inner t star w m l test fails = record {
+  grows = grows-then m.grows l.grows;
+  is_number = subst (λ p. NumberOf c.types None (if p then Some (Ty.Ex k inner) else None)) (sym (packed-test k h i body hidden inner t star w m l test ∙ fails)) tt;
+}
 
 -- ---- a variable that is used
 

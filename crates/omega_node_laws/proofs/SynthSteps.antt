@@ -7,11 +7,11 @@ use Rattle.omega_types.specs.Ty.{Ty}
 use Rattle.omega_terms.specs.Term.{Term}
 use Rattle.type_store.specs.Numbers.{NumberOf}
 use Rattle.type_store.specs.Trees.{at}
-use Rattle.omega_checker.specs.Found.{normal_at, inst_type, get_type, inj_type, roll_type, unroll_type, synth_in}
+use Rattle.omega_node_laws.specs.Found.{normal_at, inst_type, get_type, inj_type, roll_type, unroll_type, synth_in}
 use Rattle.omega_node_laws.specs.Held.{Has, Held}
 use Rattle.omega_node_laws.specs.Scope.{Scope, types_of, type_at, Grows, Finds, Synthesises}
 use Rattle.omega_node_laws.proofs.HeldMore.{number-more, held-more}
-use Rattle.omega_checker.proofs.Inverted.{inst-yes, get-yes, inj-yes, roll-yes, unroll-yes}
+use Rattle.omega_node_laws.proofs.Inverted.{inst-yes, get-yes, inj-yes, roll-yes, unroll-yes}
 use Rattle.omega_node_laws.proofs.ScopeSteps.{number-at, number-some, type-some, grows-then}
 
 -- ---- a term that was synthesised in a part of the way

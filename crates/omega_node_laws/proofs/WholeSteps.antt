@@ -13,10 +13,10 @@ use Rattle.omega_terms.specs.Term.{Term, TermRow}
 use Rattle.type_store.specs.Numbers.{NumberOf}
 use Rattle.type_store.specs.Shape.{Parts}
 use Rattle.type_store.specs.Trees.{at, row_at}
-use Rattle.omega_checker.specs.Found.{is_found, more_type, synth_in, synth_row, synth_branches}
-use Rattle.omega_checker.specs.SameTy.{same_ty}
-use Rattle.omega_checker.proofs.FieldLoop.{rises-differ}
-use Rattle.omega_checker.proofs.Trees.{same_ty-self, true-both}
+use Rattle.omega_node_laws.specs.Found.{is_found, more_type, synth_in, synth_row, synth_branches}
+use Rattle.omega_node_laws.specs.SameTy.{same_ty}
+use Rattle.omega_node_laws.proofs.FieldLoop.{rises-differ}
+use Rattle.omega_node_laws.proofs.Trees.{same_ty-self, true-both}
 use Rattle.omega_node_laws.specs.Held.{Has, Held, HeldFields, HeldBranches}
 use Rattle.omega_node_laws.specs.Scope.{Scope, types_of, Grows, Makes, Synthesises, FindsBranches}
 use Rattle.omega_node_laws.specs.StepLaws.{IsLeaf, FindsFields}

@@ -10,7 +10,7 @@ use Rattle.omega_types.specs.Ty.{Ty, Row}
 use Rattle.omega_terms.specs.Term.{Term, TermRow}
 use Rattle.omega_terms.specs.Typing.{shift_all}
 use Rattle.type_store.specs.Numbers.{NumberOf}
-use Rattle.omega_checker.specs.Found.{normal_at, synth_in}
+use Rattle.omega_node_laws.specs.Found.{normal_at, synth_in}
 
 -- there is a type, and the list has it
 pub record Has (ts : List Ty) (o : Option Ty) : Type 0 where

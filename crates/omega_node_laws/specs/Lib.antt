@@ -1,3 +1,5 @@
+pub mod SameTy
+pub mod Found
 pub mod NodeTypes
 pub mod Held
 pub mod NodeLaws

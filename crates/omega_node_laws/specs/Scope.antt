@@ -15,8 +15,8 @@ use Rattle.omega_terms.specs.Term.{Term, TermRow}
 use Rattle.type_store.specs.Numbers.{NumberOf}
 use Rattle.type_store.specs.Shape.{Parts}
 use Rattle.type_store.specs.Trees.{Begins, Holds, ArePartsBelow, at, row_at}
-use Rattle.omega_checker.specs.Found.{and_then, call_type, if_sum, let_type, normal_at, of_package, synth_branches, synth_in}
-use Rattle.omega_checker.specs.SameTy.{same_ty}
+use Rattle.omega_node_laws.specs.Found.{and_then, call_type, if_sum, let_type, normal_at, of_package, synth_branches, synth_in}
+use Rattle.omega_node_laws.specs.SameTy.{same_ty}
 use Rattle.omega_node_laws.specs.Held.{Has, IsParameter, Held, HeldBranches}
 
 -- `kinds` are those of the type variables in scope, the innermost first, and `depth` is how many there are

@@ -18,7 +18,7 @@ use Rattle.omega_terms.specs.Typing.{shift_all}
 use Rattle.type_store.specs.Numbers.{NumberOf}
 use Rattle.type_store.specs.Shape.{Parts}
 use Rattle.type_store.specs.Trees.{at, row_at}
-use Rattle.omega_checker.specs.Found.{call_type, get_type, if_type, inj_type, inst_type, is_found, lowered, normal_at, op_type, pack_type, roll_type, synth_in, unroll_type}
+use Rattle.omega_node_laws.specs.Found.{call_type, get_type, if_type, inj_type, inst_type, is_found, lowered, normal_at, op_type, pack_type, roll_type, synth_in, unroll_type}
 use Rattle.omega_node_laws.specs.Scope.{Scope, types_of, type_at, Grows, Makes, Finds, Synthesises, FindsFunction, FindsBranches, IsPackage, IsSum, parameter_type}
 
 -- a term is synthesised in the variables of the scope

@@ -1,9 +1,9 @@
-// The types of the nodes of a term: a list of types that has the normal form of each, as a checker on numbers fills it.
-// Specifications and their laws only; omega_numbers stands on it.
-// Stands on type_store (lists of numbered types), omega_laws (synthesis) and omega_checker (the types that are found).
+// The types of the nodes of a term: a list of types that has the normal form of each, as the checker fills it.
+// Specifications and their laws only; omega_checker stands on it.
+// Stands on type_store (lists of numbered types), omega_laws (synthesis) and type_normal (normal forms).
 // Proved: if a list holds the type that is found for each node of a term that has a type, it holds the normal form of each
 // type that the typing rules give each node, in the node's own context; a longer list keeps this (`node_types`). For each
-// form of term, if the parts have types, what a checker on numbers established of them gives it of the whole (`steps`).
+// form of term, if the parts have types, what the checker established of them gives it of the whole (`steps`).
 #![tactic(auto)]
 
 ghost use Rattle.omega_node_laws.specs.NodeLaws.{HeldGrows, NodesHeld, ClosedNodesHeld};

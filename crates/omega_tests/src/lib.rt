@@ -1,5 +1,5 @@
 // Tests of the crates of System Fω through their public calls, with ample memory: normal types, their store, terms, texts,
-// scopes, the checker, the machine and simplified terms. Stands on these crates and on fing_text.
+// scopes, the checker with the types that it keeps, the machine and simplified terms. Stands on these crates and on fing_text.
 // Proved: that no test reads out of bounds, overflows or breaks what a call asks for. What they assert is tested alone.
 #![tactic(auto)]
 
@@ -7,6 +7,8 @@
 mod checking;
 #[cfg(test)]
 mod machine;
+#[cfg(test)]
+mod node_types;
 #[cfg(test)]
 mod normal_types;
 #[cfg(test)]

@@ -13,7 +13,7 @@ use Rattle.type_store.specs.Inner.Memo.{filled, filled_row}
 use Rattle.type_store.specs.Shape.{Parts}
 use Rattle.type_store.specs.Trees.{at, row_at, Begins, Holds}
 use Rattle.type_store.proofs.MapSteps.{mapped_pairs}
-use Rattle.type_store.proofs.TreeLaws.{begins-itself, begins-then, begins-at, holds-more, part_below}
+use Rattle.type_store.proofs.TreeLaws.{begins-itself, begins-then, begins-at, part_below}
 
 -- ---- what came in for a variable of kind * is no operator
 
@@ -88,8 +88,8 @@ filled_apply = two Ty.Apply (λ index a s t. put-apply (args Kind.Star) index (s
 
 -- ---- below a binder
 
-below : (index : ℕ) (a b : Ty) → tree (put_in Kind.Star (args Kind.Star) (suc index) (rename suc (shift index 0 a)) b) ≡ filled (index + 1) a b
-below index a b = put_in-under Kind.Star index index a b
+pub filled-under : (index : ℕ) (a b : Ty) → tree (put_in Kind.Star (args Kind.Star) (suc index) (rename suc (shift index 0 a)) b) ≡ filled (index + 1) a b
+filled-under index a b = put_in-under Kind.Star index index a b
 
 module _ (binder : Kind → Ty → Ty) (fills : (index : ℕ) (a : Ty) (k : Kind) (b : Ty) → filled index a (binder k b) ≡ binder k (filled (index + 1) a b)) where
   under : (index next : ℕ) (j k : Kind) (old ts us : List Ty) (full : Ty) (arg b b' n : ℕ) → binder k (at old b) ≡ full → next ≡ index + 1 → j ≡ k
@@ -103,20 +103,20 @@ module _ (binder : Kind → Ty → Ty) (fills : (index : ℕ) (a : Ty) (k : Kind
 
 pub filled_all : (index next : ℕ) (j k : Kind) (old ts us : List Ty) (full : Ty) (arg b b' n : ℕ) → Ty.All k (at old b) ≡ full → next ≡ index + 1 → j ≡ k
     → Holds ts b' (filled next (at old arg) (at old b)) → Holds us n (Ty.All j (at ts b')) → Holds us n (filled index (at old arg) full)
-filled_all = under Ty.All (λ index a k b. ap (Ty.All k) (below index a b))
+filled_all = under Ty.All (λ index a k b. ap (Ty.All k) (filled-under index a b))
 
 pub filled_ex : (index next : ℕ) (j k : Kind) (old ts us : List Ty) (full : Ty) (arg b b' n : ℕ) → Ty.Ex k (at old b) ≡ full → next ≡ index + 1 → j ≡ k
     → Holds ts b' (filled next (at old arg) (at old b)) → Holds us n (Ty.Ex j (at ts b')) → Holds us n (filled index (at old arg) full)
-filled_ex = under Ty.Ex (λ index a k b. ap (Ty.Ex k) (below index a b))
+filled_ex = under Ty.Ex (λ index a k b. ap (Ty.Ex k) (filled-under index a b))
 
 pub filled_lam : (index next : ℕ) (j k : Kind) (old ts us : List Ty) (full : Ty) (arg b b' n : ℕ) → Ty.Lam k (at old b) ≡ full → next ≡ index + 1 → j ≡ k
     → Holds ts b' (filled next (at old arg) (at old b)) → Holds us n (Ty.Lam j (at ts b')) → Holds us n (filled index (at old arg) full)
-filled_lam = under Ty.Lam (λ index a k b. ap (Ty.Lam k) (below index a b))
+filled_lam = under Ty.Lam (λ index a k b. ap (Ty.Lam k) (filled-under index a b))
 
 pub filled_mu : (index next : ℕ) (old ts us : List Ty) (full : Ty) (arg b b' n : ℕ) → Ty.Mu (at old b) ≡ full → next ≡ index + 1
     → Holds ts b' (filled next (at old arg) (at old b)) → Holds us n (Ty.Mu (at ts b')) → Holds us n (filled index (at old arg) full)
 filled_mu index next old ts us full arg b b' n is e h made =
-    under (λ k t. Ty.Mu t) (λ index a k b. ap Ty.Mu (below index a b)) index next Kind.Star Kind.Star old ts us full arg b b' n is e refl h made
+    under (λ k t. Ty.Mu t) (λ index a k b. ap Ty.Mu (filled-under index a b)) index next Kind.Star Kind.Star old ts us full arg b b' n is e refl h made
 
 -- ---- the parts of a record or a sum
 

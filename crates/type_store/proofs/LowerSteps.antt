@@ -58,7 +58,7 @@ mutual
 not-zero : Misses suc zero
 not-zero j e = omega (arith, e)
 
-raised-misses : (t : Ty) → is_mentioned 0 (shift 1 0 t) ≡ false
+pub raised-misses : (t : Ty) → is_mentioned 0 (shift 1 0 t) ≡ false
 raised-misses t = ap (is_mentioned 0) (shift-suc t) ∙ missed suc zero t not-zero
 
 -- ---- what is put in for a variable that is not mentioned does not matter
@@ -104,7 +104,7 @@ mutual
       let p = either (is_mentioned i t) (is_mentioned_row i rest) h in
       ap₂ (λ x r. Row.More l (tree x) r) (put-lowers k A i a t p.0) (put-lowers_row k A i a rest p.1)
 
-filled-lowers : (a t : Ty) → is_mentioned 0 t ≡ false → filled 0 a t ≡ lower 1 t
+pub filled-lowers : (a t : Ty) → is_mentioned 0 t ≡ false → filled 0 a t ≡ lower 1 t
 filled-lowers a t h = ap tree (put-lowers Kind.Star (args Kind.Star) 0 (shift 0 0 a) t h)
 
 back : (t : Ty) → is_mentioned 0 t ≡ false → shift 1 0 (lower 1 t) ≡ t

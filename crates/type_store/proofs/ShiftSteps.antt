@@ -21,7 +21,7 @@ shift-var_below by from i h = ap Ty.Var (bump-below by from i h)
 pub shift-var_above : (by from i : ℕ) → from ≤ i → shift by from (Ty.Var i) ≡ Ty.Var (i + by)
 shift-var_above by from i h = ap Ty.Var (bump-past by from i h)
 
-shift-under : (by from : ℕ) (b : Ty) → rename (lift (bump by from)) b ≡ shift by (from + 1) b
+pub shift-under : (by from : ℕ) (b : Ty) → rename (lift (bump by from)) b ≡ shift by (from + 1) b
 shift-under by from b = let next : suc from ≡ from + 1 = omega arith in ap (λ n. shift by n b) next
 
 -- the parts of a record, each shifted

@@ -11,7 +11,7 @@ use Rattle.omega_types.proofs.Rising.{rises-push}
 use Rattle.omega_types.proofs.Steps.{map_parts, may_follow-at}
 use Rattle.type_store.specs.Shape.{Shape, Parts}
 use Rattle.type_store.specs.Trees.{at, row_at, ArePartsBelow, AreDistinct, Begins, Holds, Makes, MakesParts}
-use Rattle.type_store.proofs.TreeLaws.{begins-itself, begins-then, begins-at, begins-length, holds-more, row_at-append, parts_below-more}
+use Rattle.type_store.proofs.TreeLaws.{begins-itself, begins-then, begins-length, holds-more, row_at-append, parts_below-more}
 
 pub makes_var : (ts : List Ty) (i : ℕ) → Makes ts (Shape.Var i) (Ty.Var i)
 makes_var ts i = record { below = tt; value = refl }

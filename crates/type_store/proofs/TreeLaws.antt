@@ -8,7 +8,8 @@ use Rattle.std.proofs.lemmas.Bool.{cases_lt, false≢true}
 use Rattle.std.proofs.lemmas.List.Folds.{list_any_at}
 use Rattle.std.proofs.lemmas.List.Sums.{fold-append}
 use Rattle.std.proofs.lemmas.Option.{slice_get_within, slice_get-get_or, get_or_from_slice_get}
-use Rattle.std.specs.List.{list_any}
+use Rattle.std.proofs.lemmas.List.Quantifiers.{position-Some}
+use Rattle.std.specs.List.{list_any, position}
 use Rattle.indexmap.specs.IndexSet.{insert_key}
 use Rattle.omega_kinds.specs.declared.label.Label.{Label}
 use Rattle.omega_types.specs.Ty.{Ty, Row}
@@ -335,3 +336,13 @@ pub holds_new : (shapes new : List Shape) (s : Shape) (i : ℕ) (r : Shape) → 
     → slice_get new i ≡ Some r → shape_eq s r ≡ true → Holds (trees new) i (tree_at (trees shapes) s)
 holds_new shapes new s i r h below keys e same =
     subst (λ ks. Holds (trees ks) i (tree_at (trees shapes) s)) (sym keys) (holds-inserted shapes h s below i r (subst (λ ks. slice_get ks i ≡ Some r) keys e) same)
+
+-- a shape that a search finds among the shapes of a store
+pub placed : (shapes : List Shape) (s : Shape) (i : ℕ) → IsStore shapes → position (shape_eq s) shapes ≡ Some i → Holds (trees shapes) i (tree_at (trees shapes) s)
+placed shapes s i h e =
+    let p = position-Some (shape_eq s) shapes i s e in
+    let there : slice_get shapes i ≡ Some (get_or shapes i s) = slice_get-get_or shapes i s p.0 in
+    record {
+      within = omega (arith, p.0, h.as_long);
+      value = h.stands i (get_or shapes i s) there ∙ ap (tree_at (trees shapes)) (sym (shape_eq-yes s (get_or shapes i s) p.1));
+    }

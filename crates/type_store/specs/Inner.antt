@@ -4,3 +4,4 @@ pub mod Feed
 pub mod ShapeLaws
 pub mod Memo
 pub mod Low
+pub mod Places

@@ -6,6 +6,7 @@
 // `fill` give the number of exactly the type that their definitions name, whatever was remembered before.
 #![tactic(auto)]
 
+mod checking;
 mod comparing;
 mod digest;
 mod filling;

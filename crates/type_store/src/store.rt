@@ -1,5 +1,5 @@
 // The store.
-ghost use Rattle.std.specs.Prelude.{◌≡◌, ◌↔◌, ◌<◌, ℕ, [], IfOk, length};
+ghost use Rattle.std.specs.Prelude.{◌≡◌, ◌↔◌, ◌<◌, ℕ, [], IfOk, IfSome, length};
 ghost use Rattle.omega_kinds.specs.View.{kind_tree};
 ghost use Rattle.omega_types.specs.Inner.Bound.{bound_of};
 ghost use Rattle.omega_types.specs.Fields.{row};
@@ -64,6 +64,18 @@ impl Store {
     /// The number of the type that a node makes of the types that it numbers. The types that the store had keep their numbers.
     /// `Err` is out of memory.
     pub fn put_node(&mut self, node: Node) -> Result<u64, Mem>
+        requires { IsBelow (length self.old) node }
+        ensures grows { Begins self.old self.new }
+        ensures number { IfOk result (λ n. Holds self.new n (tree_at self.old node)) }
+    {
+        match place_of(&self.nodes, &node) {
+            Some(number) => Ok(number),
+            None => self.add(node),
+        }
+    }
+
+    // The number of the type that a node makes, where it may be a new one.
+    fn add(&mut self, node: Node) -> Result<u64, Mem>
         requires { IsBelow (length self.old) node }
         ensures grows { Begins self.old self.new }
         ensures number { IfOk result (λ n. Holds self.new n (tree_at self.old node)) }
@@ -268,6 +280,16 @@ impl Store {
         }
         Ok(parts)
     }
+}
+
+// The number of a node among these, where it is there.
+fn place_of(nodes: &IndexSet<Node>, node: &Node) -> Option<u64>
+    requires store { IsStore nodes.now.keys }
+    requires below { IsBelow (length (trees nodes.now.keys)) node.now }
+    ensures { IfSome result (λ n. Holds (trees nodes.now.keys) n (tree_at (trees nodes.now.keys) node.now)) }
+{
+    let number = nodes.get_index_of(node)?;
+    Some(number as u64)
 }
 
 // The number of a node among these, with the numbers of its type's free indexes where it is a new one.
