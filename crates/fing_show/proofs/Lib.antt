@@ -1,3 +1,4 @@
 pub mod Closed
+pub mod Headed
 pub mod Verdicts
 pub mod Ran

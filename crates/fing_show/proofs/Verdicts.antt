@@ -13,11 +13,10 @@ use Rattle.parse_grammar.specs.declared.refusal.ParseRefusal.TheVariants as pars
 use Rattle.fing_syntax.specs.Inner.Leaves.{place}
 use Rattle.fing_syntax.specs.Phrase.{Binds as Program}
 use Rattle.refusal_reasons.specs.Refusal.{ElabWhy, Refuse}
-use Rattle.fing_refusals.specs.Inner.Plain.{Says, plain_clash, plain_reason, refused, want_of_memory}
+use Rattle.fing_refusals.specs.Inner.Plain.{Says, plain_reason, refused, want_of_memory}
 use Rattle.fing_refusals.specs.declared.refusal.ElabWhy.{ElabWhy as CodeElabWhy}
 use Rattle.fing_refusals.specs.declared.refusal.ElabWhy.TheVariants as reason
 use Rattle.fing_refusals.specs.declared.refusal.Refusal.{Refusal as CodeRefusal}
-use Rattle.omega_kinds.specs.View.{kind_tree}
 use Rattle.fing_elab.specs.Inner.Exactly.{IsRefused}
 use Rattle.fing_show.specs.Inner.Judged.{IsReported, Judges, JudgesProgram, JudgesTokens}
 use Rattle.fing_show.specs.declared.showing.Verdict.{Verdict}

@@ -1,10 +1,10 @@
 // Derivations of programs, written by hand from the figures of the rules and from the form of pages.
 use crate::View;
-use crate::tests::{WITHOUT_MEANING, all_show_as, shown};
+use crate::tests::shown;
 use show_figures::Form;
 use std::test::Fail;
 
-const TREES: [(&str, &str); 10] = [
+pub(crate) const TREES: [(&str, &str); 10] = [
     // arithmetic
     (
         "val n = 2 + 3",
@@ -216,32 +216,7 @@ The rules of phrases are constructors in crates/elab_judgments/specs/Judgments/M
     ),
 ];
 
-#[test]
-fn trees(rt: HostRuntime) -> Result<(), Fail> {
-    all_show_as(&rt, rt.alloc(), View::Derivation(Form::Text), true, &TREES)
-}
-
-// A refusal is the same in each form.
-#[test]
-fn refusals(rt: HostRuntime) -> Result<(), Fail> {
-    let alloc = rt.alloc();
-    all_show_as(
-        &rt,
-        alloc,
-        View::Derivation(Form::Text),
-        false,
-        &WITHOUT_MEANING,
-    )?;
-    all_show_as(
-        &rt,
-        alloc,
-        View::Derivation(Form::Html),
-        false,
-        &WITHOUT_MEANING,
-    )
-}
-
-const IN_LATEX: (&str, &str) = (
+pub(crate) const IN_LATEX: [(&str, &str); 1] = [(
     "val n = 2 + 3",
     "% for math mode, with \\usepackage{proof}
 % the rules of phrases are constructors in crates/elab_judgments/specs/Judgments/Meaning.antt; docs/language has their figures
@@ -265,20 +240,9 @@ const IN_LATEX: (&str, &str) = (
 }
 }
 ",
-);
+)];
 
-#[test]
-fn trees_in_latex(rt: HostRuntime) -> Result<(), Fail> {
-    all_show_as(
-        &rt,
-        rt.alloc(),
-        View::Derivation(Form::Latex),
-        true,
-        &[IN_LATEX],
-    )
-}
-
-const IN_HTML: (&str, &str) = (
+pub(crate) const IN_HTML: [(&str, &str); 1] = [(
     "val b = 2 < 3",
     "<!DOCTYPE html>
 <html lang=\"en\">
@@ -311,18 +275,7 @@ span { display: inline-block; font-family: monospace; vertical-align: top; white
 </body>
 </html>
 ",
-);
-
-#[test]
-fn trees_in_html(rt: HostRuntime) -> Result<(), Fail> {
-    all_show_as(
-        &rt,
-        rt.alloc(),
-        View::Derivation(Form::Html),
-        true,
-        &[IN_HTML],
-    )
-}
+)];
 
 // Records in one another, 200 deep. The program and the binding stand round them, so that 63 of them have lines.
 #[test]

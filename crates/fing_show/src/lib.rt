@@ -3,18 +3,24 @@
 // Stands on fing_lexer, fing_parser, fing_elab and elab_phrases (from bytes to a meaning or a refusal), and on the crates
 // show_text to show_syntax (pages).
 // Proved: the verdict is the one of the rules, with the place of a refusal; the end of a run is what the whole term comes to
-// within the budget; making the page ends. No clause speaks of the page: that it belongs to the verdict, and all that it
-// says, is only tested.
+// within the budget. The page begins with the title of the one refusal, or in the views of signatures with the effect of
+// the program. Making it ends; all else that it says is only tested.
 #![tactic(auto)]
 
 #[cfg(test)]
+mod arranged_tests;
+mod declared;
+#[cfg(test)]
+mod declared_tests;
+#[cfg(test)]
 mod derivation_tests;
 mod derivations;
+mod heads;
 #[cfg(test)]
 mod name_tests;
 mod omega;
 #[cfg(test)]
-mod omega_tests;
+mod omega_text_tests;
 #[cfg(test)]
 mod order_tests;
 mod pages;
@@ -25,6 +31,10 @@ mod phrase_tests;
 mod places;
 mod running;
 mod showing;
+#[cfg(test)]
+mod sides_tests;
+#[cfg(test)]
+mod slip_tests;
 #[cfg(test)]
 mod step_tests;
 #[cfg(test)]

@@ -1,8 +1,6 @@
 // Names of types in pages of refusals, reasoned from what each name leads to at the place of the refusal.
-use crate::tests::all_show;
-use std::test::Fail;
 
-const LED_TO: [(&str, &str); 10] = [
+pub(crate) const LED_TO: [(&str, &str); 10] = [
     // by a functor's parameter, and by a module in its body
     (
         "module F = fun (X : sig type t val x : t end) => struct
@@ -14,7 +12,7 @@ val z = (fun (x : X.t) => x) M.y end",
 3 | val z = (fun (x : X.t) => x) M.y end
   |                              ^^^
 This has the type `M.u`, and the type `X.t` is needed.
-hint: Nothing is converted. A hidden type is equal only to itself: say what it is with `where type`.
+hint: A hidden type is equal only to itself, and each `unpack` or use of a generative functor makes new ones. A `fun` that does either is generative.
 see docs/errors.md#differ-t-t
 ",
     ),
@@ -100,6 +98,16 @@ see docs/errors.md#differ-t-t
 2 | :> sig val y : Int end
   |    ^^^^^^^^^^^^^^^^^^^
 What the module has at `y` has the type `N.t`, and the signature asks for `Int`.
+note: this declaration asks for `y`
+ --> a.fing:2:8
+  |
+2 | :> sig val y : Int end
+  |        ^^^^^^^^^^^
+note: `y` is a value there
+ --> a.fing:1:92
+  |
+1 | module M = struct module N = struct type t = Int val x = 1 end :> sig type t val x : t end val y = N.x end
+  |                                                                                            ^^^^^^^^^^^
 hint: A value must match its declaration exactly: there is no instantiation, and no subtyping of records.
 see docs/errors.md#clash-p-why
 ",
@@ -116,7 +124,7 @@ val y = A.f B.x",
 4 | val y = A.f B.x
   |             ^^^
 This has the type `B.t`, and the type `A.t` is needed.
-hint: Nothing is converted. A hidden type is equal only to itself: say what it is with `where type`.
+hint: A hidden type is equal only to itself, and each `unpack` or use of a generative functor makes new ones. A `fun` that does either is generative.
 see docs/errors.md#differ-t-t
 ",
     ),
@@ -147,18 +155,13 @@ val ok = fun (x : X.t) => B.un (A.mk x) end",
 4 | val ok = fun (x : X.t) => B.un (A.mk x) end
   |                                ^^^^^^^^
 This has the type `A.u`, and the type `B.u` is needed.
-hint: Nothing is converted. A hidden type is equal only to itself: say what it is with `where type`.
+hint: A hidden type is equal only to itself, and each `unpack` or use of a generative functor makes new ones. A `fun` that does either is generative.
 see docs/errors.md#differ-t-t
 ",
     ),
 ];
 
-#[test]
-fn names_that_lead_to_types(rt: HostRuntime) -> Result<(), Fail> {
-    all_show(&rt, rt.alloc(), false, &LED_TO)
-}
-
-const WITHOUT_NAME: [(&str, &str); 4] = [
+pub(crate) const WITHOUT_NAME: [(&str, &str); 4] = [
     // a later module hides the only one that leads to the type
     (
         "module M = struct type t = Int val x = 1 end :> sig type t val x : t end
@@ -203,6 +206,16 @@ module M = struct module N = struct type t = Int val x = 1 end :> sig type t val
   |    ^^^^^^^^^^^^^^^^^^^
 What the module has at `y` has the type `?1`, and the signature asks for `Int`.
 note: `?N` is a hidden type or a type parameter: the one that `check` calls `aN`
+note: this declaration asks for `y`
+ --> a.fing:3:8
+  |
+3 | :> sig val y : Int end
+  |        ^^^^^^^^^^^
+note: `y` is a value there
+ --> a.fing:2:92
+  |
+2 | module M = struct module N = struct type t = Int val x = 1 end :> sig type t val x : t end val y = N.x end
+  |                                                                                            ^^^^^^^^^^^
 hint: A value must match its declaration exactly: there is no instantiation, and no subtyping of records.
 see docs/errors.md#clash-p-why
 ",
@@ -220,13 +233,18 @@ end :> sig type t val y : t val x : t end",
   |        ^^^^^^^^^^^^^^^^^^^^^^^^^^^^^^^^^^
 What the module has at `x` has the type `?0`, and the signature asks for `t`.
 note: `?N` is a hidden type or a type parameter: the one that `check` calls `aN`
+note: this declaration asks for `x`
+ --> a.fing:4:29
+  |
+4 | end :> sig type t val y : t val x : t end
+  |                             ^^^^^^^^^
+note: `x` is a value there
+ --> a.fing:2:57
+  |
+2 | include struct type t = Int val x = 1 end :> sig type t val x : t end
+  |                                                         ^^^^^^^^^
 hint: A value must match its declaration exactly: there is no instantiation, and no subtyping of records.
 see docs/errors.md#clash-p-why
 ",
     ),
 ];
-
-#[test]
-fn types_to_which_no_name_leads(rt: HostRuntime) -> Result<(), Fail> {
-    all_show(&rt, rt.alloc(), false, &WITHOUT_NAME)
-}

@@ -1,9 +1,6 @@
 // Components in the order of the source, reasoned from the source.
-use crate::View;
-use crate::tests::{all_show, all_show_as};
-use std::test::Fail;
 
-const ORDERS: [(&str, &str); 6] = [
+pub(crate) const ORDERS: [(&str, &str); 6] = [
     // the last binding of a name, and an include
     (
         "val c = 1 val a = 2 include struct val y = 3 val x = 4 end val c = true",
@@ -109,24 +106,12 @@ hidden: Money.t
     ),
 ];
 
-#[test]
-fn components_in_the_order_of_the_source(rt: HostRuntime) -> Result<(), Fail> {
-    all_show(&rt, rt.alloc(), true, &ORDERS)
-}
-
-const LEAF: &str =
+// A path in an expression, in line 2 and column 24, has the order of what it names.
+pub(crate) const LEAF: [(&str, &str); 1] = [(
     "module C = struct val next = 0 val leaf = true end : sig val next : Int val leaf : Bool end
 val n = if C.leaf then C.next else 0
-";
-
-// A path in an expression has the order of what it names.
-#[test]
-fn a_phrase_in_the_order_of_the_source(rt: HostRuntime) -> Result<(), Fail> {
-    let view = View::Phrase {
-        line: 2,
-        column: 24,
-    };
-    let page = " --> a.fing:2:24
+",
+    " --> a.fing:2:24
   |
 2 | val n = if C.leaf then C.next else 0
   |                        ^
@@ -134,6 +119,5 @@ module : sig
   val next : Int
   val leaf : Bool
 end
-";
-    all_show_as(&rt, rt.alloc(), view, true, &[(LEAF, page)])
-}
+",
+)];

@@ -1,9 +1,6 @@
 // Signatures in the notation of the literature, written out by hand from the rules of the notation.
-use crate::View;
-use crate::tests::all_show_as;
-use std::test::Fail;
 
-const HIDING: [(&str, &str); 7] = [
+pub(crate) const HIDING: [(&str, &str); 7] = [
     ("", "P {}\n"),
     (
         "module C = struct type c = Int val start = 0 val next = fun (x : Int) => x + 1 end
@@ -52,12 +49,7 @@ module H = fun (F : fun (X : sig end) => sig end) => struct end",
     ),
 ];
 
-#[test]
-fn signatures(rt: HostRuntime) -> Result<(), Fail> {
-    all_show_as(&rt, rt.alloc(), View::Paper, true, &HIDING)
-}
-
-const TYPES: [(&str, &str); 6] = [
+pub(crate) const TYPES: [(&str, &str); 6] = [
     (
         "type k = fun (f : Type -> Type) => f (f Int)
 type p = fun (t : Type) => {x : t, y : Int} -> Bool
@@ -116,12 +108,7 @@ fun (a : Type) => fun (a : Type) => fun (a : Type) => fun (b : Type) => fun (c :
     ),
 ];
 
-#[test]
-fn types(rt: HostRuntime) -> Result<(), Fail> {
-    all_show_as(&rt, rt.alloc(), View::Paper, true, &TYPES)
-}
-
-const IN_LATEX: [(&str, &str); 6] = [
+pub(crate) const IN_LATEX: [(&str, &str); 6] = [
     (
         "",
         "\\begin{array}{l}
@@ -173,8 +160,3 @@ module Inner = struct val number = 1 end",
 ",
     ),
 ];
-
-#[test]
-fn signatures_in_latex(rt: HostRuntime) -> Result<(), Fail> {
-    all_show_as(&rt, rt.alloc(), View::Latex, true, &IN_LATEX)
-}

@@ -1,6 +1,6 @@
 // The smallest phrase at a place, and what it is, reasoned from the source.
 use crate::View;
-use crate::tests::{WITHOUT_MEANING, all_show_as};
+use crate::tests::all_show_as;
 use std::test::Fail;
 
 const SOURCE: &str = "module M = struct type t = Int val x = 1 end :> sig type t val x : t end
@@ -246,11 +246,4 @@ fn phrases_at_places(rt: HostRuntime) -> Result<(), Fail> {
         all_show_as(&rt, rt.alloc(), view, true, &[(SOURCE, *page)])?;
     }
     Ok(())
-}
-
-// A refused program has the page of its refusal.
-#[test]
-fn phrases_in_refused_programs(rt: HostRuntime) -> Result<(), Fail> {
-    let view = View::Phrase { line: 1, column: 9 };
-    all_show_as(&rt, rt.alloc(), view, false, &WITHOUT_MEANING)
 }

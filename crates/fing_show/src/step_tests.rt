@@ -1,9 +1,6 @@
 // The steps of runs, written out by hand from the rules of steps and the terms of the programs.
-use crate::View;
-use crate::tests::all_show_as;
-use std::test::Fail;
 
-const WHOLE_RUNS: [(&str, &str); 3] = [
+pub(crate) const WHOLE_RUNS: [(&str, &str); 3] = [
     (
         "val x = 1 + 2 * 3",
         "step 1: operator (Step.arith)
@@ -58,17 +55,8 @@ y = 3
     ),
 ];
 
-#[test]
-fn whole_runs(rt: HostRuntime) -> Result<(), Fail> {
-    let view = View::Steps {
-        shown: 20,
-        budget: 100,
-    };
-    all_show_as(&rt, rt.alloc(), view, true, &WHOLE_RUNS)
-}
-
 // A call of a recursive function, which never ends.
-const CALLS: (&str, &str) = (
+pub(crate) const CALLS: [(&str, &str); 1] = [(
     "val f = fix g (x : Int) : Int => g x val y = f 12",
     "step 1: call of fn (Step.call_lam)
   «let x0 : {.val : int → int} = {
@@ -88,18 +76,9 @@ step 3: call of fix (Step.call_fix)
 … 3 steps are not shown
 spent: no value and no fault in 6 steps
 ",
-);
+)];
 
-#[test]
-fn calls(rt: HostRuntime) -> Result<(), Fail> {
-    let view = View::Steps {
-        shown: 3,
-        budget: 6,
-    };
-    all_show_as(&rt, rt.alloc(), view, true, &[CALLS])
-}
-
-const OVERFLOW: (&str, &str) = (
+pub(crate) const OVERFLOW: [(&str, &str); 1] = [(
     "val x = 9223372036854775807 val y = x + 1",
     "step 1: call of fn (Step.call_lam)
   «let x0 : {.val : int} = {.val = 9223372036854775807} in
@@ -109,19 +88,10 @@ fault Overflow at step 3
   let x0 : {.val : int} = {.val = «9223372036854775807 + 1»} in
   {x = {.val = 9223372036854775807}, y = x0}
 ",
-);
-
-#[test]
-fn steps_that_are_not_shown(rt: HostRuntime) -> Result<(), Fail> {
-    let view = View::Steps {
-        shown: 1,
-        budget: 100,
-    };
-    all_show_as(&rt, rt.alloc(), view, true, &[OVERFLOW])
-}
+)];
 
 // No step is shown. The fault stands in 14 frames: the binding, its record, and the sums of 12 down to 1.
-const ENDS: [(&str, &str); 2] = [
+pub(crate) const ENDS: [(&str, &str); 2] = [
     ("val x = 1 + 2 * 3", "value after 3 steps\nx = 7\n"),
     (
         "val f = fix f (n : Int) : Int => if n < 1 then 1 / 0 else n + f (n - 1) val x = f 12",
@@ -130,12 +100,3 @@ const ENDS: [(&str, &str); 2] = [
 ",
     ),
 ];
-
-#[test]
-fn ends(rt: HostRuntime) -> Result<(), Fail> {
-    let view = View::Steps {
-        shown: 0,
-        budget: 1000,
-    };
-    all_show_as(&rt, rt.alloc(), view, true, &ENDS)
-}

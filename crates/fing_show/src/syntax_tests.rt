@@ -78,23 +78,22 @@ const SPELLED: [&str; 56] = [
     "unroll",
 ];
 
-// A front of a source and one more token.
-fn one_more(alloc: Global, front: &[u8], token: &str) -> Result<Vec<u8>, Fail> {
-    let mut text = Vec::new(alloc);
-    text.extend_from_slice(front)?;
-    text.push(b' ')?;
-    text.extend_from_slice(token.as_bytes())?;
-    Ok(text)
+// The one token of a source.
+fn token_of(rt: &impl Abort, alloc: Global, spelled: &str) -> Result<Token, Fail> {
+    let mut found = tokens_of(rt, alloc, spelled.as_bytes())?;
+    assert_eq!(rt; found.len(), 1);
+    match found.pop() {
+        Some(token) => Ok(token),
+        None => Err(Fail::new("no token")),
+    }
 }
 
-// Whether the parser reads this text to its end, which has so many tokens.
-fn is_read(rt: &impl Abort, alloc: Global, text: &[u8], count: usize) -> Result<bool, Fail> {
-    let found = tokens_of(rt, alloc, text)?;
-    assert_eq!(rt; found.len(), count);
-    assert!(rt; found.len() <= SOURCE_LIMIT);
-    match program(alloc, &found) {
+// Whether the parser reads these tokens to their end.
+fn is_read(rt: &impl Abort, alloc: Global, all: &[Token]) -> Result<bool, Fail> {
+    assert!(rt; all.len() <= SOURCE_LIMIT);
+    match program(alloc, all) {
         Ok(_) => Ok(true),
-        Err(ParseRefusal::Syntax { at }) => Ok(at as usize == count),
+        Err(ParseRefusal::Syntax { at }) => Ok(at as usize == all.len()),
         Err(ParseRefusal::Mem) => Err(Fail::new("out of memory")),
     }
 }
@@ -109,16 +108,14 @@ fn agrees(
     at: usize,
 ) -> Result<(), Fail> {
     let found = followers(alloc, all, at)?;
+    let mut read = tokens_of(rt, alloc, front)?;
+    assert_eq!(rt; read.len(), at);
     for spelled in &SPELLED {
-        let follows = is_read(
-            rt,
-            alloc,
-            &one_more(alloc, front, spelled)?,
-            at.saturating_add(1),
-        )?;
-        for token in tokens_of(rt, alloc, spelled.as_bytes())? {
-            assert_eq!(rt; found.contains(&terminal_of(&token)), follows);
-        }
+        let token = token_of(rt, alloc, spelled)?;
+        let follows = found.contains(&terminal_of(&token));
+        read.push(token)?;
+        assert_eq!(rt; is_read(rt, alloc, &read)?, follows);
+        read.pop();
     }
     Ok(())
 }
@@ -136,7 +133,7 @@ fn followers_are_what_the_parser_reads(rt: HostRuntime) -> Result<(), Fail> {
     let alloc = rt.alloc();
     for source in &PROGRAMS {
         let all = tokens_of(&rt, alloc, source.as_bytes())?;
-        assert!(&rt; is_read(&rt, alloc, source.as_bytes(), all.len())?);
+        assert!(&rt; is_read(&rt, alloc, &all)?);
         agrees(&rt, alloc, b"", &all, 0)?;
         for (at, token) in all.iter().enumerate() {
             let end = token.span.to as usize;

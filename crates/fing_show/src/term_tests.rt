@@ -1,9 +1,6 @@
 // Terms in the notation of the literature, written out by hand from the rules of the notation and the texts of `emit`.
-use crate::View;
-use crate::tests::all_show_as;
-use std::test::Fail;
 
-const TERMS: [(&str, &str); 8] = [
+pub(crate) const TERMS: [(&str, &str); 8] = [
     ("", "{}\n"),
     (
         "val x = 1",
@@ -54,13 +51,8 @@ let x1 : {.val : bool} = {.val = {a = true}.a} in
     ),
 ];
 
-#[test]
-fn terms(rt: HostRuntime) -> Result<(), Fail> {
-    all_show_as(&rt, rt.alloc(), View::Term, true, &TERMS)
-}
-
 // The module is the opened package, whose term binds the structure and then the package.
-const PACKAGE: (&str, &str) = (
+pub(crate) const PACKAGE: [(&str, &str); 1] = [(
     "module M = unpack (pack struct type t = Int end : sig type t end) : sig type t end",
     "unpack ⟨α, x0⟩ = (let x0 : {t : {.typ : ∀α:(⋆ → ⋆). α int → α int}} =
   let x0 : {.typ : ∀α:(⋆ → ⋆). α int → α int} = {.typ = Λα:(⋆ → ⋆). λx0:α int. x0} in {t = x0} in
@@ -74,14 +66,9 @@ let x1 : {.val : ∃α:⋆. {t : {.typ : ∀β:(⋆ → ⋆). β α → β α}}}
 {%0 = x1, %1 = x0}).%0.val in
 pack ⟨α, {M = x0}⟩ as ∃β:⋆. {M : {t : {.typ : ∀γ:(⋆ → ⋆). γ β → γ β}}}
 ",
-);
+)];
 
-#[test]
-fn packages(rt: HostRuntime) -> Result<(), Fail> {
-    all_show_as(&rt, rt.alloc(), View::Term, true, &[PACKAGE])
-}
-
-const IN_LATEX: [(&str, &str); 2] = [
+pub(crate) const IN_LATEX: [(&str, &str); 2] = [
     (
         "val x = 1",
         "\\begin{array}{l}
@@ -100,8 +87,3 @@ const IN_LATEX: [(&str, &str); 2] = [
 ",
     ),
 ];
-
-#[test]
-fn terms_in_latex(rt: HostRuntime) -> Result<(), Fail> {
-    all_show_as(&rt, rt.alloc(), View::TermLatex, true, &IN_LATEX)
-}

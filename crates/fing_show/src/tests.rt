@@ -1,5 +1,9 @@
 // Pages of sources, written by hand from the rules and from docs/errors.md.
-use crate::{Shown, Verdict, View, show};
+use crate::declared_tests::DECLARED;
+use crate::{
+    Form, Shown, Verdict, View, derivation_tests, name_tests, omega_text_tests, order_tests,
+    paper_tests, show, step_tests, term_tests,
+};
 use fing_text::SOURCE_LIMIT;
 use std::alloc::Global;
 use std::process::Abort;
@@ -15,16 +19,6 @@ pub(crate) fn shown(
     let bytes = source.as_bytes();
     assert!(rt; bytes.len() <= SOURCE_LIMIT);
     Ok(show(alloc, b"a.fing", bytes, view)?)
-}
-
-/// Asserts that each source has its page in the syntax of a source, and that they are all accepted, or all refused.
-pub(crate) fn all_show(
-    rt: &impl Abort,
-    alloc: Global,
-    accepted: bool,
-    rows: &[(&str, &str)],
-) -> Result<(), Fail> {
-    all_show_as(rt, alloc, View::Source, accepted, rows)
 }
 
 /// Asserts that each source has its page in a notation, and that they are all accepted, or all refused.
@@ -53,7 +47,7 @@ const WITHOUT_PROGRAM: [(&str, &str); 5] = [
 1 | val x = 1; val y = 2
   |          ^
 No token begins here.
-hint: There are no semicolons, no `>`, `&`, `|` and `!`, and only comments hold bytes outside ASCII.
+hint: There are no semicolons: bindings follow one another, and a comma stands between two fields.
 see docs/errors.md#badbyte-n
 ",
     ),
@@ -109,12 +103,7 @@ see docs/errors.md#syntax-n
     ),
 ];
 
-#[test]
-fn sources_without_program(rt: HostRuntime) -> Result<(), Fail> {
-    all_show(&rt, rt.alloc(), false, &WITHOUT_PROGRAM)
-}
-
-pub(crate) const WITHOUT_MEANING: [(&str, &str); 6] = [
+const WITHOUT_MEANING: [(&str, &str); 6] = [
     (
         "val x = y",
         "error: unbound name
@@ -164,6 +153,16 @@ see docs/errors.md#notarrow-t
 1 | module M = struct val x = true end :> sig val x : Int end
   |                                       ^^^^^^^^^^^^^^^^^^^
 What the module has at `x` has the type `Bool`, and the signature asks for `Int`.
+note: this declaration asks for `x`
+ --> a.fing:1:43
+  |
+1 | module M = struct val x = true end :> sig val x : Int end
+  |                                           ^^^^^^^^^^^
+note: `x` is a value there
+ --> a.fing:1:19
+  |
+1 | module M = struct val x = true end :> sig val x : Int end
+  |                   ^^^^^^^^^^^^
 hint: A value must match its declaration exactly: there is no instantiation, and no subtyping of records.
 see docs/errors.md#clash-p-why
 ",
@@ -176,7 +175,12 @@ see docs/errors.md#clash-p-why
 1 | module M = struct end :> sig type t end
   |                          ^^^^^^^^^^^^^^
 The signature hides a type at `t`, and the module has no type of this kind there.
-hint: Bind a type of this name and kind. If the path has `(res)`, the functor must be applicative.
+note: this declaration asks for `t`
+ --> a.fing:1:30
+  |
+1 | module M = struct end :> sig type t end
+  |                              ^^^^^^
+hint: Bind a type of this name and kind.
 see docs/errors.md#noroot-i-p
 ",
     ),
@@ -193,18 +197,6 @@ see docs/errors.md#kinddiffer-k-k-notoperator
 ",
     ),
 ];
-
-#[test]
-fn programs_without_meaning(rt: HostRuntime) -> Result<(), Fail> {
-    all_show(&rt, rt.alloc(), false, &WITHOUT_MEANING)
-}
-
-// A refusal is the same in each notation.
-#[test]
-fn refusals_in_other_notations(rt: HostRuntime) -> Result<(), Fail> {
-    all_show_as(&rt, rt.alloc(), View::Paper, false, &WITHOUT_PROGRAM)?;
-    all_show_as(&rt, rt.alloc(), View::Latex, false, &WITHOUT_MEANING)
-}
 
 const SIGNATURES: [(&str, &str); 8] = [
     ("", "pure\n"),
@@ -303,7 +295,79 @@ hidden: ?0, to which no path leads
     ),
 ];
 
+// Sources with their pages.
+type Rows = &'static [(&'static str, &'static str)];
+
+// Views with sources that are refused. A refusal is the same in each view.
+const REFUSED: [(View, Rows); 10] = [
+    (View::Source, &WITHOUT_PROGRAM),
+    (View::Source, &WITHOUT_MEANING),
+    (View::Source, &DECLARED),
+    (View::Source, &name_tests::LED_TO),
+    (View::Source, &name_tests::WITHOUT_NAME),
+    (View::Paper, &WITHOUT_PROGRAM),
+    (View::Latex, &WITHOUT_MEANING),
+    (View::Phrase { line: 1, column: 9 }, &WITHOUT_MEANING),
+    (View::Derivation(Form::Text), &WITHOUT_MEANING),
+    (View::Derivation(Form::Html), &WITHOUT_MEANING),
+];
+
+// Views with sources that are accepted.
+const ACCEPTED: [(View, Rows); 17] = [
+    (View::Source, &SIGNATURES),
+    (View::Source, &order_tests::ORDERS),
+    (LEAF, &order_tests::LEAF),
+    (View::Paper, &paper_tests::HIDING),
+    (View::Paper, &paper_tests::TYPES),
+    (View::Latex, &paper_tests::IN_LATEX),
+    (View::Term, &term_tests::TERMS),
+    (View::Term, &term_tests::PACKAGE),
+    (View::TermLatex, &term_tests::IN_LATEX),
+    (View::TermOmega, &omega_text_tests::TEXTS),
+    (WHOLE, &step_tests::WHOLE_RUNS),
+    (THREE, &step_tests::CALLS),
+    (ONE, &step_tests::OVERFLOW),
+    (NO_STEPS, &step_tests::ENDS),
+    (View::Derivation(Form::Text), &derivation_tests::TREES),
+    (View::Derivation(Form::Latex), &derivation_tests::IN_LATEX),
+    (View::Derivation(Form::Html), &derivation_tests::IN_HTML),
+];
+
+// A path in an expression.
+const LEAF: View = View::Phrase {
+    line: 2,
+    column: 24,
+};
+
+// All steps of a run, its first three, its first one, and none.
+const WHOLE: View = View::Steps {
+    shown: 20,
+    budget: 100,
+};
+
+const THREE: View = View::Steps {
+    shown: 3,
+    budget: 6,
+};
+
+const ONE: View = View::Steps {
+    shown: 1,
+    budget: 100,
+};
+
+const NO_STEPS: View = View::Steps {
+    shown: 0,
+    budget: 1000,
+};
+
 #[test]
-fn signatures(rt: HostRuntime) -> Result<(), Fail> {
-    all_show(&rt, rt.alloc(), true, &SIGNATURES)
+fn pages(rt: HostRuntime) -> Result<(), Fail> {
+    let alloc = rt.alloc();
+    for (view, rows) in &REFUSED {
+        all_show_as(&rt, alloc, *view, false, rows)?;
+    }
+    for (view, rows) in &ACCEPTED {
+        all_show_as(&rt, alloc, *view, true, rows)?;
+    }
+    Ok(())
 }

@@ -3,16 +3,32 @@ ghost use Rattle.std.specs.Prelude.{◌≡◌, [], ◌∷◌, ◌++◌, OnOk};
 ghost use Rattle.show_order.specs.Inner.Places.{rank};
 
 use crate::order::Id;
+use fing_text::Span;
 use omega_kinds::{Mem, Name};
 use std::alloc::Global;
 use std::collections::HashMap;
 use std::marker::Model;
 
-/// The names that a structure or a signature declares, one after the other, with the order of the components inside of
-/// each. A name can be declared more than once: the last one hides those before. Contracts see it as the list of names.
+/// Where a component is declared, if the source shows it, and the order of the components inside of it.
+#[derive(Clone, Copy)]
+pub(crate) struct Component {
+    pub(crate) at: Option<Span>,
+    pub(crate) inside: Id,
+}
+
+impl Component {
+    /// The source does not show it.
+    pub(crate) const NONE: Component = Component {
+        at: None,
+        inside: Id::NONE,
+    };
+}
+
+/// The names that a structure or a signature declares, one after the other, with what each of them declares. A name can
+/// be declared more than once: the last one hides those before. Contracts see it as the list of names.
 #[derive(Drop)]
 pub(crate) struct Declared {
-    list: Vec<(Name, Id)>,
+    list: Vec<(Name, Component)>,
     places: HashMap<Name, usize>,
 }
 
@@ -39,7 +55,7 @@ impl Declared {
     }
 
     /// One more name. `Err` is out of memory.
-    pub(crate) fn push(&mut self, name: Name, inside: Id) -> Result<(), Mem>
+    pub(crate) fn push(&mut self, name: Name, component: Component) -> Result<(), Mem>
         ensures { OnOk result (self.new ≡ self.old ++ name ∷ []) }
     {
         self.list.reserve(1)?;
@@ -47,7 +63,7 @@ impl Declared {
         let at = list.len();
         self.places.insert(name.share()?, at)?;
         // There is room.
-        self.list.push((name, inside))?;
+        self.list.push((name, component))?;
         Ok(())
     }
 
@@ -61,8 +77,8 @@ impl Declared {
         Ok(())
     }
 
-    /// The names with the orders inside of them, one after the other.
-    pub(crate) fn items(&self) -> &[(Name, Id)] {
+    /// The names with what they declare, one after the other.
+    pub(crate) fn items(&self) -> &[(Name, Component)] {
         self.list.as_slice()
     }
 
@@ -76,11 +92,11 @@ impl Declared {
         }
     }
 
-    /// The order of the components inside of what a name names.
-    pub(crate) fn inside(&self, name: &Name) -> Id {
+    /// What a name declares: its last declaration.
+    pub(crate) fn component(&self, name: &Name) -> Component {
         match self.list.get(self.rank(name)) {
             Some(item) => item.1,
-            None => Id::NONE,
+            None => Component::NONE,
         }
     }
 }

@@ -4,7 +4,8 @@ ghost use Rattle.std.specs.Option.{option_copied};
 ghost use Rattle.show_order.specs.Inner.Arranged.{IsArranged};
 ghost use Rattle.show_order.specs.Inner.Orders.{declared_by, form_at, names_at};
 
-use crate::declared::Declared;
+use crate::declared::{Component, Declared};
+use fing_text::Span;
 use omega_kinds::{Mem, Name};
 use std::alloc::Global;
 
@@ -94,11 +95,11 @@ impl Orders {
         }
     }
 
-    // The order inside of a component.
-    pub(crate) fn component(&self, id: Id, name: &Name) -> Id {
+    // A component.
+    pub(crate) fn component(&self, id: Id, name: &Name) -> Component {
         match self.declared(id) {
-            Some(declared) => declared.inside(name),
-            None => Id::NONE,
+            Some(declared) => declared.component(name),
+            None => Component::NONE,
         }
     }
 
@@ -110,23 +111,31 @@ impl Orders {
         }
     }
 
+    // One of these orders.
+    pub(crate) fn order(&self, id: Id) -> Order<'_> {
+        Order { orders: self, id }
+    }
+
     /// The order of the whole that was read.
     pub fn whole(&self) -> Order<'_> {
-        Order {
-            orders: self,
-            id: self.whole,
-        }
+        self.order(self.whole)
     }
 }
 
 impl<'a> Order<'a> {
     /// The order in a component: none where the source does not show it.
     pub fn component(self, name: &Name) -> Order<'a> {
-        let id = self.orders.component(self.id, name);
+        let id = self.orders.component(self.id, name).inside;
         Order {
             orders: self.orders,
             id,
         }
+    }
+
+    /// Where a component is declared last: the place of its binding or its declaration. `None` where the source does not
+    /// show it.
+    pub fn place(self, name: &Name) -> Option<Span> {
+        self.orders.component(self.id, name).at
     }
 
     /// The order in the parameter of a functor.

@@ -1,11 +1,13 @@
 // Reading the orders of a program off its phrases.
-use crate::declared::Declared;
+use crate::declared::{Component, Declared};
 use crate::order::{Id, Orders};
 use crate::scope::Scope;
+use crate::sides::Sides;
 use fing_syntax::{
     Arg, Bind, BindWhat, Branch, Decl, DeclWhat, Exp, ExpWhat, Mod, ModWhat, Op, Program, SigEx,
     SigWhat, SpanName, TyEx, TyWhat,
 };
+use fing_text::Span;
 use omega_kinds::{Mem, Name, name_of, same_name};
 use std::alloc::Global;
 
@@ -15,7 +17,7 @@ use std::alloc::Global;
 /// it stands. Of a name that is bound more than once, only the last binding can be seen from outside, so the place of
 /// the component is the place of that one. `Err` is out of memory.
 pub fn orders_of(alloc: Global, program: &Program) -> Result<Orders, Mem> {
-    let mut reader = Reader::new(alloc, None);
+    let mut reader = Reader::new(alloc, Wanted::Nothing);
     let whole = reader.read_binds(&program.binds)?;
     Ok(reader.orders.with_whole(whole))
 }
@@ -23,31 +25,60 @@ pub fn orders_of(alloc: Global, program: &Program) -> Result<Orders, Mem> {
 /// The same orders, where the whole is the module or the signature that is bound to this name last, wherever it stands in
 /// the program. `Err` is out of memory.
 pub fn orders_of_bound(alloc: Global, program: &Program, name: &[u8]) -> Result<Orders, Mem> {
-    let mut reader = Reader::new(alloc, Some(name_of(alloc, name)?));
+    let mut reader = Reader::new(alloc, Wanted::Bound(name_of(alloc, name)?));
     reader.read_binds(&program.binds)?;
     let found = reader.found;
     Ok(reader.orders.with_whole(found))
 }
 
-// What is read so far, and what is in scope; the name whose binding is looked for, and the order of what is bound to it.
+/// What the phrases at the place of a refusal name: the signature and the module of a match, where it is the place of the
+/// signature in a seal or a package, or of the argument of an application; and for a path where what it names is declared.
+/// `Err` is out of memory.
+pub fn sides_of(alloc: Global, program: &Program, at: Span) -> Result<Sides, Mem> {
+    let mut reader = Reader::new(alloc, Wanted::Refused(at));
+    reader.read_binds(&program.binds)?;
+    let Reader {
+        orders,
+        found,
+        given,
+        named,
+        ..
+    } = reader;
+    Ok(Sides::new(orders, found, given, named))
+}
+
+// What is looked for: nothing, what is bound to a name, or what the phrases at the place of a refusal name.
+#[derive(Drop)]
+enum Wanted {
+    Nothing,
+    Bound(Name),
+    Refused(Span),
+}
+
+// What is read so far, and what is in scope; what is looked for, the order of what is bound or of the signature that is
+// matched, the order of the module that is matched against it, and where what a path names is declared.
 #[derive(Drop)]
 struct Reader {
     alloc: Global,
     orders: Orders,
     scope: Scope,
-    wanted: Option<Name>,
+    wanted: Wanted,
     found: Id,
+    given: Id,
+    named: Option<Span>,
 }
 
 impl Reader {
     // Nothing is read.
-    fn new(alloc: Global, wanted: Option<Name>) -> Reader {
+    fn new(alloc: Global, wanted: Wanted) -> Reader {
         Reader {
             alloc,
             orders: Orders::new(alloc),
             scope: Scope::new(alloc),
             wanted,
             found: Id::NONE,
+            given: Id::NONE,
+            named: None,
         }
     }
 
@@ -55,11 +86,11 @@ impl Reader {
     #[cycle(read)]
     fn read_mod(&mut self, module: &Mod) -> Result<Id, Mem> {
         match &module.what {
-            ModWhat::Name(name) => Ok(self.scope.find(&name.name)),
+            ModWhat::Name(name) => Ok(self.see_name(module.span, name)),
             ModWhat::Struct(binds) => self.read_binds(binds),
             ModWhat::Project(whole, name) => {
                 let whole = self.read_mod(whole)?;
-                Ok(self.orders.component(whole, &name.name))
+                Ok(self.see_part(module.span, whole, name))
             }
             ModWhat::Functor {
                 name,
@@ -71,8 +102,8 @@ impl Reader {
                 let body = self.read_mod(body)?;
                 self.end_functor(param, body)
             }
-            ModWhat::Apply(functor, _) => Ok(self.result_of(functor)),
-            ModWhat::Seal(_, sig) => self.read_sig(sig),
+            ModWhat::Apply(functor, argument) => Ok(self.result_of(functor, argument)),
+            ModWhat::Seal(name, sig) => self.read_sealing(name, sig),
             ModWhat::Unpack(value, sig) => {
                 self.read_exp(value)?;
                 self.read_sig(sig)
@@ -80,16 +111,62 @@ impl Reader {
         }
     }
 
-    // The order of the result of a functor that has a name.
-    fn result_of(&self, functor: &SpanName) -> Id {
-        self.orders.functor(self.scope.find(&functor.name)).1
+    // The order of the result of a functor that has a name, which is applied to an argument.
+    fn result_of(&mut self, functor: &SpanName, argument: &SpanName) -> Id {
+        let (param, body) = self.orders.functor(self.scope.find(&functor.name).inside);
+        self.see_match(argument.span, argument, param);
+        body
+    }
+
+    // The order of a signature that a module with a name is matched against.
+    #[cycle(read)]
+    fn read_sealing(&mut self, name: &SpanName, sig: &SigEx) -> Result<Id, Mem> {
+        let id = self.read_sig(sig)?;
+        self.see_match(sig.span, name, id);
+        Ok(id)
+    }
+
+    // A module with a name is matched against a signature, and a refusal of the match has this place.
+    fn see_match(&mut self, at: Span, name: &SpanName, sig: Id) {
+        if self.is_refused(at) {
+            self.found = sig;
+            self.given = self.scope.find(&name.name).inside;
+        }
+    }
+
+    // A path at a place is a name in scope. The order inside of what it names.
+    fn see_name(&mut self, at: Span, name: &SpanName) -> Id {
+        let component = self.scope.find(&name.name);
+        self.see_path(at, component)
+    }
+
+    // A path at a place leads to a part of a module. The order inside of it.
+    fn see_part(&mut self, at: Span, whole: Id, name: &SpanName) -> Id {
+        let component = self.orders.component(whole, &name.name);
+        self.see_path(at, component)
+    }
+
+    // A path at a place leads to a component. The order inside of it.
+    fn see_path(&mut self, at: Span, component: Component) -> Id {
+        if self.is_refused(at) {
+            self.named = component.at;
+        }
+        component.inside
+    }
+
+    // Whether this is the place of the refusal that is looked for.
+    fn is_refused(&self, at: Span) -> bool {
+        match &self.wanted {
+            Wanted::Refused(wanted) => *wanted == at,
+            _ => false,
+        }
     }
 
     // The order of the parameter of a functor, whose name comes into scope.
     #[cycle(read)]
     fn read_parameter(&mut self, name: &SpanName, param: &SigEx) -> Result<Id, Mem> {
         let param = self.read_sig(param)?;
-        self.scope.enter(&name.name, param)?;
+        self.enter(name, None, param)?;
         Ok(param)
     }
 
@@ -118,19 +195,19 @@ impl Reader {
         match &bind.what {
             BindWhat::Val(name, value) => {
                 self.read_exp(value)?;
-                self.declare(declared, name, Id::NONE)
+                self.declare(declared, name, bind.span, Id::NONE)
             }
             BindWhat::Ty(name, ty) => {
                 self.read_ty(ty)?;
-                self.declare(declared, name, Id::NONE)
+                self.declare(declared, name, bind.span, Id::NONE)
             }
             BindWhat::Module(name, module) => {
                 let id = self.read_mod(module)?;
-                self.declare(declared, name, id)
+                self.declare(declared, name, bind.span, id)
             }
             BindWhat::Signature(name, sig) => {
                 let id = self.read_sig(sig)?;
-                self.declare(declared, name, id)
+                self.declare(declared, name, bind.span, id)
             }
             BindWhat::Include(module) => {
                 let id = self.read_mod(module)?;
@@ -180,12 +257,12 @@ impl Reader {
         match &decl.what {
             DeclWhat::Val(name, ty) | DeclWhat::TyIs(name, ty) => {
                 self.read_ty(ty)?;
-                self.declare(declared, name, Id::NONE)
+                self.declare(declared, name, decl.span, Id::NONE)
             }
-            DeclWhat::TyOf(name, _) => self.declare(declared, name, Id::NONE),
+            DeclWhat::TyOf(name, _) => self.declare(declared, name, decl.span, Id::NONE),
             DeclWhat::Module(name, sig) | DeclWhat::Signature(name, sig) => {
                 let id = self.read_sig(sig)?;
-                self.declare(declared, name, id)
+                self.declare(declared, name, decl.span, id)
             }
             DeclWhat::Include(sig) => {
                 let id = self.read_sig(sig)?;
@@ -194,9 +271,9 @@ impl Reader {
         }
     }
 
-    // Whether no binding is looked for. Then types and expressions, which have no components, need not be read.
+    // Whether nothing is looked for. Then types and expressions, which have no components, need not be read.
     fn is_done(&self) -> bool {
-        self.wanted.is_none()
+        matches!(&self.wanted, Wanted::Nothing)
     }
 
     // Reads the modules and signatures in a type.
@@ -298,8 +375,8 @@ impl Reader {
             }
             ExpWhat::Fields(fields) => self.read_fields(fields),
             ExpWhat::Get(whole, _) | ExpWhat::Unroll(whole) => self.read_exp(whole),
-            ExpWhat::Pack(_, sig) => {
-                self.read_sig(sig)?;
+            ExpWhat::Pack(name, sig) => {
+                self.read_sealing(name, sig)?;
                 Ok(())
             }
             ExpWhat::Inj(_, value, ty) | ExpWhat::Roll(value, ty) => {
@@ -358,15 +435,28 @@ impl Reader {
         Ok(())
     }
 
-    // A name is declared, and comes into scope.
-    fn declare(&mut self, declared: &mut Declared, name: &SpanName, id: Id) -> Result<(), Mem> {
-        if let Some(wanted) = &self.wanted
+    // A name comes into scope, which is declared at a place, if the source shows it. Gives what it declares.
+    fn enter(&mut self, name: &SpanName, at: Option<Span>, inside: Id) -> Result<Component, Mem> {
+        let component = Component { at, inside };
+        self.scope.enter(&name.name, component)?;
+        Ok(component)
+    }
+
+    // A name is declared at a place, and comes into scope.
+    fn declare(
+        &mut self,
+        declared: &mut Declared,
+        name: &SpanName,
+        at: Span,
+        inside: Id,
+    ) -> Result<(), Mem> {
+        if let Wanted::Bound(wanted) = &self.wanted
             && same_name(wanted, &name.name)
         {
-            self.found = id;
+            self.found = inside;
         }
-        self.scope.enter(&name.name, id)?;
-        declared.push(name.name.share()?, id)
+        let component = self.enter(name, Some(at), inside)?;
+        declared.push(name.name.share()?, component)
     }
 
     // All names of a structure are declared, and come into scope.

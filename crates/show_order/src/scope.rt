@@ -1,21 +1,21 @@
 // The modules and signatures that are in scope.
-use crate::order::Id;
+use crate::declared::Component;
 use omega_kinds::{Mem, Name};
 use std::alloc::Global;
 use std::collections::HashMap;
 
-// The orders of the modules and signatures in scope by their names, and what each of them hid when it came into scope.
+// What is in scope by its name, and what each name hid when it came into scope.
 #[derive(Drop)]
 pub(crate) struct Scope {
-    orders: HashMap<Name, Id>,
-    hidden: Vec<(Name, Id)>,
+    named: HashMap<Name, Component>,
+    hidden: Vec<(Name, Component)>,
 }
 
 impl Scope {
     // Nothing is in scope.
     pub(crate) fn new(alloc: Global) -> Scope {
         Scope {
-            orders: HashMap::new(alloc),
+            named: HashMap::new(alloc),
             hidden: Vec::new(alloc),
         }
     }
@@ -26,10 +26,10 @@ impl Scope {
     }
 
     // A name comes into scope. `Err` is out of memory.
-    pub(crate) fn enter(&mut self, name: &Name, id: Id) -> Result<(), Mem> {
-        let before = self.orders.insert(name.share()?, id)?;
+    pub(crate) fn enter(&mut self, name: &Name, component: Component) -> Result<(), Mem> {
+        let before = self.named.insert(name.share()?, component)?;
         self.hidden
-            .push((name.share()?, before.unwrap_or(Id::NONE)))?;
+            .push((name.share()?, before.unwrap_or(Component::NONE)))?;
         Ok(())
     }
 
@@ -37,15 +37,15 @@ impl Scope {
     pub(crate) fn leave(&mut self, count: usize) -> Result<(), Mem> {
         let entered = self.hidden.len();
         for _ in count..entered {
-            if let Some((name, id)) = self.hidden.pop() {
-                self.orders.insert(name, id)?;
+            if let Some((name, component)) = self.hidden.pop() {
+                self.named.insert(name, component)?;
             }
         }
         Ok(())
     }
 
-    // The order of the module or the signature that has a name.
-    pub(crate) fn find(&self, name: &Name) -> Id {
-        self.orders.get(name).copied().unwrap_or(Id::NONE)
+    // What has a name.
+    pub(crate) fn find(&self, name: &Name) -> Component {
+        self.named.get(name).copied().unwrap_or(Component::NONE)
     }
 }

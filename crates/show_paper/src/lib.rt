@@ -17,7 +17,7 @@ mod writer;
 pub use conclusions::{Conclusion, conclusion_page};
 pub use kinds::{put_inner, put_kind};
 pub use names::{VariableName, level_names_differ, variable_name};
-pub use program::put_program;
+pub use program::put_behind_effect;
 pub use symbols::{LATEX, Pair, Special, Symbols, UNICODE};
 pub use types::put_type;
 pub use writer::Writer;

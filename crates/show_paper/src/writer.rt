@@ -40,9 +40,22 @@ impl Writer {
         let symbols = self.symbols;
         let mut page = Page::new(self.layout.alloc());
         page.put(symbols.whole.open.as_bytes())?;
-        put_layout(&mut page, &self.layout, symbols.lines)?;
-        page.put(symbols.whole.close.as_bytes())?;
+        self.finish(&mut page)?;
         Ok(page)
+    }
+
+    // The page of what is written, without what opens it. `Err` is out of memory.
+    pub(crate) fn rest(&self) -> Result<Page, Mem> {
+        let mut page = Page::new(self.layout.alloc());
+        self.finish(&mut page)?;
+        Ok(page)
+    }
+
+    // Writes what is written, and what closes it.
+    fn finish(&self, page: &mut Page) -> Result<(), Mem> {
+        let symbols = self.symbols;
+        put_layout(page, &self.layout, symbols.lines)?;
+        page.put(symbols.whole.close.as_bytes())
     }
 
     /// Writes a text, in which no line ends. `Err` is out of memory, as for all that follows.

@@ -2,11 +2,10 @@
 use omega_kinds::Mem;
 use show_text::Page;
 
-/// The title of a sort of refusal, its sentence, in which each `#` stands for something that the refusal tells, a
-/// hint that often helps, and the anchor of its section in docs/errors.md.
+/// The sentence of a sort of refusal, in which each `#` stands for something that the refusal tells, a hint that often
+/// helps, and the anchor of its section in docs/errors.md.
 #[derive(Clone, Copy, Debug, PartialEq, Eq)]
 pub struct Explanation {
-    pub title: &'static str,
     pub sentence: &'static str,
     pub hint: &'static str,
     pub anchor: &'static str,
@@ -22,21 +21,18 @@ pub(crate) const ROLLED: &str =
 
 // What is said where memory ran out.
 pub(crate) const NO_MEMORY: Explanation = Explanation {
-    title: "out of memory",
     sentence: "Nothing is known of the source.",
     hint: "Types can be much larger than the source that makes them.",
     anchor: "input-output-and-memory",
 };
 
-// An explanation of these four.
+// An explanation of these three.
 pub(crate) fn explained(
-    title: &'static str,
     sentence: &'static str,
     hint: &'static str,
     anchor: &'static str,
 ) -> Explanation {
     Explanation {
-        title,
         sentence,
         hint,
         anchor,

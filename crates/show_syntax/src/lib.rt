@@ -5,6 +5,7 @@
 
 mod expected;
 mod following;
+mod foreign;
 mod slips;
 mod sorts;
 mod terminals;

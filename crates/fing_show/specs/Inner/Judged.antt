@@ -3,12 +3,11 @@ use Rattle.std.specs.Prelude.{◌≡◌, ℕ, List, Some}
 use Rattle.fing_lexer.specs.declared.lexer.LexRefusal.{LexRefusal}
 use Rattle.fing_lexer.specs.declared.token.Token.{Token}
 use Rattle.fing_lexer.specs.Tokens.{TokensOf, RefusalOf}
-use Rattle.fing_syntax.specs.Inner.Leaves.{place}
 use Rattle.fing_syntax.specs.Phrase.{Binds as Program}
 use Rattle.parse_grammar.specs.Grammar as the
 use Rattle.parse_grammar.specs.Program.{Farthest}
 use Rattle.parse_grammar.specs.Tree.{Phrase}
-use Rattle.refusal_reasons.specs.Refusal.{Refusal, ElabWhy, Refuse}
+use Rattle.refusal_reasons.specs.Refusal.{Refusal}
 use Rattle.fing_refusals.specs.Inner.Plain.{plain_refusal}
 use Rattle.fing_refusals.specs.declared.refusal.Refusal.{Refusal as CodeRefusal}
 use Rattle.fing_elab.specs.Inner.Exactly.{Means, IsRefused}

@@ -1,9 +1,8 @@
 -- What the run of a source comes to, where a view asks for its steps.
-use Rattle.std.specs.Prelude.{◌≡◌, ℕ, List, Option, Some, None}
+use Rattle.std.specs.Prelude.{ℕ, List, Option, Some, None}
 use Rattle.fing_lexer.specs.declared.lexer.LexRefusal.{LexRefusal}
 use Rattle.fing_lexer.specs.declared.token.Token.{Token}
 use Rattle.fing_lexer.specs.Tokens.{TokensOf}
-use Rattle.fing_syntax.specs.Inner.Leaves.{place}
 use Rattle.fing_syntax.specs.Phrase.{Binds as Program}
 use Rattle.fing_text.specs.declared.span.Span.{Span}
 use Rattle.parse_grammar.specs.Grammar as the
@@ -36,7 +35,8 @@ pub data RunsProgram (program : Program) (budget : Option ℕ) : Verdict → Opt
   refused : {at : Span} → RunsProgram program budget (verdict.NoMeaning at) None
 
 pub data RunsTokens (tokens : List Token) (budget : Option ℕ) : Verdict → Option End → Type 0 where
-  parsed : {program : Program} {v : Verdict} {end : Option End} → Phrase the.Binds tokens program → RunsProgram program budget v end → RunsTokens tokens budget v end
+  parsed : {program : Program} {v : Verdict} {end : Option End} → Phrase the.Binds tokens program → RunsProgram program budget v end
+      → RunsTokens tokens budget v end
   unparsed : {at : ℕ} → RunsTokens tokens budget (verdict.NoProgram at) None
 
 pub data Runs (bytes : List ℕ) (budget : Option ℕ) : Verdict → Option End → Type 0 where

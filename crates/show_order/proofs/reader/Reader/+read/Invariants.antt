@@ -9,6 +9,9 @@ decreases-read_mod l = 4 * mod_size l.module.now
 abbrev pub decreases-read_parameter : goal.decreases-read_parameter
 decreases-read_parameter l = 4 * sig_size l.param.now + 1
 
+abbrev pub decreases-read_sealing : goal.decreases-read_sealing
+decreases-read_sealing l = 4 * sig_size l.sig.now + 1
+
 abbrev pub decreases-read_bind : goal.decreases-read_bind
 decreases-read_bind l = 4 * bind_size l.bind.now
 

@@ -1,9 +1,6 @@
 // Terms as Omega text over several lines, written out by hand from the texts of `emit` and the rule for lines.
-use crate::View;
-use crate::tests::all_show_as;
-use std::test::Fail;
 
-const TEXTS: [(&str, &str); 3] = [
+pub(crate) const TEXTS: [(&str, &str); 3] = [
     ("", "omega 2\n; the type\n(rec)\n; the term\n(rec)\n"),
     (
         "val x = 1 + 2",
@@ -34,8 +31,3 @@ const TEXTS: [(&str, &str); 3] = [
 ",
     ),
 ];
-
-#[test]
-fn texts(rt: HostRuntime) -> Result<(), Fail> {
-    all_show_as(&rt, rt.alloc(), View::TermOmega, true, &TEXTS)
-}
