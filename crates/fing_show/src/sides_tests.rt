@@ -95,9 +95,10 @@ const ROWS: [Row; 8] = [
 
 // The place of the phrase with which a source ends.
 fn place_of(row: &Row) -> Span {
-    let to = row.source.len() as u32;
+    let to = u32::try_from(row.source.len()).unwrap_or(u32::MAX);
+    let length = u32::try_from(row.phrase.len()).unwrap_or(u32::MAX);
     Span {
-        from: to.saturating_sub(row.phrase.len() as u32),
+        from: to.saturating_sub(length),
         to,
     }
 }
