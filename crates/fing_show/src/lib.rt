@@ -3,8 +3,8 @@
 // Stands on fing_lexer, fing_parser, fing_elab and elab_phrases (from bytes to a meaning or a refusal), and on the crates
 // show_text to show_syntax (pages).
 // Proved: the verdict is the one of the rules, with the place of a refusal; the end of a run is what the whole term comes to
-// within the budget. The page begins with the title of the one refusal, or in the views of signatures with the effect of
-// the program. Making it ends; all else that it says is only tested.
+// within the budget. The page begins with `error: ` and the title of the one refusal, or in the views of signatures with the
+// effect of the program; as Omega text it is made compact to what `emit` writes. Making it ends; all else is only tested.
 #![tactic(auto)]
 
 #[cfg(test)]

@@ -1,7 +1,7 @@
 // The pages of refusals and of programs.
 ghost use Rattle.std.specs.Prelude.{[], IfOk, codes};
 ghost use Rattle.fing_refusals.specs.Inner.Plain.{plain_reason};
-ghost use Rattle.fing_show.specs.Inner.Heads.{Begins, accepted_head, latex_head, lexical_title, paper_head, refused_head, source_head, title_of_reason};
+ghost use Rattle.fing_show.specs.Inner.Heads.{Begins, ShowsMeaning, latex_head, lexical_title, paper_head, refused_head, source_head, title_of_reason};
 ghost use Rattle.omega_terms.specs.Typing.{HasType};
 ghost use Rattle.sig_definitions.specs.Signatures.Encoding.{enc_abs};
 
@@ -141,7 +141,7 @@ pub(crate) fn accepted_page(
     found: &Elaborated,
 ) -> Result<Vec<u8>, Mem>
     requires { HasType [] [] found.now.whole (enc_abs found.now.sig) }
-    ensures { IfOk result (λ page. Begins (accepted_head given.entry.view found.now.effect) page.items) }
+    ensures { IfOk result (λ page. ShowsMeaning given.entry.view found.now page.items) }
 {
     match given.view {
         View::Source | View::Steps { .. } => source_page(alloc, program, found),

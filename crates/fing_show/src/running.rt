@@ -1,6 +1,6 @@
 // What is shown of a program that means something, with what its run comes to.
 ghost use Rattle.std.specs.Prelude.{◌≡◌, [], IfOk, MatchOption, Some, None};
-ghost use Rattle.fing_show.specs.Inner.Heads.{Begins, accepted_head};
+ghost use Rattle.fing_show.specs.Inner.Heads.{ShowsMeaning};
 ghost use Rattle.fing_show.specs.Inner.Ran.{EndsAs, budget_of};
 ghost use Rattle.omega_terms.specs.Typing.{HasType};
 ghost use Rattle.sig_definitions.specs.Signatures.Encoding.{enc_abs};
@@ -30,7 +30,7 @@ pub(crate) fn accepted(
 ) -> Result<PageAndEnd, Mem>
     requires { HasType [] [] found.now.whole (enc_abs found.now.sig) }
     ensures end { IfOk result (λ a. EndsAs found.now.whole (budget_of given.entry.view) a.end) }
-    ensures page { IfOk result (λ a. Begins (accepted_head given.entry.view found.now.effect) a.text.items) }
+    ensures page { IfOk result (λ a. ShowsMeaning given.entry.view found.now a.text.items) }
 {
     match steps_of(given.view) {
         Some((shown, budget)) => accepted_run(alloc, found, shown, budget),

@@ -45,7 +45,7 @@ pub struct Shown {
 }
 
 /// What is shown of a source of at most 1,048,576 bytes, which a page calls by the name. The verdict is the one that
-/// the rules give. For a refusal the page begins with its title, and then has the place, an excerpt, a sentence, a hint and
+/// the rules give. For a refusal the page begins with `error: ` and its title, and then has the place, an excerpt, a sentence, a hint and
 /// where docs/errors.md explains it. For a program it has what the view shows of it; a signature stands behind the effect.
 /// Where the view shows steps, `end` is what the whole term comes to within the budget. `Err` is out of memory.
 ///

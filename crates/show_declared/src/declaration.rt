@@ -7,7 +7,8 @@ use fing_lexer::{Token, What, Word};
 use fing_text::Span;
 use omega_kinds::{Name, same_name};
 
-/// The binding or the declaration of a name: its name, its place, and the word with which it begins.
+/// The binding or the declaration of a name: its name, its place, and the word with which it begins. That the place ends with
+/// it is only tested.
 #[derive(Clone, Copy, Debug)]
 pub struct Declaration<'a> {
     pub name: &'a Name,
@@ -17,7 +18,8 @@ pub struct Declaration<'a> {
 
 // The word of a token, if the binding or the declaration of a name begins with it.
 fn declaring(what: &What) -> Option<Word>
-    ensures { IfSome result (λ _. IsDeclaring what.now) }
+    ensures word { IfSome result (λ w. what.now ≡ form.Word w) }
+    ensures declares { IfSome result (λ w. IsDeclaring w) }
 {
     match what {
         What::Word(word) => match word {
@@ -48,7 +50,7 @@ pub(crate) fn declaration_at<'a>(
     at: Span,
     name: &'a Name,
 ) -> Option<Declaration<'a>>
-    ensures { IfSome result (λ d. IsDeclared tokens.now d.at d.name.now) }
+    ensures { IfSome result (λ d. IsDeclared tokens.now d.at d.name.now d.word) }
 {
     let place = tokens.iter().position(|token| token.span.from == at.from)?;
     match tokens.get(place..)? {

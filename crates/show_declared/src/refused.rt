@@ -64,7 +64,7 @@ fn matched<'a>(tokens: &[Token], sides: &Sides, path: &'a Path) -> Declarations<
 
 // The declaration at a path in a side.
 fn declared_on<'a>(tokens: &[Token], side: Order<'_>, path: &'a Path) -> Option<Declaration<'a>>
-    ensures { IfSome result (λ d. IsDeclared tokens.now d.at d.name.now) }
+    ensures { IfSome result (λ d. IsDeclared tokens.now d.at d.name.now d.word) }
 {
     let (name, at) = place_on(side, path)?;
     declaration_at(tokens, at, name)
@@ -82,7 +82,7 @@ fn led_to<'a>(tokens: &'a [Token], sides: &Sides, refusal: &Refusal) -> Declarat
 
 // The same where the path ends at a place.
 fn declared_before<'a>(tokens: &'a [Token], sides: &Sides, end: u32) -> Option<Declaration<'a>>
-    ensures { IfSome result (λ d. IsDeclared tokens.now d.at d.name.now) }
+    ensures { IfSome result (λ d. IsDeclared tokens.now d.at d.name.now d.word) }
 {
     let name = name_before(tokens, end)?;
     let at = sides.named()?;

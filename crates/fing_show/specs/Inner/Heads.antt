@@ -1,4 +1,4 @@
--- What a page begins with: the title of the one refusal, or the effect of a program.
+-- What is known of a page: it begins with the title of the one refusal or the effect of a program, or is an Omega text.
 use Rattle.std.specs.Prelude.{◌≡◌, ◌++◌, ℕ, List, [], Option, Some, None, codes}
 use Rattle.fing_lexer.specs.declared.lexer.LexRefusal.{LexRefusal}
 use Rattle.fing_lexer.specs.declared.lexer.LexRefusal.TheVariants as lex
@@ -10,6 +10,9 @@ use Rattle.parse_grammar.specs.Tree.{Phrase}
 use Rattle.omega_kinds.specs.declared.effect.Effect.{Effect}
 use Rattle.omega_kinds.specs.declared.effect.Effect.TheVariants.{Pure, Impure}
 use Rattle.sig_definitions.specs.Matching.MatchRefusal.{Why}
+use Rattle.omega_compact.specs.Spelling.{compacted}
+use Rattle.omega_terms.specs.OmegaText.{omega_text}
+use Rattle.sig_definitions.specs.Signatures.Encoding.{enc_abs}
 use Rattle.refusal_reasons.specs.Refusal.{ElabWhy, Refusal, Refuse}
 use Rattle.fing_refusals.specs.Inner.Plain.{plain_refusal}
 use Rattle.fing_refusals.specs.declared.refusal.Refusal.{Refusal as CodeRefusal}
@@ -96,11 +99,16 @@ accepted_head view.Paper effect = paper_head effect
 accepted_head view.Latex effect = latex_head effect
 accepted_head _ effect = []
 
+-- the page is of this meaning: it begins with the effect, or is made compact to the Omega text of its type and its term
+abbrev pub ShowsMeaning : View → Elaborated → (page : List ℕ) → Type 0
+ShowsMeaning view.TermOmega o page = compacted page ≡ compacted (omega_text (enc_abs o.sig) o.whole)
+ShowsMeaning v o page = Begins (accepted_head v o.effect) page
+
 -- ---- pages of sources
 
 -- the page is that of the program's own meaning, or of its one refusal
 pub data ShowsProgram (program : Program) (v : View) : Verdict → (page : List ℕ) → Type 0 where
-  meant : {o : Elaborated} {page : List ℕ} → Means program o → Begins (accepted_head v o.effect) page → ShowsProgram program v verdict.Accepted page
+  meant : {o : Elaborated} {page : List ℕ} → Means program o → ShowsMeaning v o page → ShowsProgram program v verdict.Accepted page
   refused : (e : CodeRefusal) → {r : Refusal} {page : List ℕ} → plain_refusal e ≡ Some r → IsRefused program r → Begins (refused_head (title_of_refusal r)) page
       → ShowsProgram program v (verdict.NoMeaning e.at) page
 
