@@ -4,7 +4,7 @@ use crate::{Verdict, View};
 use std::test::Fail;
 
 // Slips, each with a line of its page.
-const SLIPS: [(&str, &str); 62] = [
+const SLIPS: [(&str, &str); 63] = [
     // sources without tokens
     (
         "val f = fun (x : Int) => x > 1",
@@ -68,6 +68,10 @@ const SLIPS: [(&str, &str); 62] = [
         "hint: There is no unit value",
     ),
     ("val x = (1, 2)", "hint: There are no tuples"),
+    (
+        "val f = fun (x : Int, y : Int) => x",
+        "and one argument after the other, `fun (x : Int) => fun (y : Int) => x`",
+    ),
     ("val x = -1", "hint: A negative number is written `~1`.\n"),
     ("val x = 1.5", "hint: There are no fractions.\n"),
     ("val l = [1, 2]", "hint: No lists are built in"),

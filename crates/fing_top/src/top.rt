@@ -109,8 +109,8 @@ fn answered<S: Source, K: Sink>(
 /// It reads the source to its end, but for `gen`, which leaves it as it was. For `check` it writes the effect and the
 /// signature of the program, for `emit` the Omega text of its encoded signature and its whole term, or of the simplified
 /// term where `--simplify` is given, and for `link`, whose source is separate units, the Omega text of the signature and
-/// the whole term to which they link, each with status `Ok`; for `run` the value that the term comes to within the budget with status `Ok`, its fault with `Faulted`, or
-/// the budget with `Spent`. `gen` compiles and runs the generated program of its size, within 10,000,000 steps, and
+/// the whole term to which they link, each with status `Ok`; for `run` the value that the term comes to within the budget
+/// with status `Ok`, its fault with `Faulted`, or the budget with `Spent`. `gen` compiles and runs the generated program of its size, within 10,000,000 steps, and
 /// writes how many bindings the program has, how many nodes its whole term, and in how many steps the term comes to a
 /// value, with status `Ok`; where it comes to none, it writes what `run` does. `check`, `emit`, `link` and `run` write the
 /// line of the refusal with status `Refused` where the source has none of these. For `verify`, whose source is Omega text,
