@@ -1,4 +1,5 @@
 -- Terms that are called and terms in a row: what they are, and how large.
+-- Main results: no-function, term-in.
 use Rattle.std.proofs.Common.{◌≡◌, ℕ, zero, suc, ◌<◌, [], ◌∷◌, length, get_or, refl, ap, arith}
 use Rattle.omega_kinds.specs.declared.label.Label.{Label}
 use Rattle.omega_types.specs.Ty.{Ty}

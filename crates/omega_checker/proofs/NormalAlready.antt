@@ -1,4 +1,5 @@
 -- The test of a type says yes exactly where the type is normal, and then normalising gives it back.
+-- Main results: test-decides, stands.
 use Rattle.std.proofs.Common.{◌≡◌, ◌↔◌, List, ◌∷◌, Option, Some, None, Bool as Truth, true, false, ◌&&◌, if◌then◌else◌, IsTrue, slice_get, refl, sym, ap, ◌∙◌, subst}
 use Rattle.omega_kinds.specs.Kind.{Kind, kind_eq}
 use Rattle.omega_types.specs.Ty.{Ty, Row}
@@ -130,6 +131,7 @@ mutual
 
 -- ---- for the code
 
+-- the result of the test says whether the type is normal
 pub test-decides : (ctx : List Kind) (t : Ty) (k : Kind) (b : Truth) → b ≡ is_normal ctx t k → (IsTrue b ↔ Normal ctx t k)
 test-decides ctx t k b e = (λ h. normal-yes ctx t k (sym e ∙ h), λ n. e ∙ yes-normal n)
 

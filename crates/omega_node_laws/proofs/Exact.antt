@@ -1,4 +1,5 @@
 -- The type that is found is the normal form of each type that the rules give, and there is none where they give none.
+-- Main results: complete, typed, untyped, unkinded, differs.
 use Rattle.std.proofs.Common.{◌≡◌, ℕ, zero, suc, List, [], ◌∷◌, Option, Some, None, Bool as Truth, true, false, if◌then◌else◌, not, ◌&&◌, ◌||◌, ◌==◌, ◌-◌, eqb-true, map, slice_get, arith, refl, sym, ap, ap₂, ◌∙◌, subst}
 use Rattle.std.specs.Option.{option_map}
 use Rattle.std.specs.Ordering.{is_eq}
@@ -297,6 +298,7 @@ lowered-shift t =
     ap Some (rename-rename (λ i. i - 1) suc t ∙ (ap (λ r. rename r t) (fun_ext less-one) ∙ rename-id t))
 
 mutual
+  -- each type that is synthesised is found, with the types of the variables in normal form
   pub complete : {ctx : List Kind} {vars : List Ty} {e : Term} {t : Ty} → GoodVars ctx vars → Synth ctx vars e t → synth_in ctx (map (normal ctx) vars) e ≡ Some t
   complete {ctx} g (Synth.var h) = at-normal ctx h
   complete g Synth.int = refl
@@ -364,18 +366,22 @@ nothing h = elim h [ ]
 pub found-of : {e : Term} {t : Ty} → HasType [] [] e t → (normal_at [] t Kind.Star ≡ Some (normal [] t)) × (synth_in [] [] e ≡ Some (normal [] t))
 found-of h = let p = (exact (good-none [])).0 h in (normal_at-of p.0, complete (good-none []) p.1)
 
+-- a closed term has no type of which no normal form of kind * is found
 pub unkinded : (e : Term) (t : Ty) (o : Option Ty) → ((n : Ty) → o ≡ Some n → ⊥) → o ≡ normal_at [] t Kind.Star → HasType [] [] e t → ⊥
 unkinded e t o f p h = f (normal [] t) (p ∙ (found-of h).0)
 
+-- a closed term for which no type is found has none
 pub untyped : (e : Term) (t : Ty) (o : Option Ty) → ((n : Ty) → o ≡ Some n → ⊥) → o ≡ synth_in [] [] e → HasType [] [] e t → ⊥
 untyped e t o f p h = f (normal [] t) (p ∙ (found-of h).1)
 
+-- a closed term has no type whose normal form is not the type that is found
 pub differs : (e : Term) (t s n : Ty) → Some n ≡ normal_at [] t Kind.Star → Some s ≡ synth_in [] [] e → same_ty s n ≡ false → HasType [] [] e t → ⊥
 differs e t s n p q d h =
     let a = some-same (p ∙ (found-of h).0) in
     let b = some-same (q ∙ (found-of h).1) in
     no (sym d ∙ (ap (same_ty s) (a ∙ sym b) ∙ same_ty-self s))
 
+-- a closed term has each type whose normal form is the type that is found
 pub typed : (e : Term) (t s n : Ty) → Some n ≡ normal_at [] t Kind.Star → Some s ≡ synth_in [] [] e → same_ty s n ≡ true → HasType [] [] e t
 typed e t s n p q d =
     let k = normal_at-yes [] t Kind.Star n (sym p) in

@@ -1,4 +1,5 @@
 -- The types of a record's fields and of a case's branches, found one after the other.
+-- Main results: found-all, rises-differ, all-pass, branches-length.
 use Rattle.std.proofs.Common.{◌≡◌, ℕ, zero, suc, ◌+◌, ◌<◌, ◌≤◌, [], ◌∷◌, ◌++◌, List, Option, Some, None, Bool as Truth, true, false, ◌&&◌, if◌then◌else◌, length, get_or, take, drop, map, refl, sym, ap, ap₂, ◌∙◌, subst, arith, drop-cons}
 use Rattle.std.proofs.lemmas.List.{drop_all}
 use Rattle.std.proofs.Math.Seq.{take-suc}
@@ -35,6 +36,7 @@ map_more : (xs : Pairs) (l : Label) (t : Ty) (o : Option Row) → option_map (ro
 map_more xs l t None = refl
 map_more xs l t (Some r) = ap Some (row_after-more xs l t r)
 
+-- the fields from a place on are the one at the place and those after it
 pub left-more : (i : ℕ) (xs : TermPairs) (x : Label × Term) → i < length xs → x ≡ get_or xs i x → term_row (drop i xs) ≡ TermRow.More x.0 x.1 (term_row (drop (i + 1) xs))
 left-more i xs x h e = ap term_row (drop-cons xs i x h ∙ ap₂ (λ y m. y ∷ drop m xs) (sym e) (next i))
 
@@ -63,6 +65,7 @@ rises-new : (l : Label) (x : Label × Term) (xs : TermPairs) → LabelBefore l x
 rises-new l x [] h r = rw (before-not l x.0 h) refl
 rises-new l x (y ∷ xs) h r = rw (before-not l x.0 h, rises-new l y xs (transitive l x.0 y.0 h r.0) r.1) refl
 
+-- labels that rise are all different
 pub rises-differ : (xs : TermPairs) → Rises xs → labels_differ (term_row xs) ≡ true
 rises-differ [] r = refl
 rises-differ (x ∷ []) r = refl
@@ -107,6 +110,7 @@ labels-more i xs types more x l t e p is j m =
     (sym (map-more (take i xs) (get_or xs i x ∷ [])) ∙
     (ap (λ ys. map (λ y. y.0) ys) (sym (take-suc xs i x p)) ∙ ap (λ n. map (λ y. y.0) (take n xs)) (next i)))))
 
+-- an option that is no value is none
 pub none-is : {A : Type 0} (o : Option A) → ((x : A) → o ≡ Some x → ⊥) → None ≡ o
 none-is None h = refl
 none-is (Some x) h = absurd (h x refl)
@@ -162,6 +166,7 @@ label-differs ctx vars n i xs ys x y whole h j e f w d = differ (is_eq (label_cm
     differ true q = absurd (d (label-yes x.0 y.0 q))
     differ false q = ap (λ b. b && (passes ctx vars n x y && pass_from ctx vars n (i + 1) xs ys)) (sym q)
 
+-- one branch that does not pass makes the test of all branches fail
 pub branch-fails : (ctx : List Kind) (vars : List Ty) (n : Ty) (i : ℕ) (xs : TermPairs) (ys : Pairs) (x : Label × Term) (y : Label × Ty) (whole : Truth) → i < length xs → i < length ys → x ≡ get_or xs i x → y ≡ get_or ys i y
     → pass_from ctx vars n i xs ys ≡ whole → false ≡ passes ctx vars n x y → false ≡ whole
 branch-fails ctx vars n i xs ys x y whole h j e f w p =

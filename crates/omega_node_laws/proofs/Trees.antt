@@ -1,4 +1,5 @@
 -- Equality of types is decided by comparing them form by form; small facts on truth values.
+-- Main results: same_ty-yes, same_ty-self, test-is.
 use Rattle.std.proofs.Common.{◌≡◌, ◌↔◌, ℕ, Bool as Truth, true, false, ◌&&◌, IsTrue, refl, ap, ap₂, subst, eqb-true, eq-eqb}
 use Rattle.std.specs.Ordering.{is_eq}
 use Rattle.omega_kinds.specs.Kind.{Kind, kind_eq}
@@ -10,22 +11,27 @@ use Rattle.type_normal.specs.Mentioned.{is_mentioned}
 use Rattle.type_normal.proofs.MentionedBelow.{mentioned-sound, mentioned-complete}
 use Rattle.omega_node_laws.specs.SameTy.{same_ty, same_row}
 
+-- false is not true
 pub no : {A : Type 0} → false ≡ true → A
 no e = absurd (let f : false ≡ true → ⊥ = λ p. cc in f e)
 
+-- a conjunction holds only if both sides do
 pub both-true : (a b : Truth) → (a && b) ≡ true → (a ≡ true) × (b ≡ true)
 both-true true b e = (refl, e)
 both-true false b e = no e
 
+-- a conjunction holds if both sides do
 pub true-both : (a b : Truth) → a ≡ true → b ≡ true → (a && b) ≡ true
 true-both a b p q = rw (p, q) refl
 
+-- two truth values are the same if each holds where the other does
 pub truths : (a b : Truth) → (a ≡ true → b ≡ true) → (b ≡ true → a ≡ true) → a ≡ b
 truths true true f g = refl
 truths true false f g = no (f refl)
 truths false true f g = no (g refl)
 truths false false f g = refl
 
+-- kinds that the test takes for the same are the same
 pub kind_eq-yes : (a b : Kind) → kind_eq a b ≡ true → a ≡ b
 kind_eq-yes Kind.Star Kind.Star e = refl
 kind_eq-yes Kind.Star (Kind.Arrow c d) e = no e
@@ -33,11 +39,13 @@ kind_eq-yes (Kind.Arrow a b) Kind.Star e = no e
 kind_eq-yes (Kind.Arrow a b) (Kind.Arrow c d) e =
     let p = both-true (kind_eq a c) (kind_eq b d) e in ap₂ Kind.Arrow (kind_eq-yes a c p.0) (kind_eq-yes b d p.1)
 
+-- the test takes each kind for the same as itself
 pub kind_eq-self : (a : Kind) → kind_eq a a ≡ true
 kind_eq-self Kind.Star = refl
 kind_eq-self (Kind.Arrow a b) = true-both (kind_eq a a) (kind_eq b b) (kind_eq-self a) (kind_eq-self b)
 
 mutual
+  -- types that the test takes for the same are the same
   pub same_ty-yes : (s t : Ty) → same_ty s t ≡ true → s ≡ t
   same_ty-yes (Ty.Var i) (Ty.Var j) e = ap Ty.Var (eqb-true i j e)
   same_ty-yes Ty.Int Ty.Int e = refl
@@ -67,6 +75,7 @@ mutual
   same_row-yes _ _ e = no e
 
 mutual
+  -- the test takes each type for the same as itself
   pub same_ty-self : (t : Ty) → same_ty t t ≡ true
   same_ty-self (Ty.Var i) = eq-eqb i i refl
   same_ty-self Ty.Int = refl

@@ -1,4 +1,5 @@
 -- What a type with another one put in, and a shifted one, is at each form, as a test finds it.
+-- Main results: shifted-all, filled-all, filled-apply, filled-raised, no-apply.
 use Rattle.std.proofs.Common.{◌≡◌, ◌↔◌, ℕ, suc, ◌+◌, ◌-◌, List, Bool as Truth, IsTrue, false, length, refl, sym, ap, ap₂, ◌∙◌, arith}
 use Rattle.omega_kinds.specs.Kind.{Kind}
 use Rattle.omega_types.specs.Index.{bump, shift}
@@ -34,10 +35,12 @@ many-put : (k : Kind) (A : Args k) (i : ℕ) (a : Ty) (row : Row) → how_many (
 many-put k A i a Row.End = refl
 many-put k A i a (Row.More l t row) = ap suc (many-put k A i a row)
 
+-- where the shifted fields of one list of parts are those of another, both lists have as many parts
 pub shifted-long : (by from : ℕ) (ts : List Ty) (parts wholes : Parts) → rename_row (bump by from) (row_at ts parts) ≡ row_at ts wholes → length parts ≡ length wholes
 shifted-long by from ts parts wholes e =
     sym (how_many-parts ts parts) ∙ (sym (many-renamed (bump by from) (row_at ts parts)) ∙ (ap how_many e ∙ how_many-parts ts wholes))
 
+-- where the fields of one list of parts, with a type put in, are those of another, both lists have as many parts
 pub filled-long : (index : ℕ) (a : Ty) (ts : List Ty) (parts wholes : Parts) → filled_row index a (row_at ts parts) ≡ row_at ts wholes → length parts ≡ length wholes
 filled-long index a ts parts wholes e =
     sym (how_many-parts ts parts) ∙ (sym (many-put Kind.Star (args Kind.Star) index (shift index 0 a) (row_at ts parts)) ∙ (ap how_many e ∙ how_many-parts ts wholes))
@@ -63,28 +66,36 @@ lam-inner j k s t e = cc
 mu-inner : (j k : Kind) (s t : Ty) → Ty.Mu s ≡ Ty.Mu t → s ≡ t
 mu-inner j k s t e = cc
 
+-- a universal type is the shift of another one of the same kind if and only if its body is that of the other body
 pub shifted-all : (by from : ℕ) (b : Truth) (j k : Kind) (s t whole full : Ty) → Ty.All j s ≡ whole → Ty.All k t ≡ full → j ≡ k → (IsTrue b ↔ shift by (from + 1) s ≡ t) → (IsTrue b ↔ shift by from whole ≡ full)
 shifted-all by from = under-test Ty.All all-inner (shift by from) (shift by (from + 1)) (λ k b. ap (Ty.All k) (shift-under by from b))
 
+-- an existential type is the shift of another one of the same kind if and only if its body is that of the other body
 pub shifted-ex : (by from : ℕ) (b : Truth) (j k : Kind) (s t whole full : Ty) → Ty.Ex j s ≡ whole → Ty.Ex k t ≡ full → j ≡ k → (IsTrue b ↔ shift by (from + 1) s ≡ t) → (IsTrue b ↔ shift by from whole ≡ full)
 shifted-ex by from = under-test Ty.Ex ex-inner (shift by from) (shift by (from + 1)) (λ k b. ap (Ty.Ex k) (shift-under by from b))
 
+-- a type operator is the shift of another one of the same kind if and only if its body is that of the other body
 pub shifted-lam : (by from : ℕ) (b : Truth) (j k : Kind) (s t whole full : Ty) → Ty.Lam j s ≡ whole → Ty.Lam k t ≡ full → j ≡ k → (IsTrue b ↔ shift by (from + 1) s ≡ t) → (IsTrue b ↔ shift by from whole ≡ full)
 shifted-lam by from = under-test Ty.Lam lam-inner (shift by from) (shift by (from + 1)) (λ k b. ap (Ty.Lam k) (shift-under by from b))
 
+-- a recursive type is the shift of another one if and only if its body is that of the other body
 pub shifted-mu : (by from : ℕ) (b : Truth) (s t whole full : Ty) → Ty.Mu s ≡ whole → Ty.Mu t ≡ full → (IsTrue b ↔ shift by (from + 1) s ≡ t) → (IsTrue b ↔ shift by from whole ≡ full)
 shifted-mu by from b s t whole full e f h =
     under-test (λ k t. Ty.Mu t) mu-inner (shift by from) (shift by (from + 1)) (λ k b. ap Ty.Mu (shift-under by from b)) b Kind.Star Kind.Star s t whole full e f refl h
 
+-- putting a type into a universal type gives another one of the same kind if and only if its body gives the other body
 pub filled-all : (index : ℕ) (a : Ty) (b : Truth) (j k : Kind) (s t whole full : Ty) → Ty.All j s ≡ whole → Ty.All k t ≡ full → j ≡ k → (IsTrue b ↔ filled (index + 1) a s ≡ t) → (IsTrue b ↔ filled index a whole ≡ full)
 filled-all index a = under-test Ty.All all-inner (filled index a) (filled (index + 1) a) (λ k b. ap (Ty.All k) (filled-under index a b))
 
+-- putting a type into an existential type gives another one of the same kind if and only if its body gives the other body
 pub filled-ex : (index : ℕ) (a : Ty) (b : Truth) (j k : Kind) (s t whole full : Ty) → Ty.Ex j s ≡ whole → Ty.Ex k t ≡ full → j ≡ k → (IsTrue b ↔ filled (index + 1) a s ≡ t) → (IsTrue b ↔ filled index a whole ≡ full)
 filled-ex index a = under-test Ty.Ex ex-inner (filled index a) (filled (index + 1) a) (λ k b. ap (Ty.Ex k) (filled-under index a b))
 
+-- putting a type into a type operator gives another one of the same kind if and only if its body gives the other body
 pub filled-lam : (index : ℕ) (a : Ty) (b : Truth) (j k : Kind) (s t whole full : Ty) → Ty.Lam j s ≡ whole → Ty.Lam k t ≡ full → j ≡ k → (IsTrue b ↔ filled (index + 1) a s ≡ t) → (IsTrue b ↔ filled index a whole ≡ full)
 filled-lam index a = under-test Ty.Lam lam-inner (filled index a) (filled (index + 1) a) (λ k b. ap (Ty.Lam k) (filled-under index a b))
 
+-- putting a type into a recursive type gives another one if and only if its body gives the other body
 pub filled-mu : (index : ℕ) (a : Ty) (b : Truth) (s t whole full : Ty) → Ty.Mu s ≡ whole → Ty.Mu t ≡ full → (IsTrue b ↔ filled (index + 1) a s ≡ t) → (IsTrue b ↔ filled index a whole ≡ full)
 filled-mu index a b s t whole full e f h =
     under-test (λ k t. Ty.Mu t) mu-inner (filled index a) (filled (index + 1) a) (λ k b. ap Ty.Mu (filled-under index a b)) b Kind.Star Kind.Star s t whole full e f refl h
@@ -94,6 +105,7 @@ filled-mu index a b s t whole full e f h =
 sides : {s t u v : Ty} → Ty.Apply s t ≡ Ty.Apply u v → (s ≡ u) × (t ≡ v)
 sides e = (cc, cc)
 
+-- a type is put into an application by putting it into the operator and into the argument
 pub at-apply : (index : ℕ) (a f t whole : Ty) → Ty.Apply f t ≡ whole → filled index a whole ≡ Ty.Apply (filled index a f) (filled index a t)
 at-apply index a f t whole e = ap (filled index a) (sym e) ∙ put-apply (args Kind.Star) index (shift index 0 a) f t
 
@@ -104,6 +116,7 @@ filled-apply index a b f t g u whole full e i same h = (
   λ q. h.1 (sides (sym (at-apply index a f t whole e) ∙ (q ∙ sym i))).1,
 )
 
+-- putting a type into an application does not give one whose operator is not what the operator gives
 pub filled-apart : (index : ℕ) (a : Ty) (b : Truth) (f t g u whole full : Ty) → Ty.Apply f t ≡ whole → Ty.Apply g u ≡ full → b ≡ false → (IsTrue b ↔ filled index a f ≡ g) → (IsTrue b ↔ filled index a whole ≡ full)
 filled-apart index a b f t g u whole full e i fails h = (λ p. cc, λ q. h.1 (sides (sym (at-apply index a f t whole e) ∙ (q ∙ sym i))).0)
 

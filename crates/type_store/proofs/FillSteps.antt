@@ -1,4 +1,5 @@
 -- What a substitution does at each form of a numbered type.
+-- Main results: put-apply, filled_apply, filled_all, row-filled.
 use Rattle.std.proofs.Common.{◌≡◌, ℕ, suc, ◌+◌, ◌-◌, ◌<◌, ◌≤◌, List, [], ◌∷◌, length, refl, sym, ap, ap₂, subst, ◌∙◌}
 use Rattle.omega_kinds.specs.Kind.{Kind}
 use Rattle.omega_types.specs.Inner.Bound.{bound_of}
@@ -47,20 +48,25 @@ put-star A i a (Ty.Mu b) = tt
 put-star A i a (Ty.Lam k b) = tt
 put-star A i a (Ty.Apply f t) = subst AtStar (sym (applied (put_in Kind.Star A i a f) (tree (put_in Kind.Star A i a t)) (put-star A i a f))) tt
 
+-- a type of kind * is put into an application by putting it into the operator and into the argument: no redex arises
 pub put-apply : (A : Args Kind.Star) (i : ℕ) (a f t : Ty) → tree (put_in Kind.Star A i a (Ty.Apply f t)) ≡ Ty.Apply (tree (put_in Kind.Star A i a f)) (tree (put_in Kind.Star A i a t))
 put-apply A i a f t = ap tree (applied (put_in Kind.Star A i a f) (tree (put_in Kind.Star A i a t)) (put-star A i a f))
 
 -- ---- variables, and types that stay
 
+-- the variable for which a type comes in becomes that type, raised past the binders around it
 pub filled-var_same : (index i : ℕ) (a : Ty) → i ≡ index → filled index a (Ty.Var i) ≡ shift index 0 a
 filled-var_same index i a e = ap tree (fill-same Kind.Star (shift index 0 a) index i e)
 
+-- the index of a variable above the one for which a type comes in is less by one
 pub filled-var_above : (index i : ℕ) (a : Ty) → index < i → filled index a (Ty.Var i) ≡ Ty.Var (i - 1)
 filled-var_above index i a h = ap tree (fill-above Kind.Star (shift index 0 a) index i h)
 
+-- a type with no free index from the one on for which another type comes in stays as it is
 pub filled-still : (index : ℕ) (a t : Ty) → bound_of t ≤ index → filled index a t ≡ t
 filled-still index a t h = ap tree (put_in-unchanged Kind.Star (args Kind.Star) index (shift index 0 a) t h)
 
+-- for index 0 a type is put in as it is, by hereditary substitution
 pub filled-outermost : (a t : Ty) → filled 0 a t ≡ hsubst Kind.Star 0 a t
 filled-outermost a t = ap (λ u. hsubst Kind.Star 0 u t) (shift-zero 0 a)
 
@@ -78,16 +84,19 @@ module _ (node : Ty → Ty → Ty) (fills : (index : ℕ) (a s t : Ty) → fille
       let second : at top b' ≡ filled index (at old arg) (at old b) = k.value ∙ ap₂ (filled index) (begins-at old mid arg p w) (begins-at old mid b p x) in
       record { within = made.within; value = made.value ∙ (ap₂ node first second ∙ (sym (fills index (at old arg) (at old a) (at old b)) ∙ ap (filled index (at old arg)) is)) }
 
+-- the arrow between two sides that were filled one after the other is the filled arrow
 pub filled_arrow : (index : ℕ) (old mid top us : List Ty) (full : Ty) (arg a b a' b' n : ℕ) → Ty.Arrow (at old a) (at old b) ≡ full → Begins old mid → Begins mid top → arg < length old → b < length old
     → Holds mid a' (filled index (at old arg) (at old a)) → Holds top b' (filled index (at mid arg) (at mid b)) → Holds us n (Ty.Arrow (at top a') (at top b')) → Holds us n (filled index (at old arg) full)
 filled_arrow = two Ty.Arrow (λ index a s t. refl)
 
+-- the application of two parts that were filled one after the other is the filled application
 pub filled_apply : (index : ℕ) (old mid top us : List Ty) (full : Ty) (arg a b a' b' n : ℕ) → Ty.Apply (at old a) (at old b) ≡ full → Begins old mid → Begins mid top → arg < length old → b < length old
     → Holds mid a' (filled index (at old arg) (at old a)) → Holds top b' (filled index (at mid arg) (at mid b)) → Holds us n (Ty.Apply (at top a') (at top b')) → Holds us n (filled index (at old arg) full)
 filled_apply = two Ty.Apply (λ index a s t. put-apply (args Kind.Star) index (shift index 0 a) s t)
 
 -- ---- below a binder
 
+-- below one more binder the index is greater by one, and so is what comes in raised by one more
 pub filled-under : (index : ℕ) (a b : Ty) → tree (put_in Kind.Star (args Kind.Star) (suc index) (rename suc (shift index 0 a)) b) ≡ filled (index + 1) a b
 filled-under index a b = put_in-under Kind.Star index index a b
 
@@ -101,18 +110,22 @@ module _ (binder : Kind → Ty → Ty) (fills : (index : ℕ) (a : Ty) (k : Kind
         (ap₂ binder same (h.value ∙ ap (λ m. filled m (at old arg) (at old b)) e) ∙ (sym (fills index (at old arg) k (at old b)) ∙ ap (filled index (at old arg)) is));
   }
 
+-- the universal type over a body that was filled below the binder is the filled universal type
 pub filled_all : (index next : ℕ) (j k : Kind) (old ts us : List Ty) (full : Ty) (arg b b' n : ℕ) → Ty.All k (at old b) ≡ full → next ≡ index + 1 → j ≡ k
     → Holds ts b' (filled next (at old arg) (at old b)) → Holds us n (Ty.All j (at ts b')) → Holds us n (filled index (at old arg) full)
 filled_all = under Ty.All (λ index a k b. ap (Ty.All k) (filled-under index a b))
 
+-- the existential type over a body that was filled below the binder is the filled existential type
 pub filled_ex : (index next : ℕ) (j k : Kind) (old ts us : List Ty) (full : Ty) (arg b b' n : ℕ) → Ty.Ex k (at old b) ≡ full → next ≡ index + 1 → j ≡ k
     → Holds ts b' (filled next (at old arg) (at old b)) → Holds us n (Ty.Ex j (at ts b')) → Holds us n (filled index (at old arg) full)
 filled_ex = under Ty.Ex (λ index a k b. ap (Ty.Ex k) (filled-under index a b))
 
+-- the type operator over a body that was filled below the binder is the filled type operator
 pub filled_lam : (index next : ℕ) (j k : Kind) (old ts us : List Ty) (full : Ty) (arg b b' n : ℕ) → Ty.Lam k (at old b) ≡ full → next ≡ index + 1 → j ≡ k
     → Holds ts b' (filled next (at old arg) (at old b)) → Holds us n (Ty.Lam j (at ts b')) → Holds us n (filled index (at old arg) full)
 filled_lam = under Ty.Lam (λ index a k b. ap (Ty.Lam k) (filled-under index a b))
 
+-- the recursive type over a body that was filled below the binder is the filled recursive type
 pub filled_mu : (index next : ℕ) (old ts us : List Ty) (full : Ty) (arg b b' n : ℕ) → Ty.Mu (at old b) ≡ full → next ≡ index + 1
     → Holds ts b' (filled next (at old arg) (at old b)) → Holds us n (Ty.Mu (at ts b')) → Holds us n (filled index (at old arg) full)
 filled_mu index next old ts us full arg b b' n is e h made =
@@ -120,6 +133,7 @@ filled_mu index next old ts us full arg b b' n is e h made =
 
 -- ---- the parts of a record or a sum
 
+-- the fields of parts that are filled one by one are the filled fields of the parts
 pub row-filled : (index : ℕ) (a : Ty) (ts : List Ty) (parts : Parts) → row (mapped_pairs (filled index a) ts parts) ≡ filled_row index a (row_at ts parts)
 row-filled index a ts [] = refl
 row-filled index a ts (x ∷ xs) = ap (Row.More x.0 (filled index a (at ts x.1))) (row-filled index a ts xs)

@@ -1,5 +1,6 @@
 -- What putting a type where one is expected needs: the expected type where its parts are the ones that were put, and the
 -- first fields of a record that are the expected ones.
+-- Main results: alike-more, alike-whole, whole-row, part-type.
 use Rattle.std.proofs.Common.{◌≡◌, ℕ, zero, suc, ◌+◌, ◌<◌, ◌≤◌, List, [], ◌∷◌, Some, None, length, get_or, slice_get, refl, sym, ap, ap₂, subst, ◌∙◌, arith, below_more}
 use Rattle.std.proofs.lemmas.Option.{slice_get_read, slice_get_past}
 use Rattle.omega_kinds.specs.declared.label.Label.{Label}
@@ -60,6 +61,7 @@ field_at-parts ts [] i x e w = absurd (omega arith)
 field_at-parts ts (y ∷ ys) zero x e w = let g : x ≡ y = e in ap (λ z. Some (z.0, at ts z.1)) (sym g)
 field_at-parts ts (y ∷ ys) (suc i) x e w = field_at-parts ts ys i x e (omega (arith, w))
 
+-- parts make as many fields as they are
 pub how_many-parts : (ts : List Ty) (parts : Parts) → how_many (row_at ts parts) ≡ length parts
 how_many-parts ts [] = refl
 how_many-parts ts (x ∷ xs) = ap suc (how_many-parts ts xs)
@@ -92,6 +94,7 @@ whole-row ts hint xs ys parts alike h g all long e =
 
 -- ---- the first fields that are alike, one after another
 
+-- the first n fields are those of the type at a number
 pub record AreAlike (ts : List Ty) (whole : ℕ) (xs : Pairs) (n : ℕ) : Type 0 where
   pub same : (i : ℕ) → i < n → field_at (fields_of (at ts whole)) i ≡ slice_get xs i
 
@@ -142,6 +145,7 @@ part-type ts parts whole i x t e f w h =
     let same : (x.0, at ts x.1) ≡ (h.label, t) = some-same (sym (field_at-parts ts parts i x f w) ∙ (ap (λ r. field_at r i) e ∙ h.there)) in
     ap (λ p. p.1) same
 
+-- at the place of a part, the type that is made of the parts has a field of its label and its type
 pub part-there : (ts : List Ty) (parts : Parts) (whole i : ℕ) (x : Label × ℕ) (l : Label) → row_at ts parts ≡ fields_of (at ts whole) → x ≡ get_or parts i x → i < length parts → x.0 ≡ l
     → field_at (fields_of (at ts whole)) i ≡ Some (l, at ts x.1)
 part-there ts parts whole i x l e f w g = ap (λ r. field_at r i) (sym e) ∙ (field_at-parts ts parts i x f w ∙ ap (λ m. Some (m, at ts x.1)) g)

@@ -1,4 +1,5 @@
 -- What does not depend on where it is done, since no free index is too small for it.
+-- Main results: lows_new, shift-outermost, filled-first.
 use Rattle.std.proofs.Common.{◌≡◌, ℕ, zero, suc, ◌+◌, ◌-◌, ◌<◌, ◌≤◌, ◌==◌, if◌then◌else◌, Bool as Truth, false, List, [], ◌∷◌, ◌++◌, true, not, fold, length, length-append, refl, sym, ap, ap₂, subst, ◌∙◌, arith}
 use Rattle.std.proofs.lemmas.Bool.{eqb-true}
 use Rattle.std.specs.List.{list_any}
@@ -105,6 +106,7 @@ module _ (ts : List Ty) (lows : List Low) (h : AreLows ts lows) where
   low-shape (Shape.Lam k b) = low-under b
   low-shape (Shape.Apply f a) = low-two f a
 
+-- the free indexes of the type that a shape makes are not below the numbers that are computed for it
 pub low-is : (ts : List Ty) (lows : List Low) (s : Shape) (low : Low) → AreLows ts lows → low ≡ low_at lows s → IsLow low (tree_at ts s)
 low-is ts lows s low h e = subst (λ l. IsLow l (tree_at ts s)) (sym e) (low-shape ts lows h s)
 
@@ -133,6 +135,7 @@ lows_new shapes new s lows more low h l fresh keys items =
       each = each-push (trees shapes) lows (tree_at (trees shapes) s) low h.as_long h.each l;
     }))
 
+-- of an empty store, the empty list has the numbers of each type
 pub lows_none : AreLows (trees []) []
 lows_none = subst (λ ts. AreLows ts []) (sym trees-none) (record { as_long = refl; each = λ i. tt })
 

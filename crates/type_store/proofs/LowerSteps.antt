@@ -1,4 +1,5 @@
 -- A type outside of a binder, found by putting another type in for the binder's variable and shifting back.
+-- Main results: lower_yes, lower_no, filled-lowers.
 use Rattle.std.proofs.Common.{◌≡◌, ℕ, zero, suc, ◌-◌, ◌<◌, ◌||◌, ◌==◌, List, Some, None, Bool as Truth, true, false, if◌then◌else◌, length, refl, sym, ap, ap₂, subst, ◌∙◌, arith}
 use Rattle.std.proofs.lemmas.Bool.{eqb-true, eq-eqb, false≢true}
 use Rattle.omega_kinds.specs.Kind.{Kind}
@@ -58,6 +59,7 @@ mutual
 not-zero : Misses suc zero
 not-zero j e = omega (arith, e)
 
+-- a raised type does not mention the innermost variable
 pub raised-misses : (t : Ty) → is_mentioned 0 (shift 1 0 t) ≡ false
 raised-misses t = ap (is_mentioned 0) (shift-suc t) ∙ missed suc zero t not-zero
 
@@ -104,6 +106,7 @@ mutual
       let p = either (is_mentioned i t) (is_mentioned_row i rest) h in
       ap₂ (λ x r. Row.More l (tree x) r) (put-lowers k A i a t p.0) (put-lowers_row k A i a rest p.1)
 
+-- whatever comes in for an innermost variable that is not mentioned, the type is lowered
 pub filled-lowers : (a t : Ty) → is_mentioned 0 t ≡ false → filled 0 a t ≡ lower 1 t
 filled-lowers a t h = ap tree (put-lowers Kind.Star (args Kind.Star) 0 (shift 0 0 a) t h)
 

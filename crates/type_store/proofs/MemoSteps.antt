@@ -1,4 +1,5 @@
 -- What is remembered stays right.
+-- Main results: known_shift, known_filled, memos_more, noted_first, noted_rest.
 use Rattle.std.proofs.Common.{◌≡◌, ◌⊎◌, inl, inr, ℕ, List, [], Bool as Truth, true, false, ◌&&◌, ◌==◌, cond, Option, None, Some, IfSome, refl, sym, ap, ap₂, ◌∙◌, subst, arith}
 use Rattle.std.proofs.lemmas.Bool.{eqb-true, and_parts}
 use Rattle.std.specs.Map.{lookup}
@@ -107,6 +108,7 @@ pub known_shift : (ts us : List Ty) (m : Memo) (key : Key) (r : Option ℕ) → 
 known_shift ts us m key None h e p = tt
 known_shift ts us m key (Some v) h e p = subst (λ xs. Holds xs v (shift key.2 key.1 (at xs key.0))) e (h.each key v p).value
 
+-- a substitution that is found in the memory has the right result: the number of the type with the other one put in
 pub known_filled : (ts us : List Ty) (m : Memo) (key : Key) (r : Option ℕ) → AreFilled ts m → ts ≡ us → IfSome r (λ v. Remembers m key v) → IfSome r (λ v. Holds us v (filled key.1 (at us key.2) (at us key.0)))
 known_filled ts us m key None h e p = tt
 known_filled ts us m key (Some v) h e p = subst (λ xs. Holds xs v (filled key.1 (at xs key.2) (at xs key.0))) e (h.each key v p).value

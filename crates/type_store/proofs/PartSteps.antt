@@ -1,4 +1,5 @@
 -- The part of a numbered record or sum at a label, and parts beside the fields of a tree.
+-- Main results: field-number, variant-number, must-be, all-same, all-fields.
 use Rattle.std.proofs.Common.{◌≡◌, ◌<◌, ◌≤◌, ◌↔◌, ℕ, zero, suc, ◌+◌, List, [], ◌∷◌, Option, Some, Bool as Truth, true, false, IsTrue, if◌then◌else◌, length, map, get_or, take, drop, refl, sym, ap, subst, ◌∙◌, arith, drop-cons}
 use Rattle.std.proofs.Math.Seq.{take-length}
 use Rattle.std.specs.Ordering.{is_eq}
@@ -22,13 +23,14 @@ part-number ts (x ∷ xs) l h = by (is_eq (label_cmp x.0 l)) (part-number ts xs 
     by true rest = record { within = h.0; value = refl }
     by false rest = rest
 
--- the field of a record, and the part of a sum, of which the number and the form are known
+-- the field of a record of which the number and the form are known
 pub field-number : (ts : List Ty) (n : ℕ) (parts : Parts) (l : Label) (o : Option ℕ) → n < length ts → IsBelow n (Shape.Fields parts) → tree_at ts (Shape.Fields parts) ≡ at ts n → o ≡ at_label parts l
     → NumberOf ts o (field_type (at ts n) l)
 field-number ts n parts l o w h e f =
     subst (λ p. NumberOf ts p (field_type (at ts n) l)) (sym f)
     (subst (λ t. NumberOf ts (at_label parts l) (field_type t l)) e (part-number ts parts l (parts_below-more n (length ts) parts (omega (arith, w)) h.0)))
 
+-- the part of a sum of which the number and the form are known
 pub variant-number : (ts : List Ty) (n : ℕ) (parts : Parts) (l : Label) (o : Option ℕ) → n < length ts → IsBelow n (Shape.Sum parts) → tree_at ts (Shape.Sum parts) ≡ at ts n → o ≡ at_label parts l
     → NumberOf ts o (variant_type (at ts n) l)
 variant-number ts n parts l o w h e f =
@@ -69,12 +71,15 @@ module _ (ts : List Ty) (parts : Parts) (xs : Pairs) (i : ℕ) (x : Label × ℕ
   pub same-there : row_at ts (drop i parts) ≡ row (drop i xs) → (x.0 ≡ y.0) × (at ts x.1 ≡ y.1) × (row_at ts (drop (i + 1) parts) ≡ row (drop (i + 1) xs))
   same-there h = tops (sym here ∙ (h ∙ there))
 
+  -- where a part is the field at its place, the rows are the same if and only if what comes after it is
   pub same-step : (row_at ts parts ≡ row xs ↔ row_at ts (drop i parts) ≡ row (drop i xs)) → x.0 ≡ y.0 → at ts x.1 ≡ y.1 → (row_at ts parts ≡ row xs ↔ row_at ts (drop (i + 1) parts) ≡ row (drop (i + 1) xs))
   same-step h p q = (λ a. (same-there (h.0 a)).2, λ r. h.1 (here ∙ ((λ j. Row.More (p j) (q j) (r j)) ∙ sym there)))
 
+  -- where the rows are the same, the part at a place has the label and the type of the field there
   pub must-be : (ys : Pairs) → xs ≡ ys → (row_at ts parts ≡ row xs ↔ row_at ts (drop i parts) ≡ row (drop i xs)) → row_at ts parts ≡ row ys → (x.0 ≡ y.0) × (at ts x.1 ≡ y.1)
   must-be ys g h a = let s = same-there (h.0 (a ∙ ap row (sym g))) in (s.0, s.1)
 
+-- rows of one length that are the same up to their ends are the same
 pub all-same : (ts : List Ty) (parts : Parts) (xs ys : Pairs) (i : ℕ) → xs ≡ ys → length parts ≤ i → length parts ≡ length xs
     → (row_at ts parts ≡ row xs ↔ row_at ts (drop i parts) ≡ row (drop i xs)) → (IsTrue true ↔ row_at ts parts ≡ row ys)
 all-same ts parts xs ys i g w long h =
@@ -90,6 +95,7 @@ field-smaller xs ys i y g f w h =
 
 -- ---- the parts as fields of trees
 
+-- the fields that parts make: the label of each, and the type at its number
 abbrev pub pairs_at : List Ty → Parts → Pairs
 pairs_at ts parts = map (λ x. (x.0, at ts x.1)) parts
 

@@ -1,4 +1,5 @@
 -- What a shift does at each form of a numbered type.
+-- Main results: shift_all, row-shifted.
 use Rattle.std.proofs.Common.{◌≡◌, ℕ, suc, ◌+◌, ◌<◌, ◌≤◌, List, [], ◌∷◌, length, refl, sym, ap, ap₂, ◌∙◌, arith}
 use Rattle.omega_kinds.specs.Kind.{Kind}
 use Rattle.omega_types.specs.Fields.{row}
@@ -15,12 +16,15 @@ use Rattle.type_store.proofs.TreeLaws.{begins-itself, begins-then, part_below}
 
 -- variables, and the body of a binder
 
+-- a shift leaves a variable alone whose index is below the one where it begins
 pub shift-var_below : (by from i : ℕ) → i < from → shift by from (Ty.Var i) ≡ Ty.Var i
 shift-var_below by from i h = ap Ty.Var (bump-below by from i h)
 
+-- a shift adds its distance to a variable whose index is at or above the one where it begins
 pub shift-var_above : (by from i : ℕ) → from ≤ i → shift by from (Ty.Var i) ≡ Ty.Var (i + by)
 shift-var_above by from i h = ap Ty.Var (bump-past by from i h)
 
+-- below one more binder a shift begins one index later
 pub shift-under : (by from : ℕ) (b : Ty) → rename (lift (bump by from)) b ≡ shift by (from + 1) b
 shift-under by from b = let next : suc from ≡ from + 1 = omega arith in ap (λ n. shift by n b) next
 
@@ -38,18 +42,22 @@ module _ (binder : Kind → Ty → Ty) (shifts : (by from : ℕ) (k : Kind) (b :
     value = made.value ∙ (ap₂ binder same (h.value ∙ ap (λ m. shift by m (at old b)) e) ∙ (sym (shifts by from k (at old b)) ∙ ap (shift by from) is));
   }
 
+-- the universal type over a body that was shifted below the binder is the shifted universal type
 pub shift_all : (by from next : ℕ) (j k : Kind) (old ts us : List Ty) (whole : Ty) (b b' n : ℕ) → Ty.All k (at old b) ≡ whole → next ≡ from + 1 → j ≡ k
     → Holds ts b' (shift by next (at old b)) → Holds us n (Ty.All j (at ts b')) → Holds us n (shift by from whole)
 shift_all = under Ty.All (λ by from k b. ap (Ty.All k) (shift-under by from b))
 
+-- the existential type over a body that was shifted below the binder is the shifted existential type
 pub shift_ex : (by from next : ℕ) (j k : Kind) (old ts us : List Ty) (whole : Ty) (b b' n : ℕ) → Ty.Ex k (at old b) ≡ whole → next ≡ from + 1 → j ≡ k
     → Holds ts b' (shift by next (at old b)) → Holds us n (Ty.Ex j (at ts b')) → Holds us n (shift by from whole)
 shift_ex = under Ty.Ex (λ by from k b. ap (Ty.Ex k) (shift-under by from b))
 
+-- the type operator over a body that was shifted below the binder is the shifted type operator
 pub shift_lam : (by from next : ℕ) (j k : Kind) (old ts us : List Ty) (whole : Ty) (b b' n : ℕ) → Ty.Lam k (at old b) ≡ whole → next ≡ from + 1 → j ≡ k
     → Holds ts b' (shift by next (at old b)) → Holds us n (Ty.Lam j (at ts b')) → Holds us n (shift by from whole)
 shift_lam = under Ty.Lam (λ by from k b. ap (Ty.Lam k) (shift-under by from b))
 
+-- the recursive type over a body that was shifted below the binder is the shifted recursive type
 pub shift_mu : (by from next : ℕ) (old ts us : List Ty) (whole : Ty) (b b' n : ℕ) → Ty.Mu (at old b) ≡ whole → next ≡ from + 1
     → Holds ts b' (shift by next (at old b)) → Holds us n (Ty.Mu (at ts b')) → Holds us n (shift by from whole)
 shift_mu by from next old ts us whole b b' n is e h made = under (λ k t. Ty.Mu t) (λ by from k b. ap Ty.Mu (shift-under by from b)) by from next Kind.Star Kind.Star old ts us whole b b' n is e refl h made

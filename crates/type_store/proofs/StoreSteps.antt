@@ -1,4 +1,5 @@
 -- What each call of a store needs of the types put before.
+-- Main results: parts_push, fields_step.
 use Rattle.std.proofs.Common.{◌≡◌, ℕ, suc, ◌+◌, ◌<◌, ◌≤◌, List, [], ◌∷◌, ◌++◌, length, drop, take, get_or, refl, sym, ap, ap₂, ◌∙◌, subst, arith, drop-cons}
 use Rattle.std.proofs.lemmas.List.{take_more}
 use Rattle.omega_kinds.specs.Kind.{Kind}
@@ -13,39 +14,51 @@ use Rattle.type_store.specs.Shape.{Shape, Parts}
 use Rattle.type_store.specs.Trees.{at, row_at, ArePartsBelow, AreDistinct, Begins, Holds, Makes, MakesParts}
 use Rattle.type_store.proofs.TreeLaws.{begins-itself, begins-then, begins-length, holds-more, row_at-append, parts_below-more}
 
+-- the shape of a variable makes the variable
 pub makes_var : (ts : List Ty) (i : ℕ) → Makes ts (Shape.Var i) (Ty.Var i)
 makes_var ts i = record { below = tt; value = refl }
 
+-- the shape of integers makes their type
 pub makes_int : (ts : List Ty) → Makes ts Shape.Int Ty.Int
 makes_int ts = record { below = tt; value = refl }
 
+-- the shape of truth values makes their type
 pub makes_bool : (ts : List Ty) → Makes ts Shape.Bool Ty.Bool
 makes_bool ts = record { below = tt; value = refl }
 
+-- the shape of strings makes their type
 pub makes_text : (ts : List Ty) → Makes ts Shape.Text Ty.Text
 makes_text ts = record { below = tt; value = refl }
 
+-- the shape of an arrow between two numbers makes the arrow between their types
 pub makes_arrow : (ts us : List Ty) (a b : ℕ) (s t : Ty) → Begins ts us → Holds ts a s → Holds us b t → Makes us (Shape.Arrow a b) (Ty.Arrow s t)
 makes_arrow ts us a b s t p h k = let m = holds-more ts us a s p h in record { below = (m.within, k.within); value = ap₂ Ty.Arrow m.value k.value }
 
+-- the shape of an application of one number to another makes the application of their types
 pub makes_apply : (ts us : List Ty) (a b : ℕ) (s t : Ty) → Begins ts us → Holds ts a s → Holds us b t → Makes us (Shape.Apply a b) (Ty.Apply s t)
 makes_apply ts us a b s t p h k = let m = holds-more ts us a s p h in record { below = (m.within, k.within); value = ap₂ Ty.Apply m.value k.value }
 
+-- the shape of a universal type over a number makes the universal type over its type
 pub makes_all : (ts : List Ty) (k : Kind) (b : ℕ) (t : Ty) → Holds ts b t → Makes ts (Shape.All k b) (Ty.All k t)
 makes_all ts k b t h = record { below = h.within; value = ap (Ty.All k) h.value }
 
+-- the shape of an existential type over a number makes the existential type over its type
 pub makes_ex : (ts : List Ty) (k : Kind) (b : ℕ) (t : Ty) → Holds ts b t → Makes ts (Shape.Ex k b) (Ty.Ex k t)
 makes_ex ts k b t h = record { below = h.within; value = ap (Ty.Ex k) h.value }
 
+-- the shape of a type operator over a number makes the type operator over its type
 pub makes_lam : (ts : List Ty) (k : Kind) (b : ℕ) (t : Ty) → Holds ts b t → Makes ts (Shape.Lam k b) (Ty.Lam k t)
 makes_lam ts k b t h = record { below = h.within; value = ap (Ty.Lam k) h.value }
 
+-- the shape of a recursive type over a number makes the recursive type over its type
 pub makes_mu : (ts : List Ty) (b : ℕ) (t : Ty) → Holds ts b t → Makes ts (Shape.Mu b) (Ty.Mu t)
 makes_mu ts b t h = record { below = h.within; value = ap Ty.Mu h.value }
 
+-- the shape of a sum of parts makes the sum of the fields that they make
 pub makes_sum : (ts : List Ty) (parts : Parts) (r : Row) → MakesParts ts parts r → Makes ts (Shape.Sum parts) (Ty.Sum r)
 makes_sum ts parts r h = record { below = (h.below, h.rising); value = ap Ty.Sum h.value }
 
+-- the shape of a record of parts makes the record of the fields that they make
 pub makes_fields : (ts : List Ty) (parts : Parts) (r : Row) → MakesParts ts parts r → Makes ts (Shape.Fields parts) (Ty.Fields r)
 makes_fields ts parts r h = record { below = (h.below, h.rising); value = ap Ty.Fields h.value }
 
@@ -92,6 +105,7 @@ parts-more ts us parts r b h = record {
   value = ap (λ xs. row_at xs parts) b.whole_is ∙ (row_at-append ts b.rest parts h.below ∙ h.value);
 }
 
+-- one more part, of the next label and with a number of its type, makes one more field
 pub parts_push : (ts us : List Ty) (parts : Parts) (xs : Pairs) (i : ℕ) (l : Label) (n : ℕ) (x : Label × Ty)
     → MakesParts ts parts (row (take i xs)) → Begins ts us → Holds us n x.1 → l ≡ x.0 → x ≡ get_or xs i x → i < length xs → Rises xs
     → MakesParts us (parts ++ (l, n) ∷ []) (row (take (i + 1) xs))
@@ -107,6 +121,7 @@ parts_push ts us parts xs i l n x made b h e g w r =
       value = row-push us parts (take i xs) (l, n) m.value ∙ ap row (sym (whole ∙ ap (λ y. take i xs ++ y ∷ []) last));
     }
 
+-- what is left of some fields after one more of them is still no larger than all of them
 pub smaller : (xs : Pairs) (i : ℕ) (d : Label × Ty) → i < length xs → nodes_pairs (drop i xs) ≤ nodes_pairs xs → nodes_pairs (drop (i + 1) xs) ≤ nodes_pairs xs
 smaller xs i d w h =
     let e : drop i xs ≡ get_or xs i d ∷ drop (suc i) xs = drop-cons xs i d w in

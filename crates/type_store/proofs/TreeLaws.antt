@@ -1,4 +1,5 @@
 -- The types of a list of shapes: one more shape, and one number for each type.
+-- Main results: extends_new, holds_new, placed, bound-is.
 use Rattle.std.proofs.Common.{◌≡◌, ℕ, ◌+◌, ◌<◌, ◌≤◌, ◌⊎◌, inl, inr, List, [], ◌∷◌, ◌++◌, Some, Bool as Truth, true, false, if◌then◌else◌, not, zero, suc, length, map, max, ◌-◌, get_or, slice_get, refl, sym, ap, ap₂, ◌∙◌, subst, arith, length-append, append_assoc}
 use Rattle.std.proofs.lemmas.List.{append-nil}
 use Rattle.std.proofs.Math.ListN.{get_or-append, get_or-map}
@@ -23,6 +24,7 @@ use Rattle.omega_types.specs.Inner.Bound.{bound_of, bound_row}
 pub at-append : (ts us : List Ty) (i : ℕ) → i < length ts → at (ts ++ us) i ≡ at ts i
 at-append ts us i h = get_or-append ts us Ty.Int i h
 
+-- parts make the same fields when types are added at the end
 pub row_at-append : (ts us : List Ty) (parts : Parts) → ArePartsBelow (length ts) parts → row_at (ts ++ us) parts ≡ row_at ts parts
 row_at-append ts us [] h = refl
 row_at-append ts us (x ∷ xs) h = ap₂ (Row.More x.0) (at-append ts us x.1 h.0) (row_at-append ts us xs h.1)
@@ -41,6 +43,7 @@ tree_at-append ts us (Shape.Mu b) h = ap Ty.Mu (at-append ts us b h)
 tree_at-append ts us (Shape.Lam k b) h = ap (Ty.Lam k) (at-append ts us b h)
 tree_at-append ts us (Shape.Apply f a) h = ap₂ Ty.Apply (at-append ts us f h.0) (at-append ts us a h.1)
 
+-- parts whose numbers are below one bound have them below each greater bound
 pub parts_below-more : (m n : ℕ) (parts : Parts) → m ≤ n → ArePartsBelow m parts → ArePartsBelow n parts
 parts_below-more m n [] le h = tt
 parts_below-more m n (x ∷ xs) le h = (omega (arith, h.0), parts_below-more m n xs le h.1)
@@ -61,21 +64,26 @@ below-more m n (Shape.Apply f a) le h = (omega (arith, h.0), omega (arith, h.1))
 
 -- ---- one list begins with another
 
+-- each list begins with itself
 pub begins-itself : (ts : List Ty) → Begins ts ts
 begins-itself ts = record { rest = []; whole_is = sym (append-nil ts) }
 
+-- a list begins with what its beginning begins with
 pub begins-then : (ts us vs : List Ty) → Begins ts us → Begins us vs → Begins ts vs
 begins-then ts us vs p q = record { rest = p.rest ++ q.rest; whole_is = q.whole_is ∙ (ap (λ xs. xs ++ q.rest) p.whole_is ∙ append_assoc ts p.rest q.rest) }
 
+-- a list is at least as long as its beginning
 pub begins-length : (ts us : List Ty) → Begins ts us → length ts ≤ length us
 begins-length ts us p = let e : length us ≡ length ts + length p.rest = ap length p.whole_is ∙ length-append ts p.rest in omega (arith, e)
 
+-- a type of the beginning stands at the same number of the whole list
 pub begins-at : (ts us : List Ty) (i : ℕ) → Begins ts us → i < length ts → at us i ≡ at ts i
 begins-at ts us i p h = ap (λ xs. at xs i) p.whole_is ∙ at-append ts p.rest i h
 
 pub begins-tree : (ts us : List Ty) (s : Shape) → Begins ts us → IsBelow (length ts) s → tree_at us s ≡ tree_at ts s
 begins-tree ts us s p h = ap (λ xs. tree_at xs s) p.whole_is ∙ tree_at-append ts p.rest s h
 
+-- a type that stands at a number still stands there when types are added at the end
 pub holds-more : (ts us : List Ty) (i : ℕ) (t : Ty) → Begins ts us → Holds ts i t → Holds us i t
 holds-more ts us i t p h = record { within = let l = begins-length ts us p in omega (arith, l, h.within); value = begins-at ts us i p h.within ∙ h.value }
 
@@ -143,6 +151,7 @@ last-or-before xs x i y e = by (cases_lt i (length xs))
         let at_end : i ≡ length xs = omega (arith, w, l, h) in
         inr (at_end, sym found ∙ (ap (λ n. get_or (xs ++ x ∷ []) n y) at_end ∙ get_or-append_seam xs x [] y))
 
+-- one more shape adds, at the end, the type that it makes of those before
 pub trees-push : (shapes : List Shape) (s : Shape) → trees (shapes ++ s ∷ []) ≡ trees shapes ++ tree_at (trees shapes) s ∷ []
 unfolding trees with_shape
 trees-push shapes s = fold-append with_shape [] shapes (s ∷ [])
@@ -250,10 +259,12 @@ module _ (shapes : List Shape) (h : IsStore shapes) (s : Shape) (below : IsBelow
             begins-tree (trees shapes) (trees (insert_key shape_eq shapes s)) s begins-inserted below);
       }
 
+-- the empty list of shapes is a store
 pub store-none : IsStore []
 unfolding trees
 store-none = record { as_long = refl; below = λ i s e. absurd (cc); stands = λ i s e. absurd (cc); distinct = record { same_number = λ i j l m e. absurd (omega arith) } }
 
+-- the empty list of shapes makes no types
 pub trees-none : trees [] ≡ []
 unfolding trees
 trees-none = refl
@@ -281,6 +292,7 @@ bound-shape ts (Shape.Mu b) = ap (λ n. n - 1) (bound-get ts b)
 bound-shape ts (Shape.Lam k b) = ap (λ n. n - 1) (bound-get ts b)
 bound-shape ts (Shape.Apply f a) = ap₂ max (bound-get ts f) (bound-get ts a)
 
+-- the bound that is computed for a shape is that of the type that it makes
 pub bound-is : (ts : List Ty) (bounds : List ℕ) (s : Shape) (n : ℕ) → AreBounds ts bounds → n ≡ bound_at bounds s → n ≡ bound_of (tree_at ts s)
 bound-is ts bounds s n h e = e ∙ (ap (λ b. bound_at b s) h.bounds_are ∙ bound-shape ts s)
 
@@ -298,6 +310,7 @@ bounds_long shapes bounds h b = ap length b.bounds_are ∙ length-map (trees sha
 pub bound_here : (ts : List Ty) (bounds : List ℕ) (i : ℕ) → AreBounds ts bounds → get_or bounds i 0 ≡ bound_of (at ts i)
 bound_here ts bounds i h = ap (λ b. get_or b i 0) h.bounds_are ∙ bound-get ts i
 
+-- the empty list has the bounds of the types of an empty store
 pub bounds-none : AreBounds (trees []) []
 unfolding trees
 bounds-none = record { bounds_are = refl }
@@ -332,6 +345,7 @@ extends_new shapes new s bounds more n h a below e fresh keys items =
       begins = begins-push shapes s;
     })
 
+-- after an insertion, the type that a shape makes stands at the place of the shape that is the same
 pub holds_new : (shapes new : List Shape) (s : Shape) (i : ℕ) (r : Shape) → IsStore shapes → IsBelow (length (trees shapes)) s → new ≡ insert_key shape_eq shapes s
     → slice_get new i ≡ Some r → shape_eq s r ≡ true → Holds (trees new) i (tree_at (trees shapes) s)
 holds_new shapes new s i r h below keys e same =
