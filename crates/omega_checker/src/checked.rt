@@ -58,14 +58,14 @@ impl Checked {
     ///
     /// Filliâtre and Conchon, "Type-safe modular hash-consing", section 2.
     pub fn store(&self) -> &Store
-        ensures { HoldsNodeTypes result.now [] [] self.now.term }
+        ensures nodes { HoldsNodeTypes result.now [] [] self.now.term }
     {
         &self.store
     }
 
     /// The same types alone, for a caller who goes on with them. Takes no memory.
     pub fn into_store(self) -> Store
-        ensures { HoldsNodeTypes result [] [] self.term }
+        ensures nodes { HoldsNodeTypes result [] [] self.term }
     {
         self.store
     }

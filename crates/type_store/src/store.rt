@@ -100,6 +100,7 @@ impl Store {
         ensures same { IfOk result (λ n. (m : ℕ) (t : TyTree) → Holds self.new m t → (m ≡ n ↔ t ≡ ty.now)) }
     {
         let number = self.put_type(plain(ty))?;
+        // (brings in that the types are distinct)
         let _nodes = &self.nodes;
         Ok(number)
     }

@@ -4,7 +4,7 @@ ghost use Rattle.omega_types.specs.Inner.Bound.{bound_of};
 ghost use Rattle.omega_types.specs.Index.{shift};
 ghost use Rattle.omega_types.specs.Ty.{Ty as TyTree};
 ghost use Rattle.type_store.specs.Inner.Memo.{filled};
-ghost use Rattle.type_store.specs.Trees.{AreDistinct, Begins, Holds, IsBelow, Makes, at, tree_at};
+ghost use Rattle.type_store.specs.Trees.{Begins, Holds, IsBelow, Makes, at, tree_at};
 ghost use Rattle.type_store.specs.Inner.View.{shape_of};
 
 use crate::memo::Memo;
@@ -76,14 +76,6 @@ impl Types {
         &self.store
     }
 
-    /// How many types there are. Takes no memory.
-    pub fn len(&self) -> usize
-        ensures length { result ≡ length self.now }
-        ensures distinct { AreDistinct self.now }
-    {
-        self.store.len()
-    }
-
     /// The least number above all free indexes of a type: 0 for a closed one. Takes one step.
     pub fn bound(&self, number: u64) -> u64
         requires { number < length self.now }
@@ -107,6 +99,7 @@ impl Types {
         requires right { right < length self.now }
         ensures { IsTrue result ↔ at self.now left ≡ at self.now right }
     {
+        // (brings in that the types are distinct)
         let _count = self.store.len();
         left == right
     }
@@ -126,32 +119,6 @@ impl Types {
         ensures number { IfOk result (λ n. Holds self.new n TyTree.Int) }
     {
         self.make(Form::Int)
-    }
-
-    /// The number of `bool`. `Err` is out of memory.
-    pub fn bool(&mut self) -> Result<u64, Mem>
-        ensures grows { Begins self.old self.new }
-        ensures number { IfOk result (λ n. Holds self.new n TyTree.Bool) }
-    {
-        self.make(Form::Bool)
-    }
-
-    /// The number of `text`. `Err` is out of memory.
-    pub fn text(&mut self) -> Result<u64, Mem>
-        ensures grows { Begins self.old self.new }
-        ensures number { IfOk result (λ n. Holds self.new n TyTree.Text) }
-    {
-        self.make(Form::Text)
-    }
-
-    /// The number of `(-> T T)`. `Err` is out of memory.
-    pub fn arrow(&mut self, from: u64, to: u64) -> Result<u64, Mem>
-        requires from { from < length self.old }
-        requires to { to < length self.old }
-        ensures grows { Begins self.old self.new }
-        ensures number { IfOk result (λ n. Holds self.new n (TyTree.Arrow (at self.old from) (at self.old to))) }
-    {
-        self.make(Form::Arrow(from, to))
     }
 
     /// The number of a type, whose parts are put before it. `Err` is out of memory.
