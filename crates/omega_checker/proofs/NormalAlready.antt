@@ -1,6 +1,8 @@
 -- The test of a type says yes exactly where the type is normal, and then normalising gives it back.
 -- Main results: test-decides, stands.
-use Rattle.std.proofs.Common.{◌≡◌, ◌↔◌, List, ◌∷◌, Option, Some, None, Bool as Truth, true, false, ◌&&◌, if◌then◌else◌, IsTrue, slice_get, refl, sym, ap, ◌∙◌, subst}
+use Rattle.std.proofs.Common.{◌≡◌, ◌↔◌, List, ◌∷◌, Option, Some, None, Bool as Truth, true, ◌&&◌, IsTrue, slice_get, refl, sym, ap, ◌∙◌, subst}
+use Rattle.std.proofs.lemmas.Bool.{and_parts}
+use Rattle.std.proofs.lemmas.Option.{same_Some}
 use Rattle.omega_kinds.specs.Kind.{Kind, kind_eq}
 use Rattle.omega_types.specs.Ty.{Ty, Row}
 use Rattle.omega_types.specs.KindIn.{is_star, are_distinct, is_fresh}
@@ -11,14 +13,12 @@ use Rattle.omega_types.specs.Normality.Neutral.{n_var, n_apply}
 use Rattle.omega_types.proofs.KindsFound.{lookup-found, found-lookup, fresh-sound, fresh-complete, kind_in-complete}
 use Rattle.omega_types.proofs.LawProofs.{normal_of_normal}
 use Rattle.omega_types.proofs.Preservation.{normal-kind}
+use Rattle.type_store.specs.Inner.ShapeLaws.{kind_eq-yes, kind_eq-self, no}
 use Rattle.omega_node_laws.specs.Found.{normal_at}
 use Rattle.omega_checker.specs.Inner.IsNormal.{at_star, at_arrow, with_arg, is_normal, are_normal, neutral_kind}
-use Rattle.omega_node_laws.proofs.Trees.{no, both-true, kind_eq-yes, kind_eq-self}
+use Rattle.omega_node_laws.proofs.Inverted.{if-yes, none-some}
 
 -- ---- the small steps
-
-none-some : {A B : Type 0} {x : A} → None ≡ Some x → B
-none-some {x = x} e = absurd (let f : None ≡ Some x → ⊥ = λ p. cc in f e)
 
 star-yes : (o : Option Kind) → is_star o ≡ true → o ≡ Some Kind.Star
 star-yes None e = no e
@@ -33,14 +33,10 @@ at_arrow-yes : (k : Kind) (f : Kind → Kind → Truth) → at_arrow k f ≡ tru
 at_arrow-yes Kind.Star f e = no e
 at_arrow-yes (Kind.Arrow i l) f e = (i, l, refl, e)
 
-if-yes : (b : Truth) (l m : Kind) → (if b then Some l else None) ≡ Some m → (b ≡ true) × (l ≡ m)
-if-yes true l m e = (refl, cc)
-if-yes false l m e = none-some e
-
 with_arg-yes : (o : Option Kind) (f : Kind → Truth) (m : Kind) → with_arg o f ≡ Some m → (k : Kind) × (o ≡ Some (Kind.Arrow k m)) × (f k ≡ true)
 with_arg-yes None f m e = none-some e
 with_arg-yes (Some Kind.Star) f m e = none-some e
-with_arg-yes (Some (Kind.Arrow k l)) f m e = let p = if-yes (f k) l m e in (k, ap (λ j. Some (Kind.Arrow k j)) p.1, p.0)
+with_arg-yes (Some (Kind.Arrow k l)) f m e = let p = if-yes (f k) (Some l) m e in (k, ap (λ j. Some (Kind.Arrow k j)) (same_Some _ _ p.1), p.0)
 
 -- ---- where the test says yes, the type is normal
 
@@ -54,15 +50,15 @@ mutual
   normal-yes ctx Ty.Text k e = subst (Normal ctx Ty.Text) (at_star-yes k true e).0 n_text
   normal-yes ctx (Ty.Arrow a b) k e =
       let p = at_star-yes k (is_normal ctx a Kind.Star && is_normal ctx b Kind.Star) e in
-      let q = both-true (is_normal ctx a Kind.Star) (is_normal ctx b Kind.Star) p.1 in
+      let q = and_parts (is_normal ctx a Kind.Star) (is_normal ctx b Kind.Star) p.1 in
       subst (Normal ctx (Ty.Arrow a b)) p.0 (n_arrow (normal-yes ctx a Kind.Star q.0) (normal-yes ctx b Kind.Star q.1))
   normal-yes ctx (Ty.Fields r) k e =
       let p = at_star-yes k (are_distinct r && are_normal ctx r) e in
-      let q = both-true (are_distinct r) (are_normal ctx r) p.1 in
+      let q = and_parts (are_distinct r) (are_normal ctx r) p.1 in
       subst (Normal ctx (Ty.Fields r)) p.0 (n_fields (normals-yes ctx r q.0 q.1))
   normal-yes ctx (Ty.Sum r) k e =
       let p = at_star-yes k (are_distinct r && are_normal ctx r) e in
-      let q = both-true (are_distinct r) (are_normal ctx r) p.1 in
+      let q = and_parts (are_distinct r) (are_normal ctx r) p.1 in
       subst (Normal ctx (Ty.Sum r)) p.0 (n_sum (normals-yes ctx r q.0 q.1))
   normal-yes ctx (Ty.All j b) k e =
       let p = at_star-yes k (is_normal (j ∷ ctx) b Kind.Star) e in
@@ -75,7 +71,7 @@ mutual
       subst (Normal ctx (Ty.Mu b)) p.0 (n_mu (normal-yes (Kind.Star ∷ ctx) b Kind.Star p.1))
   normal-yes ctx (Ty.Lam j b) k e =
       let p = at_arrow-yes k (λ i l. kind_eq j i && is_normal (j ∷ ctx) b l) e in
-      let q = both-true (kind_eq j p.0) (is_normal (j ∷ ctx) b p.1) p.3 in
+      let q = and_parts (kind_eq j p.0) (is_normal (j ∷ ctx) b p.1) p.3 in
       subst (Normal ctx (Ty.Lam j b)) (ap (λ i. Kind.Arrow i p.1) (kind_eq-yes j p.0 q.0) ∙ p.2) (n_lam (normal-yes (j ∷ ctx) b p.1 q.1))
   normal-yes ctx (Ty.Apply f a) k e =
       let p = at_star-yes k (is_star (with_arg (neutral_kind ctx f) (is_normal ctx a))) e in
@@ -85,8 +81,8 @@ mutual
   normals-yes : (ctx : List Kind) (r : Row) → are_distinct r ≡ true → are_normal ctx r ≡ true → Normals ctx r
   normals-yes ctx Row.End d e = n_end
   normals-yes ctx (Row.More l t r) d e =
-      let p = both-true (is_fresh l r) (are_distinct r) d in
-      let q = both-true (is_normal ctx t Kind.Star) (are_normal ctx r) e in
+      let p = and_parts (is_fresh l r) (are_distinct r) d in
+      let q = and_parts (is_normal ctx t Kind.Star) (are_normal ctx r) e in
       n_more (fresh-sound l r p.0) (normal-yes ctx t Kind.Star q.0) (normals-yes ctx r p.1 q.1)
 
   neutral-yes : (ctx : List Kind) (t : Ty) (k : Kind) → neutral_kind ctx t ≡ Some k → Neutral ctx t k

@@ -1,20 +1,21 @@
 -- A type put in for a variable, and the type that is found, compared form by form.
 -- Main results: operators-same, operators-differ, parts-length.
-use Rattle.std.proofs.Common.{◌≡◌, ℕ, zero, suc, ◌+◌, ◌≤◌, ◌↔◌, Bool as Truth, true, false, IsTrue, List, length, refl, sym, ap, ap₂, subst, ◌∙◌}
+use Rattle.std.proofs.Common.{◌≡◌, ℕ, zero, suc, ◌+◌, ◌≤◌, ◌↔◌, Bool as Truth, true, false, IsTrue, List, length, sym, ap, ap₂, ◌∙◌}
 use Rattle.std.proofs.lemmas.List.{length-map}
 use Rattle.omega_kinds.specs.Kind.{Kind}
 use Rattle.omega_types.specs.Ty.{Ty}
 use Rattle.omega_types.specs.Inner.Bound.{bound_of}
 use Rattle.omega_types.specs.Fields.{Pairs, row}
-use Rattle.omega_types.specs.Index.{Slot, taken, kept, slot, shift}
-use Rattle.omega_types.specs.Normaliser.{Args, Part, stuck, whole, tree, apply_part, args, fill_part, hsubst, put_in, put_in_row}
+use Rattle.omega_types.specs.Index.{shift}
+use Rattle.omega_types.specs.Normaliser.{tree, args, hsubst, put_in, put_in_row}
 use Rattle.omega_types.specs.Substitution.{rename}
 use Rattle.omega_types.proofs.Steps.{map_parts}
-use Rattle.type_normal.proofs.FillSteps.{apply-star, put_in-unchanged, put_in-under, put_in-outermost, row-put_in}
+use Rattle.type_normal.proofs.FillSteps.{put_in-unchanged, put_in-under, put_in-outermost, row-put_in}
 use Rattle.type_store.specs.Shape.{Parts}
+use Rattle.type_store.specs.Inner.ShapeLaws.{no}
 use Rattle.type_store.specs.Trees.{row_at}
+use Rattle.type_store.proofs.FillSteps.{no-arrow, put-apply}
 use Rattle.type_store.proofs.PartSteps.{row_at-length}
-use Rattle.omega_node_laws.proofs.Trees.{no}
 
 -- a test of two types is one of two others that are the same
 pub same-if : {b : Truth} {s t u v : Ty} → (IsTrue b ↔ s ≡ t) → u ≡ s → v ≡ t → (IsTrue b ↔ u ≡ v)
@@ -25,7 +26,8 @@ pub unchanged : (k : Kind) (i : ℕ) (a t : Ty) → bound_of t ≤ i → tree (p
 unchanged k i a t h = ap tree (put_in-unchanged k (args k) i a t h)
 
 -- below one more binder the variable is one index further, and what is put in for it is raised by one more
-pub put-under : (k : Kind) (i depth n m : ℕ) (a t : Ty) → n ≡ i + 1 → m ≡ depth + 1 → tree (put_in k (args k) (suc i) (rename suc (shift depth 0 a)) t) ≡ tree (put_in k (args k) n (shift m 0 a) t)
+pub put-under : (k : Kind) (i depth n m : ℕ) (a t : Ty) → n ≡ i + 1 → m ≡ depth + 1
+    → tree (put_in k (args k) (suc i) (rename suc (shift depth 0 a)) t) ≡ tree (put_in k (args k) n (shift m 0 a) t)
 put-under k i depth n m a t e f = put_in-under k i depth a t ∙ ap₂ (λ p q. tree (put_in k (args k) p (shift q 0 a) t)) (sym e) (sym f)
 
 -- hereditary substitution for the innermost variable is putting in below no binder
@@ -33,46 +35,12 @@ pub put-outermost : (k : Kind) (a b t : Ty) → b ≡ a → hsubst k zero a t �
 put-outermost k a b t e = sym (ap (λ u. tree (put_in k (args k) zero (shift 0 0 u) t)) e ∙ put_in-outermost k zero a t)
 
 -- the parts of a numbered record stay as many
-pub parts-length : (k : Kind) (i : ℕ) (a : Ty) (xs : Pairs) (ts : List Ty) (parts : Parts) → put_in_row k (args k) i a (row xs) ≡ row_at ts parts → length xs ≡ length parts
+pub parts-length : (k : Kind) (i : ℕ) (a : Ty) (xs : Pairs) (ts : List Ty) (parts : Parts) → put_in_row k (args k) i a (row xs) ≡ row_at ts parts
+    → length xs ≡ length parts
 parts-length k i a xs ts parts h =
     sym (row_at-length ts parts (map_parts (hsubst k i a) xs) (sym (row-put_in k i a xs ∙ h)) ∙ length-map xs (λ x. (x.0, hsubst k i a x.1)))
 
 -- ---- the variable is no operator
-
--- what came in is of kind *
-abbrev AtStar : Part → Type 0
-AtStar (stuck t) = Unit {0}
-AtStar (whole t k A) = k ≡ Kind.Star
-
-no-arrow : {A : Type 0} {k l : Kind} → Kind.Arrow k l ≡ Kind.Star → A
-no-arrow {k = k} {l = l} e = absurd (let f : Kind.Arrow k l ≡ Kind.Star → ⊥ = λ p. cc in f e)
-
-applied : (p : Part) (a : Ty) → AtStar p → apply_part p a ≡ stuck (Ty.Apply (tree p) a)
-applied (stuck t) a h = refl
-applied (whole t Kind.Star A) a h = apply-star t A a
-applied (whole t (Kind.Arrow k l) A) a h = no-arrow h
-
-filled-star : (A : Args Kind.Star) (a : Ty) (s : Slot) → AtStar (fill_part Kind.Star A a s)
-filled-star A a taken = refl
-filled-star A a (kept n) = tt
-
-put-star : (A : Args Kind.Star) (i : ℕ) (a t : Ty) → AtStar (put_in Kind.Star A i a t)
-put-star A i a (Ty.Var j) = filled-star A a (slot i j)
-put-star A i a Ty.Int = tt
-put-star A i a Ty.Bool = tt
-put-star A i a Ty.Text = tt
-put-star A i a (Ty.Arrow s t) = tt
-put-star A i a (Ty.Fields row) = tt
-put-star A i a (Ty.Sum row) = tt
-put-star A i a (Ty.All k b) = tt
-put-star A i a (Ty.Ex k b) = tt
-put-star A i a (Ty.Mu b) = tt
-put-star A i a (Ty.Lam k b) = tt
-put-star A i a (Ty.Apply f t) =
-    subst AtStar (sym (applied (put_in Kind.Star A i a f) (tree (put_in Kind.Star A i a t)) (put-star A i a f))) tt
-
-put-apply : (A : Args Kind.Star) (i : ℕ) (a f t : Ty) → tree (put_in Kind.Star A i a (Ty.Apply f t)) ≡ Ty.Apply (tree (put_in Kind.Star A i a f)) (tree (put_in Kind.Star A i a t))
-put-apply A i a f t = ap tree (applied (put_in Kind.Star A i a f) (tree (put_in Kind.Star A i a t)) (put-star A i a f))
 
 operator : {a b c d : Ty} → Ty.Apply a b ≡ Ty.Apply c d → a ≡ c
 operator e = cc

@@ -24,7 +24,8 @@ nothing-is n p = cc
 module _ (z a : Scope) (e : Term) (t : Ty) (o : Option ℕ) (ks : z.kinds ≡ []) (vs : types_of z ≡ []) (w : Finds z a o (normal_at z.kinds t Kind.Star)) where
   -- the type has not kind *
   pub no-wanted : ((n : ℕ) → o ≡ Some n → ⊥) → HasType [] [] e t → ⊥
-  no-wanted f = unkinded e t None nothing-is (sym (ap (λ k. normal_at k t Kind.Star) (sym ks) ∙ no-number a.types o (normal_at z.kinds t Kind.Star) f w.is_number))
+  no-wanted f =
+      unkinded e t None nothing-is (sym (ap (λ k. normal_at k t Kind.Star) (sym ks) ∙ no-number a.types o (normal_at z.kinds t Kind.Star) f w.is_number))
 
   module _ (b : Scope) (p : Option ℕ) (s : Synthesises a b a.kinds (types_of a) e p) where
     found : synth_in a.kinds (types_of a) e ≡ synth_in [] [] e
@@ -43,7 +44,9 @@ module _ (z a : Scope) (e : Term) (t : Ty) (o : Option ℕ) (ks : z.kinds ≡ []
       wanted-below = below-grows n s.grows below
 
       wanted-is : Some (at b.types n) ≡ normal_at [] t Kind.Star
-      wanted-is = ap Some (begins-at a.types b.types n s.grows.begins below) ∙ (sym (type-some a.types o (normal_at z.kinds t Kind.Star) n w.is_number on) ∙ ap (λ k. normal_at k t Kind.Star) ks)
+      wanted-is =
+          ap Some (begins-at a.types b.types n s.grows.begins below) ∙
+          (sym (type-some a.types o (normal_at z.kinds t Kind.Star) n w.is_number on) ∙ ap (λ k. normal_at k t Kind.Star) ks)
 
       found-is : Some (at b.types m) ≡ synth_in [] [] e
       found-is = sym (type-some b.types p (synth_in a.kinds (types_of a) e) m s.is_number pm) ∙ found
@@ -58,4 +61,6 @@ module _ (z a : Scope) (e : Term) (t : Ty) (o : Option ℕ) (ks : z.kinds ≡ []
 
       -- where a term has the type that is wanted, the list has the types of all its nodes
       pub holds : HasType [] [] e t → HoldsNodeTypes b.types [] [] e
-      holds h = closed-nodes b.types e t h (subst (λ v. Held b.types [] v e) (w.grows.same_types ∙ vs) (subst (λ k. Held b.types k (types_of a) e) (w.grows.same_kinds ∙ ks) (s.held m pm)))
+      holds h =
+          closed-nodes b.types e t h (subst (λ v. Held b.types [] v e) (w.grows.same_types ∙ vs)
+          (subst (λ k. Held b.types k (types_of a) e) (w.grows.same_kinds ∙ ks) (s.held m pm)))

@@ -4,14 +4,12 @@ use Rattle.std.proofs.Common.{◌≡◌, ℕ, ◌<◌, List, Option, Some, slice
 use Rattle.omega_kinds.specs.Kind.{Kind}
 use Rattle.omega_types.specs.Ty.{Ty}
 use Rattle.omega_terms.specs.Term.{Term}
-use Rattle.type_store.specs.Numbers.{NumberOf}
 use Rattle.type_store.specs.Shape.{Shape, Parts}
 use Rattle.type_store.specs.Trees.{IsBelow, at, tree_at}
 use Rattle.type_store.proofs.TreeLaws.{parts_below-more}
 use Rattle.omega_node_laws.specs.Found.{synth_in}
-use Rattle.omega_node_laws.specs.Held.{Has, Held}
-use Rattle.omega_node_laws.specs.Scope.{Scope, types_of, IsIn, IsSum, Grows, Makes, Finds, Synthesises, FindsFunction, IsWithVar, IsWithType, IsLastType}
-use Rattle.omega_node_laws.proofs.ScopeSteps.{number-in, in-more, with-type-last}
+use Rattle.omega_node_laws.specs.Scope.{Scope, types_of, IsIn, IsSum, Grows, Finds, Synthesises}
+use Rattle.omega_node_laws.proofs.ScopeSteps.{number-in, in-more}
 use Rattle.omega_node_laws.proofs.SynthSteps.{has-number}
 
 -- ---- numbers are those of types
@@ -24,12 +22,6 @@ synth-in {b = b} {ks = ks} {vs = vs} {e = e} o s = number-in b.types o (synth_in
 pub find-in : {a b : Scope} {t : Option Ty} (o : Option ℕ) → Finds a b o t → IsIn b.types o
 find-in {b = b} {t = t} o s = number-in b.types o t s.is_number
 
-pub function-in : {a b : Scope} {f : ℕ} {e : Term} (o : Option ℕ) → FindsFunction a b f e o → IsIn b.types o
-function-in {b = b} o s = number-in b.types o _ s.is_number
-
-pub in-grows : {a b : Scope} (o : Option ℕ) → Grows a b → IsIn a.types o → IsIn b.types o
-in-grows {a} {b} o g h = in-more a.types b.types o g.begins h
-
 -- a number in the list is less than its length
 pub is-some : (ts : List Ty) (o : Option ℕ) (n : ℕ) → o ≡ Some n → IsIn ts o → n < length ts
 is-some ts o n e h = subst (IsIn ts) e h
@@ -37,15 +29,6 @@ is-some ts o n e h = subst (IsIn ts) e h
 -- a number stays below the length as the list grows
 pub below-grows : {a b : Scope} (n : ℕ) → Grows a b → n < length a.types → n < length b.types
 below-grows {a} {b} n g h = in-more a.types b.types (Some n) g.begins h
-
-pub below-var : {a b : Scope} {m : ℕ} (n : ℕ) → IsWithVar a b m → n < length a.types → n < length b.types
-below-var n w h = subst (λ ts. n < length ts) (sym w.same_types) h
-
-pub below-type : {a b : Scope} {k : Kind} (n : ℕ) → IsWithType a b k → n < length a.types → n < length b.types
-below-type n w h = subst (λ ts. n < length ts) (sym w.same_types) h
-
-pub synth-last : {a b c : Scope} {k : Kind} {ks : List Kind} {vs : List Ty} {e : Term} {o : Option ℕ} → IsWithType a b k → Synthesises b c ks vs e o → IsLastType c
-synth-last w s = with-type-last w s.grows
 
 -- ---- leaves
 
@@ -55,17 +38,17 @@ cast {z} {c} {ks} {vs} {o = o} p s = subst (λ e. Synthesises z c ks vs e o) p s
 
 -- the type of a term variable is the one that the context has
 pub var-done : {z c : Scope} {i : ℕ} {o : Option ℕ} → Finds z c o (slice_get (types_of z) i) → Synthesises z c z.kinds (types_of z) (Term.Var i) o
-var-done {z} {c} {i} {o} f = record { grows = f.grows; is_number = f.is_number; held = (λ n p. has-number c.types o (slice_get (types_of z) i) n f.is_number p) }
-
-pub leaf-done : {z c : Scope} {e : Term} {n : ℕ} (t : Ty) → synth_in z.kinds (types_of z) e ≡ Some t → (Has c.types (synth_in z.kinds (types_of z) e) → Held c.types z.kinds (types_of z) e) → Makes z c n t → Synthesises z c z.kinds (types_of z) e (Some n)
-leaf-done {z} {c} {e} {n} t p f m =
-    let number : NumberOf c.types (Some n) (synth_in z.kinds (types_of z) e) = subst (NumberOf c.types (Some n)) (sym p) m.holds in
-    record { grows = m.grows; is_number = number; held = (λ k q. f (record { number = n; is_number = number })) }
+var-done {z} {c} {i} {o} f = record {
+  grows = f.grows;
+  is_number = f.is_number;
+  held = (λ n p. has-number c.types o (slice_get (types_of z) i) n f.is_number p);
+}
 
 -- ---- sums
 
 -- the parts of a sum, from the form of its type
-pub sum-of : (ts : List Ty) (n : ℕ) (s : Shape) (parts copy : Parts) → n < length ts → s ≡ Shape.Sum parts → copy ≡ parts → IsBelow n s → tree_at ts s ≡ at ts n → IsSum ts n (Some copy)
+pub sum-of : (ts : List Ty) (n : ℕ) (s : Shape) (parts copy : Parts) → n < length ts → s ≡ Shape.Sum parts → copy ≡ parts → IsBelow n s → tree_at ts s ≡ at ts n
+    → IsSum ts n (Some copy)
 sum-of ts n s parts copy h e c b v =
     let below = subst (IsBelow n) e b in
     let same = parts_below-more n (length ts) parts (omega (arith, h)) below.0 in

@@ -20,7 +20,8 @@ kind-none None h = refl
 kind-none (Some k) h = absurd (h k refl)
 
 -- a kind that kinding gives, or none where it gives none, is what the recursion on types finds
-pub kind-is : (ctx : List Kind) (t : Ty) (o : Option SharedKind) → MatchOption o ((k : Kind) → HasKind ctx t k → ⊥) (λ k. HasKind ctx t (kind_tree k)) → option_map kind_tree o ≡ kind_in ctx t
+pub kind-is : (ctx : List Kind) (t : Ty) (o : Option SharedKind) → MatchOption o ((k : Kind) → HasKind ctx t k → ⊥) (λ k. HasKind ctx t (kind_tree k))
+    → option_map kind_tree o ≡ kind_in ctx t
 kind-is ctx t None h = kind-none (kind_in ctx t) (λ k e. h k (kind_in-sound ctx t k e))
 kind-is ctx t (Some k) h = sym (kind_in-complete h)
 
@@ -32,4 +33,5 @@ shift_all-append (x ∷ xs) ys = ap (λ zs. rename suc x ∷ zs) (shift_all-appe
 pub raised-vars : (xs : List Ty) → reverse (map (shift 1 0) xs) ≡ shift_all (reverse xs)
 raised-vars [] = refl
 raised-vars (x ∷ xs) =
-    reverse-append (shift 1 0 x ∷ []) (map (shift 1 0) xs) ∙ ((λ i. raised-vars xs i ++ (shift-suc x i ∷ [])) ∙ (sym (shift_all-append (reverse xs) (x ∷ [])) ∙ ap shift_all (sym (reverse-append (x ∷ []) xs))))
+    reverse-append (shift 1 0 x ∷ []) (map (shift 1 0) xs) ∙
+    ((λ i. raised-vars xs i ++ (shift-suc x i ∷ [])) ∙ (sym (shift_all-append (reverse xs) (x ∷ [])) ∙ ap shift_all (sym (reverse-append (x ∷ []) xs))))

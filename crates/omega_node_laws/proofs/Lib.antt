@@ -5,12 +5,10 @@ pub mod Inverted
 pub mod Exact
 pub mod HeldMore
 pub mod NodesHeld
-pub mod Agreement
 pub mod ScopeSteps
 pub mod SynthSteps
 pub mod BinderSteps
 pub mod BranchSteps
 pub mod CodeSteps
-pub mod FormSteps
 pub mod WholeSteps
 pub mod CheckSteps

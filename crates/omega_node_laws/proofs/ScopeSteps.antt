@@ -1,6 +1,7 @@
 -- What stays as a scope grows, and what a binder takes is what it gave.
 -- Main results: number-in, at-more, grows-then, wrapped, var-at.
-use Rattle.std.proofs.Common.{◌≡◌, ℕ, zero, suc, ◌+◌, ◌-◌, ◌<◌, ◌≤◌, List, [], ◌∷◌, ◌++◌, Option, Some, None, All, length, map, reverse, take, slice_get, get_or, IsTrue, ◌↔◌, Bool as Truth, refl, sym, ap, ap₂, ◌∙◌, subst, arith, true, if◌then◌else◌, false}
+use Rattle.std.proofs.Common.{◌≡◌, ℕ, zero, suc, ◌+◌, ◌-◌, ◌<◌, ◌≤◌, List, [], ◌∷◌, ◌++◌, Option, Some, None, All, length, map, reverse, take, slice_get}
+use Rattle.std.proofs.Common.{get_or, IsTrue, ◌↔◌, Bool as Truth, refl, sym, ap, ap₂, ◌∙◌, subst, arith, true, if◌then◌else◌, false}
 use Rattle.std.proofs.lemmas.List.{reverse-append, map-append, length-append, length-map, length-reverse, get_or-map, get_or-reverse}
 use Rattle.std.proofs.lemmas.Option.{slice_get_past}
 use Rattle.std.proofs.Math.Seq.{take-append_seam}
@@ -13,10 +14,12 @@ use Rattle.omega_terms.specs.Typing.{shift_all}
 use Rattle.type_store.specs.Numbers.{NumberOf}
 use Rattle.type_store.specs.Trees.{Begins, Holds, at}
 use Rattle.type_store.proofs.TreeLaws.{begins-itself, begins-then, begins-length, begins-at}
-use Rattle.omega_node_laws.specs.Scope.{Scope, AreBound, type_under, types_of, IsIn, type_at, Grows, IsWithVar, IsWithoutVar, IsWithType, IsLastType, IsWithoutType, Makes, Finds}
+use Rattle.omega_node_laws.specs.Scope.{Scope, AreBound, type_under, types_of, IsIn, type_at, Grows, IsWithVar, IsWithoutVar, IsWithType, IsWithoutType, Makes}
+use Rattle.omega_node_laws.specs.Scope.{Finds}
 use Rattle.omega_node_laws.specs.Found.{if_same}
 use Rattle.omega_node_laws.specs.SameTy.{same_ty}
 use Rattle.omega_node_laws.proofs.ForCode.{raised-vars}
+use Rattle.omega_node_laws.proofs.Inverted.{none-some}
 use Rattle.omega_node_laws.proofs.Trees.{test-is}
 
 -- ---- numbers that may be missing
@@ -45,14 +48,9 @@ pub at-more : (ts us : List Ty) (o : Option ℕ) → Begins ts us → IsIn ts o 
 at-more ts us None b h = refl
 at-more ts us (Some n) b h = ap Some (begins-at ts us n b h)
 
--- a number in a list is that of the type there
-pub number-of-in : (ts : List Ty) (o : Option ℕ) → IsIn ts o → NumberOf ts o (type_at ts o)
-number-of-in ts None h = tt
-number-of-in ts (Some n) h = record { within = h; value = refl }
-
 -- where there is a type, it has a number
 pub number-some : (ts : List Ty) (o : Option ℕ) (t : Option Ty) (u : Ty) → NumberOf ts o t → t ≡ Some u → (n : ℕ) × (o ≡ Some n)
-number-some ts None None u h e = absurd (let f : None ≡ Some u → ⊥ = λ p. cc in f e)
+number-some ts None None u h e = none-some e
 number-some ts None (Some t) u h e = absurd h
 number-some ts (Some n) t u h e = (n, refl)
 
@@ -65,22 +63,21 @@ type-some ts o t n h e = sym (number-at ts o t h) ∙ ap (type_at ts) e
 under-more : (ts us : List Ty) (d : ℕ) (xs : List (ℕ × ℕ)) → Begins ts us → All (λ x. x.0 < length ts) xs → map (type_under us d) xs ≡ map (type_under ts d) xs
 under-more ts us d [] b h = refl
 under-more ts us d (x ∷ xs) b h =
-    ap₂ (λ t rest. t ∷ rest) (ap (shift (d - x.1) 0) (begins-at ts us x.0 b (h zero x (omega arith)))) (under-more ts us d xs b (λ k y l. h (suc k) y (omega (arith, l))))
+    ap₂ (λ t rest. t ∷ rest) (ap (shift (d - x.1) 0) (begins-at ts us x.0 b (h zero x (omega arith))))
+    (under-more ts us d xs b (λ k y l. h (suc k) y (omega (arith, l))))
 
 same-scope : (s r : Scope) → s.depth ≡ r.depth → s.vars ≡ r.vars → s.types ≡ r.types → types_of s ≡ types_of r
 unfolding types_of
 same-scope s r d v t = λ i. reverse (map (type_under (t i) (d i)) (v i))
 
-more-types : (s : Scope) (us : List Ty) → Begins s.types us → All (λ x. x.0 < length s.types) s.vars → types_of (record { types = us; kinds = s.kinds; depth = s.depth; vars = s.vars }) ≡ types_of s
+more-types : (s : Scope) (us : List Ty) → Begins s.types us → All (λ x. x.0 < length s.types) s.vars
+    → types_of (record { types = us; kinds = s.kinds; depth = s.depth; vars = s.vars }) ≡ types_of s
 unfolding types_of
 more-types s us b h = ap reverse (under-more s.types us s.depth s.vars b h)
 
-pub bound-more : (ts us : List Ty) (d : ℕ) (xs : List (ℕ × ℕ)) → Begins ts us → AreBound (length ts) d xs → AreBound (length us) d xs
-bound-more ts us d xs b h =
-    record { numbers = (λ k x l. let p = h.numbers k x l in let q = begins-length ts us b in omega (arith, p, q)); depths = h.depths }
-
 -- more types, and the same variables
-pub grows-of : {old new : Scope} → Begins old.types new.types → All (λ x. x.0 < length old.types) old.vars → new.kinds ≡ old.kinds → new.depth ≡ old.depth → new.vars ≡ old.vars → Grows old new
+pub grows-of : {old new : Scope} → Begins old.types new.types → All (λ x. x.0 < length old.types) old.vars → new.kinds ≡ old.kinds → new.depth ≡ old.depth
+    → new.vars ≡ old.vars → Grows old new
 grows-of {old} {new} b h k d v =
     record {
       begins = b;
@@ -113,7 +110,8 @@ under-none ts d n = ap (λ m. shift m 0 (at ts n)) (none d) ∙ shift-zero 0 (at
     none : (m : ℕ) → m - m ≡ 0
     none m = omega arith
 
-types-var : (s : Scope) (n : ℕ) → types_of (record { types = s.types; kinds = s.kinds; depth = s.depth; vars = s.vars ++ (n, s.depth) ∷ [] }) ≡ at s.types n ∷ types_of s
+types-var : (s : Scope) (n : ℕ)
+    → types_of (record { types = s.types; kinds = s.kinds; depth = s.depth; vars = s.vars ++ (n, s.depth) ∷ [] }) ≡ at s.types n ∷ types_of s
 unfolding types_of
 types-var s n =
     ap reverse (map-append (type_under s.types s.depth) s.vars ((n, s.depth) ∷ [])) ∙
@@ -123,7 +121,8 @@ types-var s n =
 -- one more term variable stands before the types of the others
 pub with-var-types : {old new : Scope} {n : ℕ} → IsWithVar old new n → types_of new ≡ at old.types n ∷ types_of old
 with-var-types {old} {new} {n} w =
-    same-scope new (record { types = old.types; kinds = old.kinds; depth = old.depth; vars = old.vars ++ (n, old.depth) ∷ [] }) w.same_depth w.more_vars w.same_types ∙ types-var old n
+    let whole : Scope = record { types = old.types; kinds = old.kinds; depth = old.depth; vars = old.vars ++ (n, old.depth) ∷ [] } in
+    same-scope new whole w.same_depth w.more_vars w.same_types ∙ types-var old n
 
 last-off : {A : Type 0} (xs : List A) (x : A) → take (length (xs ++ x ∷ []) - 1) (xs ++ x ∷ []) ≡ xs
 last-off xs x = ap (λ n. take n (xs ++ x ∷ [])) (less (length xs) (length (xs ++ x ∷ [])) (length-append xs (x ∷ []))) ∙ take-append_seam xs (x ∷ [])
@@ -134,7 +133,8 @@ last-off xs x = ap (λ n. take n (xs ++ x ∷ [])) (less (length xs) (length (xs
 -- a variable came, types were found, and the variable went
 pub var-back : {a b c d : Scope} {n : ℕ} → IsWithVar a b n → Grows b c → IsWithoutVar c d → Grows a d
 var-back {a} {b} {c} {d} {n} w g o =
-    grows-of {old = a} {new = d} (subst (Begins a.types) (sym o.same_types) (subst (λ ts. Begins ts c.types) w.same_types g.begins)) w.bound.numbers (o.same_kinds ∙ (g.same_kinds ∙ w.same_kinds)) (o.same_depth ∙ (g.same_depth ∙ w.same_depth))
+    grows-of {old = a} {new = d} (subst (Begins a.types) (sym o.same_types) (subst (λ ts. Begins ts c.types) w.same_types g.begins)) w.bound.numbers
+    (o.same_kinds ∙ (g.same_kinds ∙ w.same_kinds)) (o.same_depth ∙ (g.same_depth ∙ w.same_depth))
     (o.less_vars ∙ (ap (λ xs. take (length xs - 1) xs) (g.same_vars ∙ w.more_vars) ∙ last-off a.vars (n, a.depth)))
 
 under-one : (ts : List Ty) (d : ℕ) (x : ℕ × ℕ) → x.1 ≤ d → type_under ts (d + 1) x ≡ shift 1 0 (type_under ts d x)
@@ -147,31 +147,22 @@ map-under : (ts : List Ty) (d : ℕ) (xs : List (ℕ × ℕ)) → All (λ x. x.1
 map-under ts d [] h = refl
 map-under ts d (x ∷ xs) h = ap₂ (λ t rest. t ∷ rest) (under-one ts d x (h zero x (omega arith))) (map-under ts d xs (λ k y l. h (suc k) y (omega (arith, l))))
 
-types-type : (s : Scope) (ks : List Kind) → All (λ x. x.1 ≤ s.depth) s.vars → types_of (record { types = s.types; kinds = ks; depth = s.depth + 1; vars = s.vars }) ≡ shift_all (types_of s)
+types-type : (s : Scope) (ks : List Kind) → All (λ x. x.1 ≤ s.depth) s.vars
+    → types_of (record { types = s.types; kinds = ks; depth = s.depth + 1; vars = s.vars }) ≡ shift_all (types_of s)
 unfolding types_of
 types-type s ks h = ap reverse (map-under s.types s.depth s.vars h) ∙ raised-vars (map (type_under s.types s.depth) s.vars)
 
 -- one more type variable shifts the types of the term variables
 pub with-type-types : {old new : Scope} {k : Kind} → IsWithType old new k → types_of new ≡ shift_all (types_of old)
 with-type-types {old} {new} {k} w =
-    same-scope new (record { types = old.types; kinds = new.kinds; depth = old.depth + 1; vars = old.vars }) w.more_depth w.same_vars w.same_types ∙ types-type old new.kinds w.bound.depths
-
--- in a scope that has grown from one with a type variable more, this variable is the last one
-pub with-type-last : {a b c : Scope} {k : Kind} → IsWithType a b k → Grows b c → IsLastType c
-with-type-last {a} {b} {c} {k} w g =
-    let d = g.same_depth ∙ w.more_depth in
-    record {
-      kind = k;
-      kinds = a.kinds;
-      some_kinds = g.same_kinds ∙ w.more_kinds;
-      some_depth = omega (arith, d);
-      bound = subst (λ xs. All (λ x. x.1 ≤ c.depth - 1) xs) (sym (g.same_vars ∙ w.same_vars)) (λ i x l. let p = w.bound.depths i x l in let q = d in omega (arith, p, q));
-    }
+    let whole : Scope = record { types = old.types; kinds = new.kinds; depth = old.depth + 1; vars = old.vars } in
+    same-scope new whole w.more_depth w.same_vars w.same_types ∙ types-type old new.kinds w.bound.depths
 
 -- a type variable came, types were found, and the variable went
 pub type-back : {a b c d : Scope} {k : Kind} → IsWithType a b k → Grows b c → IsWithoutType c d → Grows a d
 type-back {a} {b} {c} {d} {k} w g o =
-    grows-of {old = a} {new = d} (subst (Begins a.types) (sym o.same_types) (subst (λ ts. Begins ts c.types) w.same_types g.begins)) w.bound.numbers (o.less_kinds k a.kinds (g.same_kinds ∙ w.more_kinds))
+    grows-of {old = a} {new = d} (subst (Begins a.types) (sym o.same_types) (subst (λ ts. Begins ts c.types) w.same_types g.begins)) w.bound.numbers
+    (o.less_kinds k a.kinds (g.same_kinds ∙ w.more_kinds))
     (o.less_depth ∙ (ap (λ n. n - 1) (g.same_depth ∙ w.more_depth) ∙ back a.depth)) (o.same_vars ∙ (g.same_vars ∙ w.same_vars))
   where
     back : (n : ℕ) → n + 1 - 1 ≡ n
@@ -180,44 +171,55 @@ type-back {a} {b} {c} {d} {k} w g o =
 -- ---- for the code, whose scope is seen as `s`
 
 -- a type made in the list of a scope is made in the scope
-pub wrapped : {s : Scope} (f : List Ty → Ty) (ts us : List Ty) (ks : List Kind) (d : ℕ) (xs : List (ℕ × ℕ)) (n : ℕ) → record { types = ts; kinds = ks; depth = d; vars = xs } ≡ s → AreBound (length ts) d xs → Begins ts us → Holds us n (f ts)
+pub wrapped : {s : Scope} (f : List Ty → Ty) (ts us : List Ty) (ks : List Kind) (d : ℕ) (xs : List (ℕ × ℕ)) (n : ℕ)
+    → record { types = ts; kinds = ks; depth = d; vars = xs } ≡ s → AreBound (length ts) d xs → Begins ts us → Holds us n (f ts)
     → Makes s (record { types = us; kinds = ks; depth = d; vars = xs }) n (f s.types)
 wrapped f ts us ks d xs n e h b k =
-    subst (λ s. Makes s (record { types = us; kinds = ks; depth = d; vars = xs }) n (f s.types)) e (record { grows = grows-of {old = record { types = ts; kinds = ks; depth = d; vars = xs }} {new = record { types = us; kinds = ks; depth = d; vars = xs }} b h.numbers refl refl refl; holds = k })
+    let old : Scope = record { types = ts; kinds = ks; depth = d; vars = xs } in
+    let new : Scope = record { types = us; kinds = ks; depth = d; vars = xs } in
+    let grown : Grows old new = grows-of {old = old} {new = new} b h.numbers refl refl refl in
+    subst (λ s. Makes s new n (f s.types)) e (record { grows = grown; holds = k })
 
 -- a type found in the list of a scope is found in the scope
-pub wrapped-find : {s : Scope} (f : Scope → Option Ty) (ts us : List Ty) (ks : List Kind) (d : ℕ) (xs : List (ℕ × ℕ)) (o : Option ℕ) → record { types = ts; kinds = ks; depth = d; vars = xs } ≡ s → AreBound (length ts) d xs → Begins ts us
+pub wrapped-find : {s : Scope} (f : Scope → Option Ty) (ts us : List Ty) (ks : List Kind) (d : ℕ) (xs : List (ℕ × ℕ)) (o : Option ℕ)
+    → record { types = ts; kinds = ks; depth = d; vars = xs } ≡ s → AreBound (length ts) d xs → Begins ts us
     → NumberOf us o (f (record { types = ts; kinds = ks; depth = d; vars = xs })) → Finds s (record { types = us; kinds = ks; depth = d; vars = xs }) o (f s)
 wrapped-find f ts us ks d xs o e h b k =
-    subst (λ s. Finds s (record { types = us; kinds = ks; depth = d; vars = xs }) o (f s)) e (record { grows = grows-of {old = record { types = ts; kinds = ks; depth = d; vars = xs }} {new = record { types = us; kinds = ks; depth = d; vars = xs }} b h.numbers refl refl refl; is_number = k })
+    let old : Scope = record { types = ts; kinds = ks; depth = d; vars = xs } in
+    let new : Scope = record { types = us; kinds = ks; depth = d; vars = xs } in
+    let grown : Grows old new = grows-of {old = old} {new = new} b h.numbers refl refl refl in
+    subst (λ s. Finds s new o (f s)) e (record { grows = grown; is_number = k })
 
 -- where there is no type, none is found, and the scope stays
 pub found-none : {s : Scope} (t : Option Ty) → t ≡ None → Finds s s None t
 found-none {s} None e = record { grows = grows-itself s; is_number = tt }
-found-none {s} (Some t) e = absurd (let f : Some t ≡ None → ⊥ = λ p. cc in f e)
-
-pub found-some : {s : Scope} (n : ℕ) (t : Option Ty) → n < length s.types → Some (at s.types n) ≡ t → Finds s s (Some n) t
-found-some {s} n t h e = record { grows = grows-itself s; is_number = subst (NumberOf s.types (Some n)) e (record { within = h; value = refl }) }
+found-none {s} (Some t) e = none-some (sym e)
 
 tree-of : (b : Truth) (s t : Ty) → (IsTrue b ↔ s ≡ t) → b ≡ same_ty t s
 tree-of b s t h = test-is b t s (λ p. sym (h.0 p), λ p. h.1 (sym p))
 
 -- the test of the list for a type is the test for sameness
-pub tree-test : {s : Scope} (ts : List Ty) (ks : List Kind) (d : ℕ) (xs : List (ℕ × ℕ)) (n : ℕ) (t : Ty) (b : Truth) → record { types = ts; kinds = ks; depth = d; vars = xs } ≡ s → (IsTrue b ↔ at ts n ≡ t) → b ≡ same_ty t (at s.types n)
+pub tree-test : {s : Scope} (ts : List Ty) (ks : List Kind) (d : ℕ) (xs : List (ℕ × ℕ)) (n : ℕ) (t : Ty) (b : Truth)
+    → record { types = ts; kinds = ks; depth = d; vars = xs } ≡ s → (IsTrue b ↔ at ts n ≡ t) → b ≡ same_ty t (at s.types n)
 tree-test ts ks d xs n t b e h = subst (λ s. b ≡ same_ty t (at s.types n)) e (tree-of b (at ts n) t h)
 
 -- the test of the list for two numbers is the test for sameness of their types
-pub same-test : {s : Scope} (ts : List Ty) (ks : List Kind) (d : ℕ) (xs : List (ℕ × ℕ)) (m n : ℕ) (b : Truth) → record { types = ts; kinds = ks; depth = d; vars = xs } ≡ s → (IsTrue b ↔ at ts m ≡ at ts n) → b ≡ same_ty (at s.types m) (at s.types n)
+pub same-test : {s : Scope} (ts : List Ty) (ks : List Kind) (d : ℕ) (xs : List (ℕ × ℕ)) (m n : ℕ) (b : Truth)
+    → record { types = ts; kinds = ks; depth = d; vars = xs } ≡ s → (IsTrue b ↔ at ts m ≡ at ts n) → b ≡ same_ty (at s.types m) (at s.types n)
 same-test ts ks d xs m n b e h = subst (λ s. b ≡ same_ty (at s.types m) (at s.types n)) e (test-is b (at ts m) (at ts n) h)
 
 -- the test of the list for a type put in is the test for sameness
-pub filled-test : {s : Scope} (ts : List Ty) (ks : List Kind) (d : ℕ) (xs : List (ℕ × ℕ)) (inner hidden whole : ℕ) (b : Truth) → record { types = ts; kinds = ks; depth = d; vars = xs } ≡ s
-    → (IsTrue b ↔ hsubst Kind.Star 0 (at ts hidden) (at ts inner) ≡ at ts whole) → b ≡ same_ty (hsubst Kind.Star 0 (at s.types hidden) (at s.types inner)) (at s.types whole)
+pub filled-test : {s : Scope} (ts : List Ty) (ks : List Kind) (d : ℕ) (xs : List (ℕ × ℕ)) (inner hidden whole : ℕ) (b : Truth)
+    → record { types = ts; kinds = ks; depth = d; vars = xs } ≡ s
+    → (IsTrue b ↔ hsubst Kind.Star 0 (at ts hidden) (at ts inner) ≡ at ts whole)
+    → b ≡ same_ty (hsubst Kind.Star 0 (at s.types hidden) (at s.types inner)) (at s.types whole)
 filled-test ts ks d xs inner hidden whole b e h =
-    subst (λ s. b ≡ same_ty (hsubst Kind.Star 0 (at s.types hidden) (at s.types inner)) (at s.types whole)) e (test-is b (hsubst Kind.Star 0 (at ts hidden) (at ts inner)) (at ts whole) h)
+    subst (λ s. b ≡ same_ty (hsubst Kind.Star 0 (at s.types hidden) (at s.types inner)) (at s.types whole)) e
+    (test-is b (hsubst Kind.Star 0 (at ts hidden) (at ts inner)) (at ts whole) h)
 
 -- the test of the numbers is the one of the types that were put
-packed-test : {a b c : Scope} (k : Kind) (h i body : ℕ) (hidden inner : Ty) (t : Truth) → k ≡ Kind.Star → body < length a.types → Makes a b h hidden → Makes b c i inner
+packed-test : {a b c : Scope} (k : Kind) (h i body : ℕ) (hidden inner : Ty) (t : Truth) → k ≡ Kind.Star → body < length a.types → Makes a b h hidden
+    → Makes b c i inner
     → t ≡ same_ty (hsubst Kind.Star 0 (at c.types h) (at c.types i)) (at c.types body) → same_ty (hsubst k 0 hidden inner) (at a.types body) ≡ t
 packed-test {a} {b} {c} k h i body hidden inner t star w m l test =
     let x : hidden ≡ at c.types h = sym (begins-at b.types c.types h l.grows.begins m.holds.within ∙ m.holds.value) in
@@ -226,7 +228,8 @@ packed-test {a} {b} {c} k h i body hidden inner t star w m l test =
     (λ o. same_ty (hsubst (star o) 0 (x o) (y o)) (z o)) ∙ sym test
 
 -- a package whose body is what stands below the binder, with the hidden type put in
-pub packed-finds : {a b c d : Scope} (j k : Kind) (h i n body : ℕ) (hidden inner : Ty) (t : Truth) → k ≡ Kind.Star → j ≡ k → body < length a.types → Makes a b h hidden → Makes b c i inner
+pub packed-finds : {a b c d : Scope} (j k : Kind) (h i n body : ℕ) (hidden inner : Ty) (t : Truth) → k ≡ Kind.Star → j ≡ k → body < length a.types
+    → Makes a b h hidden → Makes b c i inner
     → t ≡ same_ty (hsubst Kind.Star 0 (at c.types h) (at c.types i)) (at c.types body) → t ≡ true → Makes c d n (Ty.Ex j (at c.types i))
     → Finds a d (Some n) (if_same (Ty.Ex k inner) (Some (hsubst k 0 hidden inner)) (Some (at a.types body)))
 packed-finds {a} {b} {c} {d} j k h i n body hidden inner t star same w m l test holds made = record {
@@ -237,12 +240,14 @@ packed-finds {a} {b} {c} {d} j k h i n body hidden inner t star same w m l test 
 }
 
 -- and one whose body is not
-pub packed-none : {a b c : Scope} (k : Kind) (h i body : ℕ) (hidden inner : Ty) (t : Truth) → k ≡ Kind.Star → body < length a.types → Makes a b h hidden → Makes b c i inner
+pub packed-none : {a b c : Scope} (k : Kind) (h i body : ℕ) (hidden inner : Ty) (t : Truth) → k ≡ Kind.Star → body < length a.types → Makes a b h hidden
+    → Makes b c i inner
     → t ≡ same_ty (hsubst Kind.Star 0 (at c.types h) (at c.types i)) (at c.types body) → t ≡ false
     → Finds a c None (if_same (Ty.Ex k inner) (Some (hsubst k 0 hidden inner)) (Some (at a.types body)))
 packed-none {a} {b} {c} k h i body hidden inner t star w m l test fails = record {
   grows = grows-then m.grows l.grows;
-  is_number = subst (λ p. NumberOf c.types None (if p then Some (Ty.Ex k inner) else None)) (sym (packed-test k h i body hidden inner t star w m l test ∙ fails)) tt;
+  is_number =
+      subst (λ p. NumberOf c.types None (if p then Some (Ty.Ex k inner) else None)) (sym (packed-test k h i body hidden inner t star w m l test ∙ fails)) tt;
 }
 
 -- ---- a variable that is used
@@ -253,7 +258,8 @@ place (y ∷ xs) zero x h e = ap Some e
 place (y ∷ xs) (suc i) x h e = place xs i x (omega (arith, h)) e
 
 -- a term variable has the type that the scope notes, seen past the type variables since
-pub var-at : (s : Scope) (i : ℕ) (x : ℕ × ℕ) → i < length s.vars → x ≡ get_or s.vars (length s.vars - 1 - i) x → Some (type_under s.types s.depth x) ≡ slice_get (types_of s) i
+pub var-at : (s : Scope) (i : ℕ) (x : ℕ × ℕ) → i < length s.vars → x ≡ get_or s.vars (length s.vars - 1 - i) x
+    → Some (type_under s.types s.depth x) ≡ slice_get (types_of s) i
 unfolding types_of
 var-at s i x h at-x =
     let g = type_under s.types s.depth in
@@ -261,7 +267,9 @@ var-at s i x h at-x =
     let ts = map g s.vars in
     let n = length-map s.vars g in
     let inside : i < length ts = subst (λ m. i < m) (sym n) h in
-    let q = get_or-reverse ts i t inside ∙ (ap (λ m. get_or ts (m - 1 - i) t) n ∙ (get_or-map g s.vars (length s.vars - 1 - i) x t (omega (arith, h)) ∙ ap g (sym at-x))) in
+    let q =
+    get_or-reverse ts i t inside ∙ (ap (λ m. get_or ts (m - 1 - i) t) n ∙
+    (get_or-map g s.vars (length s.vars - 1 - i) x t (omega (arith, h)) ∙ ap g (sym at-x))) in
     place (reverse ts) i t (subst (λ m. i < m) (sym (length-reverse ts)) inside) (sym q)
 
 -- an index past the variables of a scope has no type

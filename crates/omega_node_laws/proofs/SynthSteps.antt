@@ -21,25 +21,27 @@ pub has-number : (ts : List Ty) (o : Option ℕ) (s : Option Ty) (n : ℕ) → N
 has-number ts o s n h e = record { number = n; is_number = subst (λ p. NumberOf ts p s) e h }
 
 -- seen from an earlier scope to a later one
-pub moved : {z a b c : Scope} {e : Term} {o : Option ℕ} → Grows z a → Synthesises a b a.kinds (types_of a) e o → Grows b c → Synthesises z c z.kinds (types_of z) e o
+pub moved : {z a b c : Scope} {e : Term} {o : Option ℕ} → Grows z a → Synthesises a b a.kinds (types_of a) e o → Grows b c
+    → Synthesises z c z.kinds (types_of z) e o
 moved {z} {a} {b} {c} {e} {o} g s h =
     let ks = g.same_kinds in
     let vs = g.same_types in
     record {
       grows = grows-then g (grows-then s.grows h);
-      is_number = subst (NumberOf c.types o) (ap₂ (λ k v. synth_in k v e) ks vs) (number-more b.types c.types o (synth_in a.kinds (types_of a) e) h.begins s.is_number);
-      held = (λ n p. subst (λ k. Held c.types k (types_of z) e) ks (subst (λ v. Held c.types a.kinds v e) vs (held-more b.types c.types h.begins a.kinds (types_of a) e (s.held n p))));
+      is_number =
+          subst (NumberOf c.types o) (ap₂ (λ k v. synth_in k v e) ks vs) (number-more b.types c.types o (synth_in a.kinds (types_of a) e) h.begins s.is_number);
+      held =
+          (λ n p. subst (λ k. Held c.types k (types_of z) e) ks
+          (subst (λ v. Held c.types a.kinds v e) vs (held-more b.types c.types h.begins a.kinds (types_of a) e (s.held n p))));
     }
-
-pub moved-find : {z a b c : Scope} {o : Option ℕ} {t : Option Ty} → Grows z a → Finds a b o t → Grows b c → Finds z c o t
-moved-find {z} {a} {b} {c} {o} {t} g s h = record { grows = grows-then g (grows-then s.grows h); is_number = number-more b.types c.types o t h.begins s.is_number }
 
 -- the type that the number stands for
 pub at-number : {a b : Scope} {ks : List Kind} {vs : List Ty} {e : Term} {o : Option ℕ} → Synthesises a b ks vs e o → type_at b.types o ≡ synth_in ks vs e
 at-number {a} {b} {ks} {vs} {e} {o} s = number-at b.types o (synth_in ks vs e) s.is_number
 
 -- what is held, where there is a type
-pub held-some : {a b : Scope} {ks : List Kind} {vs : List Ty} {e : Term} {o : Option ℕ} (t : Ty) → Synthesises a b ks vs e o → synth_in ks vs e ≡ Some t → Held b.types ks vs e
+pub held-some : {a b : Scope} {ks : List Kind} {vs : List Ty} {e : Term} {o : Option ℕ} (t : Ty) → Synthesises a b ks vs e o → synth_in ks vs e ≡ Some t
+    → Held b.types ks vs e
 held-some {a} {b} {ks} {vs} {e} {o} t s p = let n = number-some b.types o (synth_in ks vs e) t s.is_number p in s.held n.0 n.1
 
 -- what holds where there is a type, of a term with a number
@@ -84,21 +86,29 @@ module _ (z y c : Scope) (e : Term) (o p : Option ℕ) (s : Synthesises z y z.ki
 
 -- ---- a named type and one part
 
-module _ (z x y c : Scope) (e : Term) (t : Ty) (m o p : Option ℕ) (a : Finds z x m (normal_at z.kinds t Kind.Star)) (b : Synthesises x y x.kinds (types_of x) e o) where
+module _ (z x y c : Scope) (e : Term) (t : Ty) (m o p : Option ℕ) (a : Finds z x m (normal_at z.kinds t Kind.Star))
+    (b : Synthesises x y x.kinds (types_of x) e o) where
   part : Synthesises z y z.kinds (types_of z) e o
-  part = record { grows = grows-then a.grows b.grows; is_number = subst (NumberOf y.types o) (ap₂ (λ k v. synth_in k v e) a.grows.same_kinds (a.grows.same_types)) b.is_number; held = (λ n q. subst (λ k. Held y.types k (types_of z) e) a.grows.same_kinds (subst (λ v. Held y.types x.kinds v e) (a.grows.same_types) (b.held n q))) }
+  part = record {
+    grows = grows-then a.grows b.grows;
+    is_number = subst (NumberOf y.types o) (ap₂ (λ k v. synth_in k v e) a.grows.same_kinds (a.grows.same_types)) b.is_number;
+    held = (λ n q. subst (λ k. Held y.types k (types_of z) e) a.grows.same_kinds (subst (λ v. Held y.types x.kinds v e) (a.grows.same_types) (b.held n q)));
+  }
 
   named : type_at y.types m ≡ normal_at z.kinds t Kind.Star
   named = number-at y.types m (normal_at z.kinds t Kind.Star) (number-more x.types y.types m (normal_at z.kinds t Kind.Star) b.grows.begins a.is_number)
 
   -- the type of an injection, from that of its value and the one that is written
-  pub inj-done : (l : Label) → Grows y c → NumberOf c.types p (inj_type l (type_at y.types m) (type_at y.types o)) → Synthesises z c z.kinds (types_of z) (Term.Inj l e t) p
+  pub inj-done : (l : Label) → Grows y c → NumberOf c.types p (inj_type l (type_at y.types m) (type_at y.types o))
+      → Synthesises z c z.kinds (types_of z) (Term.Inj l e t) p
   inj-done l g f =
       let n = subst (NumberOf c.types p) (ap₂ (inj_type l) named (at-number part)) f in
       record {
         grows = grows-then part.grows g;
         is_number = n;
-        held = with-parts _ n (λ u q. held-more y.types c.types g.begins z.kinds (types_of z) e (let r = inj-yes l (normal_at z.kinds t Kind.Star) (synth_in z.kinds (types_of z) e) u q in held-some r.1 part r.4));
+        held =
+            with-parts _ n (λ u q. held-more y.types c.types g.begins z.kinds (types_of z) e
+            (let r = inj-yes l (normal_at z.kinds t Kind.Star) (synth_in z.kinds (types_of z) e) u q in held-some r.1 part r.4));
       }
 
   -- the type of a rolled value, from that of its value and the one that is written
@@ -108,5 +118,7 @@ module _ (z x y c : Scope) (e : Term) (t : Ty) (m o p : Option ℕ) (a : Finds z
       record {
         grows = grows-then part.grows f.grows;
         is_number = n;
-        held = with-parts _ n (λ u q. held-more y.types c.types f.grows.begins z.kinds (types_of z) e (let r = roll-yes (normal_at z.kinds t Kind.Star) (synth_in z.kinds (types_of z) e) u q in held-some _ part r.2));
+        held =
+            with-parts _ n (λ u q. held-more y.types c.types f.grows.begins z.kinds (types_of z) e
+            (let r = roll-yes (normal_at z.kinds t Kind.Star) (synth_in z.kinds (types_of z) e) u q in held-some _ part r.2));
       }

@@ -1,5 +1,5 @@
 -- What a substitution does at each form of a numbered type.
--- Main results: put-apply, filled_apply, filled_all, row-filled.
+-- Main results: put-apply, fills-apply, fills-all, row-filled.
 use Rattle.std.proofs.Common.{◌≡◌, ℕ, suc, ◌+◌, ◌-◌, ◌<◌, ◌≤◌, List, [], ◌∷◌, length, refl, sym, ap, ap₂, subst, ◌∙◌}
 use Rattle.omega_kinds.specs.Kind.{Kind}
 use Rattle.omega_types.specs.Inner.Bound.{bound_of}
@@ -14,7 +14,7 @@ use Rattle.type_store.specs.Inner.Memo.{filled, filled_row}
 use Rattle.type_store.specs.Shape.{Parts}
 use Rattle.type_store.specs.Trees.{at, row_at, Begins, Holds}
 use Rattle.type_store.proofs.MapSteps.{mapped_pairs}
-use Rattle.type_store.proofs.TreeLaws.{begins-itself, begins-then, begins-at, part_below}
+use Rattle.type_store.proofs.TreeLaws.{begins-itself, begins-then, begins-at, part-below}
 
 -- ---- what came in for a variable of kind * is no operator
 
@@ -22,7 +22,8 @@ abbrev AtStar : Part → Type 0
 AtStar (stuck t) = Unit {0}
 AtStar (whole t k A) = k ≡ Kind.Star
 
-no-arrow : {A : Type 0} {k l : Kind} → Kind.Arrow k l ≡ Kind.Star → A
+-- the kind of an operator is not *
+pub no-arrow : {A : Type 0} {k l : Kind} → Kind.Arrow k l ≡ Kind.Star → A
 no-arrow {k = k} {l = l} e = absurd (let f : Kind.Arrow k l ≡ Kind.Star → ⊥ = λ p. cc in f e)
 
 applied : (p : Part) (a : Ty) → AtStar p → apply_part p a ≡ stuck (Ty.Apply (tree p) a)
@@ -49,7 +50,8 @@ put-star A i a (Ty.Lam k b) = tt
 put-star A i a (Ty.Apply f t) = subst AtStar (sym (applied (put_in Kind.Star A i a f) (tree (put_in Kind.Star A i a t)) (put-star A i a f))) tt
 
 -- a type of kind * is put into an application by putting it into the operator and into the argument: no redex arises
-pub put-apply : (A : Args Kind.Star) (i : ℕ) (a f t : Ty) → tree (put_in Kind.Star A i a (Ty.Apply f t)) ≡ Ty.Apply (tree (put_in Kind.Star A i a f)) (tree (put_in Kind.Star A i a t))
+pub put-apply : (A : Args Kind.Star) (i : ℕ) (a f t : Ty)
+    → tree (put_in Kind.Star A i a (Ty.Apply f t)) ≡ Ty.Apply (tree (put_in Kind.Star A i a f)) (tree (put_in Kind.Star A i a t))
 put-apply A i a f t = ap tree (applied (put_in Kind.Star A i a f) (tree (put_in Kind.Star A i a t)) (put-star A i a f))
 
 -- ---- variables, and types that stay
@@ -77,22 +79,31 @@ still ts n index arg w h = record { within = w; value = sym (filled-still index 
 -- ---- two parts, one after the other
 
 module _ (node : Ty → Ty → Ty) (fills : (index : ℕ) (a s t : Ty) → filled index a (node s t) ≡ node (filled index a s) (filled index a t)) where
-  two : (index : ℕ) (old mid top us : List Ty) (full : Ty) (arg a b a' b' n : ℕ) → node (at old a) (at old b) ≡ full → Begins old mid → Begins mid top → arg < length old → b < length old
-      → Holds mid a' (filled index (at old arg) (at old a)) → Holds top b' (filled index (at mid arg) (at mid b)) → Holds us n (node (at top a') (at top b')) → Holds us n (filled index (at old arg) full)
+  two : (index : ℕ) (old mid top us : List Ty) (full : Ty) (arg a b a' b' n : ℕ) → node (at old a) (at old b) ≡ full → Begins old mid → Begins mid top
+      → arg < length old → b < length old
+      → Holds mid a' (filled index (at old arg) (at old a)) → Holds top b' (filled index (at mid arg) (at mid b)) → Holds us n (node (at top a') (at top b'))
+      → Holds us n (filled index (at old arg) full)
   two index old mid top us full arg a b a' b' n is p q w x h k made =
       let first : at top a' ≡ filled index (at old arg) (at old a) = begins-at mid top a' q h.within ∙ h.value in
       let second : at top b' ≡ filled index (at old arg) (at old b) = k.value ∙ ap₂ (filled index) (begins-at old mid arg p w) (begins-at old mid b p x) in
-      record { within = made.within; value = made.value ∙ (ap₂ node first second ∙ (sym (fills index (at old arg) (at old a) (at old b)) ∙ ap (filled index (at old arg)) is)) }
+      record {
+        within = made.within;
+        value = made.value ∙ (ap₂ node first second ∙ (sym (fills index (at old arg) (at old a) (at old b)) ∙ ap (filled index (at old arg)) is));
+      }
 
 -- the arrow between two sides that were filled one after the other is the filled arrow
-pub filled_arrow : (index : ℕ) (old mid top us : List Ty) (full : Ty) (arg a b a' b' n : ℕ) → Ty.Arrow (at old a) (at old b) ≡ full → Begins old mid → Begins mid top → arg < length old → b < length old
-    → Holds mid a' (filled index (at old arg) (at old a)) → Holds top b' (filled index (at mid arg) (at mid b)) → Holds us n (Ty.Arrow (at top a') (at top b')) → Holds us n (filled index (at old arg) full)
-filled_arrow = two Ty.Arrow (λ index a s t. refl)
+pub fills-arrow : (index : ℕ) (old mid top us : List Ty) (full : Ty) (arg a b a' b' n : ℕ) → Ty.Arrow (at old a) (at old b) ≡ full → Begins old mid
+    → Begins mid top → arg < length old → b < length old
+    → Holds mid a' (filled index (at old arg) (at old a)) → Holds top b' (filled index (at mid arg) (at mid b)) → Holds us n (Ty.Arrow (at top a') (at top b'))
+    → Holds us n (filled index (at old arg) full)
+fills-arrow = two Ty.Arrow (λ index a s t. refl)
 
 -- the application of two parts that were filled one after the other is the filled application
-pub filled_apply : (index : ℕ) (old mid top us : List Ty) (full : Ty) (arg a b a' b' n : ℕ) → Ty.Apply (at old a) (at old b) ≡ full → Begins old mid → Begins mid top → arg < length old → b < length old
-    → Holds mid a' (filled index (at old arg) (at old a)) → Holds top b' (filled index (at mid arg) (at mid b)) → Holds us n (Ty.Apply (at top a') (at top b')) → Holds us n (filled index (at old arg) full)
-filled_apply = two Ty.Apply (λ index a s t. put-apply (args Kind.Star) index (shift index 0 a) s t)
+pub fills-apply : (index : ℕ) (old mid top us : List Ty) (full : Ty) (arg a b a' b' n : ℕ) → Ty.Apply (at old a) (at old b) ≡ full → Begins old mid
+    → Begins mid top → arg < length old → b < length old
+    → Holds mid a' (filled index (at old arg) (at old a)) → Holds top b' (filled index (at mid arg) (at mid b)) → Holds us n (Ty.Apply (at top a') (at top b'))
+    → Holds us n (filled index (at old arg) full)
+fills-apply = two Ty.Apply (λ index a s t. put-apply (args Kind.Star) index (shift index 0 a) s t)
 
 -- ---- below a binder
 
@@ -107,28 +118,29 @@ module _ (binder : Kind → Ty → Ty) (fills : (index : ℕ) (a : Ty) (k : Kind
     within = made.within;
     value =
         made.value ∙
-        (ap₂ binder same (h.value ∙ ap (λ m. filled m (at old arg) (at old b)) e) ∙ (sym (fills index (at old arg) k (at old b)) ∙ ap (filled index (at old arg)) is));
+        (ap₂ binder same (h.value ∙ ap (λ m. filled m (at old arg) (at old b)) e) ∙
+        (sym (fills index (at old arg) k (at old b)) ∙ ap (filled index (at old arg)) is));
   }
 
 -- the universal type over a body that was filled below the binder is the filled universal type
-pub filled_all : (index next : ℕ) (j k : Kind) (old ts us : List Ty) (full : Ty) (arg b b' n : ℕ) → Ty.All k (at old b) ≡ full → next ≡ index + 1 → j ≡ k
+pub fills-all : (index next : ℕ) (j k : Kind) (old ts us : List Ty) (full : Ty) (arg b b' n : ℕ) → Ty.All k (at old b) ≡ full → next ≡ index + 1 → j ≡ k
     → Holds ts b' (filled next (at old arg) (at old b)) → Holds us n (Ty.All j (at ts b')) → Holds us n (filled index (at old arg) full)
-filled_all = under Ty.All (λ index a k b. ap (Ty.All k) (filled-under index a b))
+fills-all = under Ty.All (λ index a k b. ap (Ty.All k) (filled-under index a b))
 
 -- the existential type over a body that was filled below the binder is the filled existential type
-pub filled_ex : (index next : ℕ) (j k : Kind) (old ts us : List Ty) (full : Ty) (arg b b' n : ℕ) → Ty.Ex k (at old b) ≡ full → next ≡ index + 1 → j ≡ k
+pub fills-ex : (index next : ℕ) (j k : Kind) (old ts us : List Ty) (full : Ty) (arg b b' n : ℕ) → Ty.Ex k (at old b) ≡ full → next ≡ index + 1 → j ≡ k
     → Holds ts b' (filled next (at old arg) (at old b)) → Holds us n (Ty.Ex j (at ts b')) → Holds us n (filled index (at old arg) full)
-filled_ex = under Ty.Ex (λ index a k b. ap (Ty.Ex k) (filled-under index a b))
+fills-ex = under Ty.Ex (λ index a k b. ap (Ty.Ex k) (filled-under index a b))
 
 -- the type operator over a body that was filled below the binder is the filled type operator
-pub filled_lam : (index next : ℕ) (j k : Kind) (old ts us : List Ty) (full : Ty) (arg b b' n : ℕ) → Ty.Lam k (at old b) ≡ full → next ≡ index + 1 → j ≡ k
+pub fills-lam : (index next : ℕ) (j k : Kind) (old ts us : List Ty) (full : Ty) (arg b b' n : ℕ) → Ty.Lam k (at old b) ≡ full → next ≡ index + 1 → j ≡ k
     → Holds ts b' (filled next (at old arg) (at old b)) → Holds us n (Ty.Lam j (at ts b')) → Holds us n (filled index (at old arg) full)
-filled_lam = under Ty.Lam (λ index a k b. ap (Ty.Lam k) (filled-under index a b))
+fills-lam = under Ty.Lam (λ index a k b. ap (Ty.Lam k) (filled-under index a b))
 
 -- the recursive type over a body that was filled below the binder is the filled recursive type
-pub filled_mu : (index next : ℕ) (old ts us : List Ty) (full : Ty) (arg b b' n : ℕ) → Ty.Mu (at old b) ≡ full → next ≡ index + 1
+pub fills-mu : (index next : ℕ) (old ts us : List Ty) (full : Ty) (arg b b' n : ℕ) → Ty.Mu (at old b) ≡ full → next ≡ index + 1
     → Holds ts b' (filled next (at old arg) (at old b)) → Holds us n (Ty.Mu (at ts b')) → Holds us n (filled index (at old arg) full)
-filled_mu index next old ts us full arg b b' n is e h made =
+fills-mu index next old ts us full arg b b' n is e h made =
     under (λ k t. Ty.Mu t) (λ index a k b. ap Ty.Mu (filled-under index a b)) index next Kind.Star Kind.Star old ts us full arg b b' n is e refl h made
 
 -- ---- the parts of a record or a sum
@@ -139,9 +151,10 @@ row-filled index a ts [] = refl
 row-filled index a ts (x ∷ xs) = ap (Row.More x.0 (filled index a (at ts x.1))) (row-filled index a ts xs)
 
 -- the argument's number stands for the same type later
-pub same_arg : (index : ℕ) (old ts us : List Ty) (arg n : ℕ) (t : Ty) → Begins old ts → arg < length old → Holds us n (filled index (at ts arg) t) → Holds us n (filled index (at old arg) t)
-same_arg index old ts us arg n t b w h = subst (λ a. Holds us n (filled index a t)) (begins-at old ts arg b w) h
+pub same-arg : (index : ℕ) (old ts us : List Ty) (arg n : ℕ) (t : Ty) → Begins old ts → arg < length old → Holds us n (filled index (at ts arg) t)
+    → Holds us n (filled index (at old arg) t)
+same-arg index old ts us arg n t b w h = subst (λ a. Holds us n (filled index a t)) (begins-at old ts arg b w) h
 
-pub ruleset fill_steps = (begins-itself, begins-then, part_below, still, filled-outermost)
+pub ruleset fill_steps = (begins-itself, begins-then, part-below, still, filled-outermost)
 
 pub ruleset var_steps = (filled-var_same, filled-var_above)

@@ -1,6 +1,7 @@
 -- What does not depend on where it is done, since no free index is too small for it.
--- Main results: lows_new, shift-outermost, filled-first.
-use Rattle.std.proofs.Common.{◌≡◌, ℕ, zero, suc, ◌+◌, ◌-◌, ◌<◌, ◌≤◌, ◌==◌, if◌then◌else◌, Bool as Truth, false, List, [], ◌∷◌, ◌++◌, true, not, fold, length, length-append, refl, sym, ap, ap₂, subst, ◌∙◌, arith}
+-- Main results: lows-new, shift-outermost, filled-first.
+use Rattle.std.proofs.Common.{◌≡◌, ℕ, zero, suc, ◌+◌, ◌-◌, ◌<◌, ◌≤◌, ◌==◌, if◌then◌else◌, Bool as Truth, false, List, [], ◌∷◌, ◌++◌, true, not, fold, length}
+use Rattle.std.proofs.Common.{length-append, refl, sym, ap, ap₂, subst, ◌∙◌, arith}
 use Rattle.std.proofs.lemmas.Bool.{eqb-true}
 use Rattle.std.specs.List.{list_any}
 use Rattle.indexmap.specs.IndexSet.{insert_key}
@@ -61,7 +62,9 @@ record Within (p q : Low) : Type 0 where
   next : p.next ≤ q.next
 
 low-within : (p q : Low) (t : Ty) → Within p q → IsLow q t → IsLow p t
-low-within p q t w h = each-weaker (IsAbove q) (IsAbove p) t (λ i a. (let l = w.least in omega (arith, l, a.0), λ z. let n = w.next in let b : q.next ≤ i = a.1 z in omega (arith, n, b))) h
+low-within p q t w h =
+    each-weaker (IsAbove q) (IsAbove p) t (λ i a.
+    (let l = w.least in omega (arith, l, a.0), λ z. let n = w.next in let b : q.next ≤ i = a.1 z in omega (arith, n, b))) h
 
 both-left : (p q : Low) → Within (both p q) p
 both-left p q = record { least = omega arith; next = omega arith }
@@ -70,17 +73,25 @@ both-right : (p q : Low) → Within (both p q) q
 both-right p q = record { least = omega arith; next = omega arith }
 
 within-then : (p q r : Low) → Within p q → Within q r → Within p r
-within-then p q r v w = record { least = let a = v.least in let b = w.least in omega (arith, a, b); next = let a = v.next in let b = w.next in omega (arith, a, b) }
+within-then p q r v w = record {
+  least = let a = v.least in let b = w.least in omega (arith, a, b);
+  next = let a = v.next in let b = w.next in omega (arith, a, b);
+}
 
 module _ (ts : List Ty) (lows : List Low) (h : AreLows ts lows) where
-  low-parts : (low : Low) (parts : Parts) → Within (fold (with_part lows) low parts) low × EachFreeRow (IsAbove (fold (with_part lows) low parts)) (row_at ts parts)
+  low-parts : (low : Low) (parts : Parts)
+      → Within (fold (with_part lows) low parts) low × EachFreeRow (IsAbove (fold (with_part lows) low parts)) (row_at ts parts)
   low-parts low [] = (record { least = omega arith; next = omega arith }, tt)
   low-parts low (x ∷ xs) =
       let more : Low = with_part lows low x in
       let whole : Low = fold (with_part lows) more xs in
       let rest : Within whole more × EachFreeRow (IsAbove whole) (row_at ts xs) = low-parts more xs in (
         within-then whole more low rest.0 (both-left low (low_in lows x.1)),
-        (low-within whole (low_in lows x.1) (at ts x.1) (within-then whole more (low_in lows x.1) rest.0 (both-right low (low_in lows x.1))) (h.each x.1), rest.1),
+        (
+          low-within whole (low_in lows x.1) (at ts x.1) (within-then whole more (low_in lows x.1) rest.0 (both-right low (low_in lows x.1)))
+              (h.each x.1),
+          rest.1,
+        ),
       )
 
   low-two : (a b : ℕ) → IsLow (both (low_in lows a) (low_in lows b)) (at ts a) × IsLow (both (low_in lows a) (low_in lows b)) (at ts b)
@@ -122,9 +133,9 @@ each-push (x ∷ xs) (y ∷ ys) t low e h l zero = h zero
 each-push (x ∷ xs) (y ∷ ys) t low e h l (suc i) = each-push xs ys t low (omega (arith, e)) (λ j. h (suc j)) l i
 
 -- a new shape with its numbers
-pub lows_new : (shapes new : List Shape) (s : Shape) (lows more : List Low) (low : Low) → AreLows (trees shapes) lows → IsLow low (tree_at (trees shapes) s)
+pub lows-new : (shapes new : List Shape) (s : Shape) (lows more : List Low) (low : Low) → AreLows (trees shapes) lows → IsLow low (tree_at (trees shapes) s)
     → not (list_any (shape_eq s) shapes) ≡ true → new ≡ insert_key shape_eq shapes s → more ≡ lows ++ low ∷ [] → AreLows (trees new) more
-lows_new shapes new s lows more low h l fresh keys items =
+lows-new shapes new s lows more low h l fresh keys items =
     let last : trees new ≡ trees shapes ++ tree_at (trees shapes) s ∷ [] = ap trees (fresh-last shapes new s fresh keys) ∙ trees-push shapes s in
     subst (λ ts. AreLows ts more) (sym last)
     (subst (AreLows (trees shapes ++ tree_at (trees shapes) s ∷ [])) (sym items)
@@ -136,8 +147,8 @@ lows_new shapes new s lows more low h l fresh keys items =
     }))
 
 -- of an empty store, the empty list has the numbers of each type
-pub lows_none : AreLows (trees []) []
-lows_none = subst (λ ts. AreLows ts []) (sym trees-none) (record { as_long = refl; each = λ i. tt })
+pub lows-none : AreLows (trees []) []
+lows-none = subst (λ ts. AreLows ts []) (sym trees-none) (record { as_long = refl; each = λ i. tt })
 
 -- ---- a shift of a type with no free index below `from`
 
@@ -170,7 +181,8 @@ mutual
 pub shift-outermost : (by from : ℕ) (low : Low) (t : Ty) → IsLow low t → from ≤ low.least → shift by 0 t ≡ shift by from t
 shift-outermost by from low t h le =
     rename-alike (bump by 0) (bump by from) t
-    (each-weaker (IsAbove low) (λ i. bump by 0 i ≡ bump by from i) t (λ i a. bump-past by 0 i (omega arith) ∙ sym (bump-past by from i (omega (arith, le, a.0)))) h)
+    (each-weaker (IsAbove low) (λ i. bump by 0 i ≡ bump by from i) t
+    (λ i a. bump-past by 0 i (omega arith) ∙ sym (bump-past by from i (omega (arith, le, a.0)))) h)
 
 -- ---- a substitution in a type with no free index up to `index`
 
@@ -205,7 +217,8 @@ mutual
   put-alike n f a (Ty.Lam k b) h = ap (Ty.Lam k) (put-alike (suc n) (lift f) (rename suc a) b (slots-under n f b h))
   put-alike n f a (Ty.Apply o t) h = put-apply (args Star) n a o t ∙ ap₂ Ty.Apply (put-alike n f a o h.0) (put-alike n f a t h.1)
 
-  put_row-alike : (n : ℕ) (f : ℕ → ℕ) (a : Ty) (row : Row) → EachFreeRow (λ i. slot n i ≡ kept (f i)) row → put_in_row Star (args Star) n a row ≡ rename_row f row
+  put_row-alike : (n : ℕ) (f : ℕ → ℕ) (a : Ty) (row : Row) → EachFreeRow (λ i. slot n i ≡ kept (f i)) row
+      → put_in_row Star (args Star) n a row ≡ rename_row f row
   put_row-alike n f a Row.End h = refl
   put_row-alike n f a (Row.More l t rest) h = ap₂ (Row.More l) (put-alike n f a t h.0) (put_row-alike n f a rest h.1)
 

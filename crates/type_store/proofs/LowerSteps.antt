@@ -1,13 +1,16 @@
 -- A type outside of a binder, found by putting another type in for the binder's variable and shifting back.
--- Main results: lower_yes, lower_no, filled-lowers.
-use Rattle.std.proofs.Common.{◌≡◌, ℕ, zero, suc, ◌-◌, ◌<◌, ◌||◌, ◌==◌, List, Some, None, Bool as Truth, true, false, if◌then◌else◌, length, refl, sym, ap, ap₂, subst, ◌∙◌, arith}
-use Rattle.std.proofs.lemmas.Bool.{eqb-true, eq-eqb, false≢true}
+-- Main results: lower-yes, lower-no, filled-lowers.
+use Rattle.std.proofs.Common.{◌≡◌, ℕ, zero, suc, ◌-◌, ◌<◌, ◌||◌, ◌==◌, List, Some, None, Bool as Truth, true, false, if◌then◌else◌, length, refl, sym, ap, ap₂}
+use Rattle.std.proofs.Common.{subst, ◌∙◌, arith}
+use Rattle.std.proofs.lemmas.Bool.{eq-eqb, false≢true, ne_eqb, or_parts}
 use Rattle.omega_kinds.specs.Kind.{Kind}
-use Rattle.omega_types.specs.Index.{raised, kept, slot, shift}
+use Rattle.omega_types.specs.Index.{bump, raised, kept, slot, shift}
 use Rattle.omega_types.specs.Mentions.{Mentions, lower}
 use Rattle.omega_types.specs.Normaliser.{Args, stuck, tree, apply_part, args, fill_part, put_in, put_in_row}
 use Rattle.omega_types.specs.Substitution.{rename, rename_row}
 use Rattle.omega_types.specs.Ty.{Ty, Row, lift}
+use Rattle.omega_types.proofs.Algebra.{rename-rename, rename-id}
+use Rattle.omega_types.proofs.Mention.{rename-agree}
 use Rattle.omega_types.proofs.Single.{shift-suc}
 use Rattle.type_normal.specs.Inner.Lifted.{lifted}
 use Rattle.type_normal.specs.Mentioned.{is_mentioned, is_mentioned_row}
@@ -23,13 +26,6 @@ use Rattle.type_store.proofs.TreeLaws.{begins-at, begins-then, holds-more}
 not-both : {A : Type 0} (b : Truth) → b ≡ true → b ≡ false → A
 not-both b p q = absurd (false≢true (sym q ∙ p))
 
-differ : (a b : ℕ) → (a ≡ b → ⊥) → (a == b) ≡ false
-differ a b h = by (a == b) refl
-  where
-    by : (t : Truth) → (a == b) ≡ t → (a == b) ≡ false
-    by true e = absurd (h (eqb-true a b e))
-    by false e = e
-
 abbrev Misses : (ℕ → ℕ) → ℕ → Type 0
 Misses r i = (j : ℕ) → r j ≡ i → ⊥
 
@@ -39,22 +35,22 @@ lift-misses r i h (suc j) e = h j (omega (arith, e))
 
 mutual
   missed : (r : ℕ → ℕ) (i : ℕ) (t : Ty) → Misses r i → is_mentioned i (rename r t) ≡ false
-  missed r i (Ty.Var j) h = differ (r j) i (h j)
+  missed r i (Ty.Var j) h = ne_eqb (r j) i (h j)
   missed r i Ty.Int h = refl
   missed r i Ty.Bool h = refl
   missed r i Ty.Text h = refl
   missed r i (Ty.Arrow a b) h = ap₂ (λ x y. x || y) (missed r i a h) (missed r i b h)
-  missed r i (Ty.Fields row) h = missed_row r i row h
-  missed r i (Ty.Sum row) h = missed_row r i row h
+  missed r i (Ty.Fields row) h = missed-row r i row h
+  missed r i (Ty.Sum row) h = missed-row r i row h
   missed r i (Ty.All k b) h = missed (lift r) (suc i) b (lift-misses r i h)
   missed r i (Ty.Ex k b) h = missed (lift r) (suc i) b (lift-misses r i h)
   missed r i (Ty.Mu b) h = missed (lift r) (suc i) b (lift-misses r i h)
   missed r i (Ty.Lam k b) h = missed (lift r) (suc i) b (lift-misses r i h)
   missed r i (Ty.Apply a b) h = ap₂ (λ x y. x || y) (missed r i a h) (missed r i b h)
 
-  missed_row : (r : ℕ → ℕ) (i : ℕ) (row : Row) → Misses r i → is_mentioned_row i (rename_row r row) ≡ false
-  missed_row r i Row.End h = refl
-  missed_row r i (Row.More l t rest) h = ap₂ (λ x y. x || y) (missed r i t h) (missed_row r i rest h)
+  missed-row : (r : ℕ → ℕ) (i : ℕ) (row : Row) → Misses r i → is_mentioned_row i (rename_row r row) ≡ false
+  missed-row r i Row.End h = refl
+  missed-row r i (Row.More l t rest) h = ap₂ (λ x y. x || y) (missed r i t h) (missed-row r i rest h)
 
 not-zero : Misses suc zero
 not-zero j e = omega (arith, e)
@@ -69,12 +65,6 @@ raised-misses t = ap (is_mentioned 0) (shift-suc t) ∙ missed suc zero t not-ze
 abbrev fall : ℕ → ℕ
 fall = λ i. i - 1
 
-either : (a b : Truth) → (a || b) ≡ false → (a ≡ false) × (b ≡ false)
-either true true e = not-both true refl e
-either true false e = not-both true refl e
-either false true e = not-both true refl e
-either false false e = (refl, refl)
-
 slot-lifted : (i j : ℕ) → (j ≡ i → ⊥) → slot i j ≡ kept (lifted i fall j)
 slot-lifted zero zero h = absurd (h refl)
 slot-lifted zero (suc j) h = ap kept (omega arith)
@@ -88,7 +78,7 @@ mutual
   put-lowers k A i a Ty.Bool h = refl
   put-lowers k A i a Ty.Text h = refl
   put-lowers k A i a (Ty.Arrow s t) h =
-      let p = either (is_mentioned i s) (is_mentioned i t) h in
+      let p = or_parts (is_mentioned i s) (is_mentioned i t) h in
       ap₂ (λ x y. stuck (Ty.Arrow (tree x) (tree y))) (put-lowers k A i a s p.0) (put-lowers k A i a t p.1)
   put-lowers k A i a (Ty.Fields row) h = ap (λ r. stuck (Ty.Fields r)) (put-lowers_row k A i a row h)
   put-lowers k A i a (Ty.Sum row) h = ap (λ r. stuck (Ty.Sum r)) (put-lowers_row k A i a row h)
@@ -97,21 +87,27 @@ mutual
   put-lowers k A i a (Ty.Mu b) h = ap (λ p. stuck (Ty.Mu (tree p))) (put-lowers k A (suc i) (rename suc a) b h)
   put-lowers k A i a (Ty.Lam l b) h = ap (λ p. stuck (Ty.Lam l (tree p))) (put-lowers k A (suc i) (rename suc a) b h)
   put-lowers k A i a (Ty.Apply f t) h =
-      let p = either (is_mentioned i f) (is_mentioned i t) h in
+      let p = or_parts (is_mentioned i f) (is_mentioned i t) h in
       ap₂ (λ x y. apply_part x (tree y)) (put-lowers k A i a f p.0) (put-lowers k A i a t p.1)
 
-  put-lowers_row : (k : Kind) (A : Args k) (i : ℕ) (a : Ty) (row : Row) → is_mentioned_row i row ≡ false → put_in_row k A i a row ≡ rename_row (lifted i fall) row
+  put-lowers_row : (k : Kind) (A : Args k) (i : ℕ) (a : Ty) (row : Row) → is_mentioned_row i row ≡ false
+      → put_in_row k A i a row ≡ rename_row (lifted i fall) row
   put-lowers_row k A i a Row.End h = refl
   put-lowers_row k A i a (Row.More l t rest) h =
-      let p = either (is_mentioned i t) (is_mentioned_row i rest) h in
+      let p = or_parts (is_mentioned i t) (is_mentioned_row i rest) h in
       ap₂ (λ x r. Row.More l (tree x) r) (put-lowers k A i a t p.0) (put-lowers_row k A i a rest p.1)
 
 -- whatever comes in for an innermost variable that is not mentioned, the type is lowered
 pub filled-lowers : (a t : Ty) → is_mentioned 0 t ≡ false → filled 0 a t ≡ lower 1 t
 filled-lowers a t h = ap tree (put-lowers Kind.Star (args Kind.Star) 0 (shift 0 0 a) t h)
 
-back : (t : Ty) → is_mentioned 0 t ≡ false → shift 1 0 (lower 1 t) ≡ t
-back t h = raised-back 1 t (λ i l m. not-both (is_mentioned 0 t) (mentioned-complete (subst (λ j. Mentions j t) (first i l) m)) h)
+-- a raised type that is lowered is as it was
+pub lowered-raised : (t : Ty) → lower 1 (shift 1 0 t) ≡ t
+lowered-raised t = rename-rename (λ i. i - 1) (bump 1 0) t ∙ (rename-agree (λ i. bump 1 0 i - 1) (λ i. i) t (λ i m. omega arith) ∙ rename-id t)
+
+-- a type that does not mention the innermost variable is as it was when it is lowered and then raised
+pub raised-lowered : (t : Ty) → is_mentioned 0 t ≡ false → shift 1 0 (lower 1 t) ≡ t
+raised-lowered t h = raised-back 1 t (λ i l m. not-both (is_mentioned 0 t) (mentioned-complete (subst (λ j. Mentions j t) (first i l) m)) h)
   where
     first : (i : ℕ) → i < 1 → i ≡ 0
     first i h = omega (arith, h)
@@ -126,8 +122,8 @@ module _ (old s1 s2 s3 : List Ty) (number int down up : ℕ) (b1 : Begins old s1
   later : at s3 number ≡ at old number
   later = begins-at old s3 number (begins-then old s2 s3 (begins-then old s1 s2 b1 b2) b3) w
 
-  pub lower_yes : at s3 up ≡ at s3 number → NumberOf s3 (Some down) (outside (at old number))
-  lower_yes e = by (is_mentioned 0 (at old number)) refl
+  pub lower-yes : at s3 up ≡ at s3 number → NumberOf s3 (Some down) (outside (at old number))
+  lower-yes e = by (is_mentioned 0 (at old number)) refl
     where
       by : (b : Truth) → is_mentioned 0 (at old number) ≡ b → NumberOf s3 (Some down) (if b then None else Some (lower 1 (at old number)))
       by true p =
@@ -135,11 +131,11 @@ module _ (old s1 s2 s3 : List Ty) (number int down up : ℕ) (b1 : Begins old s1
           not-both (is_mentioned 0 (at old number)) p (ap (is_mentioned 0) (sym same) ∙ raised-misses (at s2 down))
       by false p = holds-more s2 s3 down (lower 1 (at old number)) b3 (record { within = h.within; value = lowered-is p })
 
-  pub lower_no : (at s3 up ≡ at s3 number → ⊥) → NumberOf s3 None (outside (at old number))
-  lower_no e = by (is_mentioned 0 (at old number)) refl
+  pub lower-no : (at s3 up ≡ at s3 number → ⊥) → NumberOf s3 None (outside (at old number))
+  lower-no e = by (is_mentioned 0 (at old number)) refl
     where
       by : (b : Truth) → is_mentioned 0 (at old number) ≡ b → NumberOf s3 None (if b then None else Some (lower 1 (at old number)))
       by true p = tt
-      by false p = absurd (e (k.value ∙ (ap (shift 1 0) (lowered-is p) ∙ (back (at old number) p ∙ sym later))))
+      by false p = absurd (e (k.value ∙ (ap (shift 1 0) (lowered-is p) ∙ (raised-lowered (at old number) p ∙ sym later))))
 
-pub ruleset lower_steps = (lower_yes, lower_no, begins-then)
+pub ruleset lower_steps = (lower-yes, lower-no, begins-then)

@@ -1,5 +1,5 @@
 -- What a shift does at each form of a numbered type.
--- Main results: shift_all, row-shifted.
+-- Main results: shifts-all, row-shifted.
 use Rattle.std.proofs.Common.{◌≡◌, ℕ, suc, ◌+◌, ◌<◌, ◌≤◌, List, [], ◌∷◌, length, refl, sym, ap, ap₂, ◌∙◌, arith}
 use Rattle.omega_kinds.specs.Kind.{Kind}
 use Rattle.omega_types.specs.Fields.{row}
@@ -12,7 +12,7 @@ use Rattle.omega_types.proofs.Unchanged.{shift-unchanged}
 use Rattle.type_store.specs.Shape.{Parts}
 use Rattle.type_store.specs.Trees.{at, row_at, Holds}
 use Rattle.type_store.proofs.MapSteps.{mapped_pairs}
-use Rattle.type_store.proofs.TreeLaws.{begins-itself, begins-then, part_below}
+use Rattle.type_store.proofs.TreeLaws.{begins-itself, begins-then, part-below}
 
 -- variables, and the body of a binder
 
@@ -43,27 +43,28 @@ module _ (binder : Kind → Ty → Ty) (shifts : (by from : ℕ) (k : Kind) (b :
   }
 
 -- the universal type over a body that was shifted below the binder is the shifted universal type
-pub shift_all : (by from next : ℕ) (j k : Kind) (old ts us : List Ty) (whole : Ty) (b b' n : ℕ) → Ty.All k (at old b) ≡ whole → next ≡ from + 1 → j ≡ k
+pub shifts-all : (by from next : ℕ) (j k : Kind) (old ts us : List Ty) (whole : Ty) (b b' n : ℕ) → Ty.All k (at old b) ≡ whole → next ≡ from + 1 → j ≡ k
     → Holds ts b' (shift by next (at old b)) → Holds us n (Ty.All j (at ts b')) → Holds us n (shift by from whole)
-shift_all = under Ty.All (λ by from k b. ap (Ty.All k) (shift-under by from b))
+shifts-all = under Ty.All (λ by from k b. ap (Ty.All k) (shift-under by from b))
 
 -- the existential type over a body that was shifted below the binder is the shifted existential type
-pub shift_ex : (by from next : ℕ) (j k : Kind) (old ts us : List Ty) (whole : Ty) (b b' n : ℕ) → Ty.Ex k (at old b) ≡ whole → next ≡ from + 1 → j ≡ k
+pub shifts-ex : (by from next : ℕ) (j k : Kind) (old ts us : List Ty) (whole : Ty) (b b' n : ℕ) → Ty.Ex k (at old b) ≡ whole → next ≡ from + 1 → j ≡ k
     → Holds ts b' (shift by next (at old b)) → Holds us n (Ty.Ex j (at ts b')) → Holds us n (shift by from whole)
-shift_ex = under Ty.Ex (λ by from k b. ap (Ty.Ex k) (shift-under by from b))
+shifts-ex = under Ty.Ex (λ by from k b. ap (Ty.Ex k) (shift-under by from b))
 
 -- the type operator over a body that was shifted below the binder is the shifted type operator
-pub shift_lam : (by from next : ℕ) (j k : Kind) (old ts us : List Ty) (whole : Ty) (b b' n : ℕ) → Ty.Lam k (at old b) ≡ whole → next ≡ from + 1 → j ≡ k
+pub shifts-lam : (by from next : ℕ) (j k : Kind) (old ts us : List Ty) (whole : Ty) (b b' n : ℕ) → Ty.Lam k (at old b) ≡ whole → next ≡ from + 1 → j ≡ k
     → Holds ts b' (shift by next (at old b)) → Holds us n (Ty.Lam j (at ts b')) → Holds us n (shift by from whole)
-shift_lam = under Ty.Lam (λ by from k b. ap (Ty.Lam k) (shift-under by from b))
+shifts-lam = under Ty.Lam (λ by from k b. ap (Ty.Lam k) (shift-under by from b))
 
 -- the recursive type over a body that was shifted below the binder is the shifted recursive type
-pub shift_mu : (by from next : ℕ) (old ts us : List Ty) (whole : Ty) (b b' n : ℕ) → Ty.Mu (at old b) ≡ whole → next ≡ from + 1
+pub shifts-mu : (by from next : ℕ) (old ts us : List Ty) (whole : Ty) (b b' n : ℕ) → Ty.Mu (at old b) ≡ whole → next ≡ from + 1
     → Holds ts b' (shift by next (at old b)) → Holds us n (Ty.Mu (at ts b')) → Holds us n (shift by from whole)
-shift_mu by from next old ts us whole b b' n is e h made = under (λ k t. Ty.Mu t) (λ by from k b. ap Ty.Mu (shift-under by from b)) by from next Kind.Star Kind.Star old ts us whole b b' n is e refl h made
+shifts-mu by from next old ts us whole b b' n is e h made =
+    under (λ k t. Ty.Mu t) (λ by from k b. ap Ty.Mu (shift-under by from b)) by from next Kind.Star Kind.Star old ts us whole b b' n is e refl h made
 
 -- a type that stays is where it was
 pub stays : (ts : List Ty) (n by from : ℕ) → n < length ts → shift by from (at ts n) ≡ at ts n → Holds ts n (shift by from (at ts n))
 stays ts n by from w e = record { within = w; value = sym e }
 
-pub ruleset shift_steps = (begins-itself, begins-then, shift-var_below, shift-var_above, row-shifted, part_below, stays, shift-still, shift-unchanged)
+pub ruleset shift_steps = (begins-itself, begins-then, shift-var_below, shift-var_above, row-shifted, part-below, stays, shift-still, shift-unchanged)

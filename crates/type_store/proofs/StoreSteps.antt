@@ -1,5 +1,5 @@
 -- What each call of a store needs of the types put before.
--- Main results: parts_push, fields_step.
+-- Main results: parts-push, fields-step.
 use Rattle.std.proofs.Common.{◌≡◌, ℕ, suc, ◌+◌, ◌<◌, ◌≤◌, List, [], ◌∷◌, ◌++◌, length, drop, take, get_or, refl, sym, ap, ap₂, ◌∙◌, subst, arith, drop-cons}
 use Rattle.std.proofs.lemmas.List.{take_more}
 use Rattle.omega_kinds.specs.Kind.{Kind}
@@ -11,67 +11,75 @@ use Rattle.omega_kinds.specs.LabelOrder.{LabelBefore}
 use Rattle.omega_types.proofs.Rising.{rises-push}
 use Rattle.omega_types.proofs.Steps.{map_parts, may_follow-at}
 use Rattle.type_store.specs.Shape.{Shape, Parts}
-use Rattle.type_store.specs.Trees.{at, row_at, ArePartsBelow, AreDistinct, Begins, Holds, Makes, MakesParts}
+use Rattle.type_store.specs.Trees.{at, row_at, ArePartsBelow, Begins, Holds, Makes, MakesParts}
 use Rattle.type_store.proofs.TreeLaws.{begins-itself, begins-then, begins-length, holds-more, row_at-append, parts_below-more}
 
 -- the shape of a variable makes the variable
-pub makes_var : (ts : List Ty) (i : ℕ) → Makes ts (Shape.Var i) (Ty.Var i)
-makes_var ts i = record { below = tt; value = refl }
+pub makes-var : (ts : List Ty) (i : ℕ) → Makes ts (Shape.Var i) (Ty.Var i)
+makes-var ts i = record { below = tt; value = refl }
 
 -- the shape of integers makes their type
-pub makes_int : (ts : List Ty) → Makes ts Shape.Int Ty.Int
-makes_int ts = record { below = tt; value = refl }
+pub makes-int : (ts : List Ty) → Makes ts Shape.Int Ty.Int
+makes-int ts = record { below = tt; value = refl }
 
 -- the shape of truth values makes their type
-pub makes_bool : (ts : List Ty) → Makes ts Shape.Bool Ty.Bool
-makes_bool ts = record { below = tt; value = refl }
+pub makes-bool : (ts : List Ty) → Makes ts Shape.Bool Ty.Bool
+makes-bool ts = record { below = tt; value = refl }
 
 -- the shape of strings makes their type
-pub makes_text : (ts : List Ty) → Makes ts Shape.Text Ty.Text
-makes_text ts = record { below = tt; value = refl }
+pub makes-text : (ts : List Ty) → Makes ts Shape.Text Ty.Text
+makes-text ts = record { below = tt; value = refl }
 
 -- the shape of an arrow between two numbers makes the arrow between their types
-pub makes_arrow : (ts us : List Ty) (a b : ℕ) (s t : Ty) → Begins ts us → Holds ts a s → Holds us b t → Makes us (Shape.Arrow a b) (Ty.Arrow s t)
-makes_arrow ts us a b s t p h k = let m = holds-more ts us a s p h in record { below = (m.within, k.within); value = ap₂ Ty.Arrow m.value k.value }
+pub makes-arrow : (ts us : List Ty) (a b : ℕ) (s t : Ty) → Begins ts us → Holds ts a s → Holds us b t → Makes us (Shape.Arrow a b) (Ty.Arrow s t)
+makes-arrow ts us a b s t p h k = let m = holds-more ts us a s p h in record { below = (m.within, k.within); value = ap₂ Ty.Arrow m.value k.value }
 
 -- the shape of an application of one number to another makes the application of their types
-pub makes_apply : (ts us : List Ty) (a b : ℕ) (s t : Ty) → Begins ts us → Holds ts a s → Holds us b t → Makes us (Shape.Apply a b) (Ty.Apply s t)
-makes_apply ts us a b s t p h k = let m = holds-more ts us a s p h in record { below = (m.within, k.within); value = ap₂ Ty.Apply m.value k.value }
+pub makes-apply : (ts us : List Ty) (a b : ℕ) (s t : Ty) → Begins ts us → Holds ts a s → Holds us b t → Makes us (Shape.Apply a b) (Ty.Apply s t)
+makes-apply ts us a b s t p h k = let m = holds-more ts us a s p h in record { below = (m.within, k.within); value = ap₂ Ty.Apply m.value k.value }
 
 -- the shape of a universal type over a number makes the universal type over its type
-pub makes_all : (ts : List Ty) (k : Kind) (b : ℕ) (t : Ty) → Holds ts b t → Makes ts (Shape.All k b) (Ty.All k t)
-makes_all ts k b t h = record { below = h.within; value = ap (Ty.All k) h.value }
+pub makes-all : (ts : List Ty) (k : Kind) (b : ℕ) (t : Ty) → Holds ts b t → Makes ts (Shape.All k b) (Ty.All k t)
+makes-all ts k b t h = record { below = h.within; value = ap (Ty.All k) h.value }
 
 -- the shape of an existential type over a number makes the existential type over its type
-pub makes_ex : (ts : List Ty) (k : Kind) (b : ℕ) (t : Ty) → Holds ts b t → Makes ts (Shape.Ex k b) (Ty.Ex k t)
-makes_ex ts k b t h = record { below = h.within; value = ap (Ty.Ex k) h.value }
+pub makes-ex : (ts : List Ty) (k : Kind) (b : ℕ) (t : Ty) → Holds ts b t → Makes ts (Shape.Ex k b) (Ty.Ex k t)
+makes-ex ts k b t h = record { below = h.within; value = ap (Ty.Ex k) h.value }
 
 -- the shape of a type operator over a number makes the type operator over its type
-pub makes_lam : (ts : List Ty) (k : Kind) (b : ℕ) (t : Ty) → Holds ts b t → Makes ts (Shape.Lam k b) (Ty.Lam k t)
-makes_lam ts k b t h = record { below = h.within; value = ap (Ty.Lam k) h.value }
+pub makes-lam : (ts : List Ty) (k : Kind) (b : ℕ) (t : Ty) → Holds ts b t → Makes ts (Shape.Lam k b) (Ty.Lam k t)
+makes-lam ts k b t h = record { below = h.within; value = ap (Ty.Lam k) h.value }
 
 -- the shape of a recursive type over a number makes the recursive type over its type
-pub makes_mu : (ts : List Ty) (b : ℕ) (t : Ty) → Holds ts b t → Makes ts (Shape.Mu b) (Ty.Mu t)
-makes_mu ts b t h = record { below = h.within; value = ap Ty.Mu h.value }
+pub makes-mu : (ts : List Ty) (b : ℕ) (t : Ty) → Holds ts b t → Makes ts (Shape.Mu b) (Ty.Mu t)
+makes-mu ts b t h = record { below = h.within; value = ap Ty.Mu h.value }
 
 -- the shape of a sum of parts makes the sum of the fields that they make
-pub makes_sum : (ts : List Ty) (parts : Parts) (r : Row) → MakesParts ts parts r → Makes ts (Shape.Sum parts) (Ty.Sum r)
-makes_sum ts parts r h = record { below = (h.below, h.rising); value = ap Ty.Sum h.value }
+pub makes-sum : (ts : List Ty) (parts : Parts) (r : Row) → MakesParts ts parts r → Makes ts (Shape.Sum parts) (Ty.Sum r)
+makes-sum ts parts r h = record { below = (h.below, h.rising); value = ap Ty.Sum h.value }
 
 -- the shape of a record of parts makes the record of the fields that they make
-pub makes_fields : (ts : List Ty) (parts : Parts) (r : Row) → MakesParts ts parts r → Makes ts (Shape.Fields parts) (Ty.Fields r)
-makes_fields ts parts r h = record { below = (h.below, h.rising); value = ap Ty.Fields h.value }
+pub makes-fields : (ts : List Ty) (parts : Parts) (r : Row) → MakesParts ts parts r → Makes ts (Shape.Fields parts) (Ty.Fields r)
+makes-fields ts parts r h = record { below = (h.below, h.rising); value = ap Ty.Fields h.value }
 
--- two numbers of one store are the same exactly where the types are
-pub same_number : (ts : List Ty) (m n : ℕ) (s t : Ty) → AreDistinct ts → Holds ts m s → Holds ts n t → (m ≡ n → s ≡ t) × (s ≡ t → m ≡ n)
-same_number ts m n s t d h k = (λ e. sym h.value ∙ (ap (at ts) e ∙ k.value), λ e. d.same_number m n h.within k.within (h.value ∙ (e ∙ sym k.value)))
-
-pub ruleset store_steps = (makes_var, makes_int, makes_bool, makes_text, makes_arrow, makes_apply, makes_all, makes_ex, makes_lam, makes_mu, makes_fields, makes_sum, begins-itself, begins-then)
+pub ruleset store_steps = (
+  makes-var,
+  makes-int,
+  makes-bool,
+  makes-text,
+  makes-arrow,
+  makes-apply,
+  makes-all,
+  makes-ex,
+  makes-lam,
+  makes-mu,
+  makes-fields,
+  makes-sum,
+  begins-itself,
+  begins-then,
+)
 
 -- ---- the parts of a record, one after another
-
-pub no_parts : (ts : List Ty) → MakesParts ts [] Row.End
-no_parts ts = record { below = tt; rising = tt; value = refl }
 
 parts-below-push : (n : ℕ) (parts : Parts) (x : Label × ℕ) → ArePartsBelow n parts → x.1 < n → ArePartsBelow n (parts ++ x ∷ [])
 parts-below-push n [] x h w = (w, tt)
@@ -87,7 +95,8 @@ may-follow ts (x ∷ y ∷ ys) [] l e m = absurd (cc)
 may-follow ts (x ∷ y ∷ ys) (z ∷ []) l e m = absurd (cc)
 may-follow ts (x ∷ y ∷ ys) (z ∷ w ∷ zs) l e m = let p : row_at ts (y ∷ ys) ≡ row (w ∷ zs) = cc in may-follow ts (y ∷ ys) (w ∷ zs) l p m
 
-row-push : (ts : List Ty) (parts : Parts) (zs : Pairs) (x : Label × ℕ) → row_at ts parts ≡ row zs → row_at ts (parts ++ x ∷ []) ≡ row (zs ++ (x.0, at ts x.1) ∷ [])
+row-push : (ts : List Ty) (parts : Parts) (zs : Pairs) (x : Label × ℕ) → row_at ts parts ≡ row zs
+    → row_at ts (parts ++ x ∷ []) ≡ row (zs ++ (x.0, at ts x.1) ∷ [])
 row-push ts [] [] x e = refl
 row-push ts [] (z ∷ zs) x e = absurd (cc)
 row-push ts (y ∷ ys) [] x e = absurd (cc)
@@ -106,10 +115,10 @@ parts-more ts us parts r b h = record {
 }
 
 -- one more part, of the next label and with a number of its type, makes one more field
-pub parts_push : (ts us : List Ty) (parts : Parts) (xs : Pairs) (i : ℕ) (l : Label) (n : ℕ) (x : Label × Ty)
+pub parts-push : (ts us : List Ty) (parts : Parts) (xs : Pairs) (i : ℕ) (l : Label) (n : ℕ) (x : Label × Ty)
     → MakesParts ts parts (row (take i xs)) → Begins ts us → Holds us n x.1 → l ≡ x.0 → x ≡ get_or xs i x → i < length xs → Rises xs
     → MakesParts us (parts ++ (l, n) ∷ []) (row (take (i + 1) xs))
-parts_push ts us parts xs i l n x made b h e g w r =
+parts-push ts us parts xs i l n x made b h e g w r =
     let m = parts-more ts us parts (row (take i xs)) b made in
     let f : MayFollow (map_parts (λ t. t) (take i xs)) (get_or xs i x).0 = may_follow-at (λ t. t) xs i x w r in
     let f' : MayFollow (map_parts (λ t. t) (take i xs)) l = subst (MayFollow (map_parts (λ t. t) (take i xs))) (sym (e ∙ ap (λ p. p.0) g)) f in
@@ -130,9 +139,13 @@ smaller xs i d w h =
     subst (λ k. nodes_pairs (drop k xs) ≤ nodes_pairs xs) n (omega (arith, m, h))
 
 -- one more field of a record was put
-pub fields_step : (old ts us : List Ty) (parts new : Parts) (xs : Pairs) (i : ℕ) (l : Label) (n : ℕ) (x : Label × Ty)
+pub fields-step : (old ts us : List Ty) (parts new : Parts) (xs : Pairs) (i : ℕ) (l : Label) (n : ℕ) (x : Label × Ty)
     → Begins old ts → MakesParts ts parts (row (take i xs)) → nodes_pairs (drop i xs) ≤ nodes_pairs xs
     → Begins ts us → Holds us n x.1 → l ≡ x.0 → x ≡ get_or xs i x → i < length xs → Rises xs → new ≡ parts ++ (l, n) ∷ []
     → Begins old us × MakesParts us new (row (take (i + 1) xs)) × (nodes_pairs (drop (i + 1) xs) ≤ nodes_pairs xs)
-fields_step old ts us parts new xs i l n x b made small grows h e g w r is =
-    (begins-then old ts us b grows, subst (λ p. MakesParts us p (row (take (i + 1) xs))) (sym is) (parts_push ts us parts xs i l n x made grows h e g w r), smaller xs i x w small)
+fields-step old ts us parts new xs i l n x b made small grows h e g w r is = (
+  begins-then old ts us b grows,
+  subst (λ p. MakesParts us p (row (take (i + 1) xs))) (sym is)
+      (parts-push ts us parts xs i l n x made grows h e g w r),
+  smaller xs i x w small,
+)

@@ -1,11 +1,12 @@
 -- The types of a list of shapes: one more shape, and one number for each type.
--- Main results: extends_new, holds_new, placed, bound-is.
-use Rattle.std.proofs.Common.{◌≡◌, ℕ, ◌+◌, ◌<◌, ◌≤◌, ◌⊎◌, inl, inr, List, [], ◌∷◌, ◌++◌, Some, Bool as Truth, true, false, if◌then◌else◌, not, zero, suc, length, map, max, ◌-◌, get_or, slice_get, refl, sym, ap, ap₂, ◌∙◌, subst, arith, length-append, append_assoc}
+-- Main results: extends-new, holds-new, placed, bound-is.
+use Rattle.std.proofs.Common.{◌≡◌, ℕ, ◌+◌, ◌<◌, ◌≤◌, ◌⊎◌, inl, inr, List, [], ◌∷◌, ◌++◌, Some, Bool as Truth, true, false, if◌then◌else◌, not, zero, suc}
+use Rattle.std.proofs.Common.{length, map, max, ◌-◌, get_or, slice_get, refl, sym, ap, ap₂, ◌∙◌, subst, arith, length-append, append_assoc}
 use Rattle.std.proofs.lemmas.List.{append-nil}
 use Rattle.std.proofs.Math.ListN.{get_or-append, get_or-map}
-use Rattle.std.proofs.lemmas.List.{map-append, length-map}
+use Rattle.std.proofs.lemmas.List.{map-append}
 use Rattle.std.proofs.Math.Seq.{get_or-append_seam}
-use Rattle.std.proofs.lemmas.Bool.{cases_lt, false≢true}
+use Rattle.std.proofs.lemmas.Bool.{cases_lt, false≢true, not-true}
 use Rattle.std.proofs.lemmas.List.Folds.{list_any_at}
 use Rattle.std.proofs.lemmas.List.Sums.{fold-append}
 use Rattle.std.proofs.lemmas.Option.{slice_get_within, slice_get-get_or, get_or_from_slice_get}
@@ -16,7 +17,8 @@ use Rattle.omega_kinds.specs.declared.label.Label.{Label}
 use Rattle.omega_types.specs.Ty.{Ty, Row}
 use Rattle.type_store.specs.Shape.{Shape, Parts, shape_eq}
 use Rattle.type_store.specs.Inner.ShapeLaws.{shape_eq-yes, shape_eq-of}
-use Rattle.type_store.specs.Trees.{at, row_at, tree_at, ArePartsBelow, IsBelow, with_shape, trees, AreDistinct, Begins, Holds, IsStore, AreBounds, Extends, bound_at, bound_parts}
+use Rattle.type_store.specs.Trees.{at, row_at, tree_at, ArePartsBelow, IsBelow, with_shape, trees, AreDistinct, Begins, Holds, IsStore, AreBounds, Extends}
+use Rattle.type_store.specs.Trees.{bound_at, bound_parts}
 use Rattle.omega_types.specs.Inner.Bound.{bound_of, bound_row}
 
 -- ---- more types at the end
@@ -137,7 +139,8 @@ module _ (ts : List Ty) (d : AreDistinct ts) where
 
 -- ---- one more shape
 
-last-or-before : {A : Type 0} (xs : List A) (x : A) (i : ℕ) (y : A) → slice_get (xs ++ x ∷ []) i ≡ Some y → ((i < length xs) × (slice_get xs i ≡ Some y)) ⊎ ((i ≡ length xs) × (y ≡ x))
+last-or-before : {A : Type 0} (xs : List A) (x : A) (i : ℕ) (y : A) → slice_get (xs ++ x ∷ []) i ≡ Some y
+    → ((i < length xs) × (slice_get xs i ≡ Some y)) ⊎ ((i ≡ length xs) × (y ≡ x))
 last-or-before xs x i y e = by (cases_lt i (length xs))
   where
     found : get_or (xs ++ x ∷ []) i y ≡ y
@@ -165,7 +168,8 @@ shape-at shapes h i l = let w : i < length shapes = omega (arith, l, h.as_long) 
 
 -- each number of a shape is below the number of types
 below-all : (shapes : List Shape) → IsStore shapes → (i : ℕ) (s : Shape) → slice_get shapes i ≡ Some s → IsBelow (length (trees shapes)) s
-below-all shapes h i s e = let w : i < length shapes = slice_get_within shapes i s e in below-more i (length (trees shapes)) s (omega (arith, w, h.as_long)) (h.below i s e)
+below-all shapes h i s e =
+    let w : i < length shapes = slice_get_within shapes i s e in below-more i (length (trees shapes)) s (omega (arith, w, h.as_long)) (h.below i s e)
 
 module _ (shapes : List Shape) (h : IsStore shapes) (s : Shape) (below : IsBelow (length (trees shapes)) s) where
   -- a shape that is new makes a new type
@@ -196,7 +200,8 @@ module _ (shapes : List Shape) (h : IsStore shapes) (s : Shape) (below : IsBelow
   stands-push : (i : ℕ) (r : Shape) → slice_get (shapes ++ s ∷ []) i ≡ Some r → at (trees (shapes ++ s ∷ [])) i ≡ tree_at (trees (shapes ++ s ∷ [])) r
   stands-push i r e = by (last-or-before shapes s i r e)
     where
-      by : ((i < length shapes) × (slice_get shapes i ≡ Some r)) ⊎ ((i ≡ length shapes) × (r ≡ s)) → at (trees (shapes ++ s ∷ [])) i ≡ tree_at (trees (shapes ++ s ∷ [])) r
+      by : ((i < length shapes) × (slice_get shapes i ≡ Some r)) ⊎ ((i ≡ length shapes) × (r ≡ s))
+          → at (trees (shapes ++ s ∷ [])) i ≡ tree_at (trees (shapes ++ s ∷ [])) r
       by (inl p) =
           at-before i (omega (arith, p.0, h.as_long)) ∙
           (h.stands i r p.1 ∙
@@ -262,7 +267,12 @@ module _ (shapes : List Shape) (h : IsStore shapes) (s : Shape) (below : IsBelow
 -- the empty list of shapes is a store
 pub store-none : IsStore []
 unfolding trees
-store-none = record { as_long = refl; below = λ i s e. absurd (cc); stands = λ i s e. absurd (cc); distinct = record { same_number = λ i j l m e. absurd (omega arith) } }
+store-none = record {
+  as_long = refl;
+  below = λ i s e. absurd (cc);
+  stands = λ i s e. absurd (cc);
+  distinct = record { same_number = λ i j l m e. absurd (omega arith) };
+}
 
 -- the empty list of shapes makes no types
 pub trees-none : trees [] ≡ []
@@ -304,38 +314,30 @@ bounds-push shapes s bounds n h e = record {
       (sym (map-append bound_of (trees shapes) (tree_at (trees shapes) s ∷ [])) ∙ ap (map bound_of) (sym (trees-push shapes s)));
 }
 
-pub bounds_long : (shapes : List Shape) (bounds : List ℕ) → IsStore shapes → AreBounds (trees shapes) bounds → length bounds ≡ length (trees shapes)
-bounds_long shapes bounds h b = ap length b.bounds_are ∙ length-map (trees shapes) bound_of
-
-pub bound_here : (ts : List Ty) (bounds : List ℕ) (i : ℕ) → AreBounds ts bounds → get_or bounds i 0 ≡ bound_of (at ts i)
-bound_here ts bounds i h = ap (λ b. get_or b i 0) h.bounds_are ∙ bound-get ts i
-
 -- the empty list has the bounds of the types of an empty store
 pub bounds-none : AreBounds (trees []) []
 unfolding trees
 bounds-none = record { bounds_are = refl }
 
 -- each part of a record has a number below this one
-pub part_below : (n : ℕ) (parts : Parts) (i : ℕ) (x : Label × ℕ) → ArePartsBelow n parts → x ≡ get_or parts i x → i < length parts → x.1 < n
-part_below n parts i x h e w = subst (λ y. y.1 < n) (sym e) (go parts i h w)
+pub part-below : (n : ℕ) (parts : Parts) (i : ℕ) (x : Label × ℕ) → ArePartsBelow n parts → x ≡ get_or parts i x → i < length parts → x.1 < n
+part-below n parts i x h e w = subst (λ y. y.1 < n) (sym e) (go parts i h w)
   where
     go : (ps : Parts) (j : ℕ) → ArePartsBelow n ps → j < length ps → (get_or ps j x).1 < n
     go [] j h w = absurd (omega arith)
     go (y ∷ ys) zero h w = h.0
     go (y ∷ ys) (suc j) h w = go ys j h.1 (omega arith)
 
-not-true : (b : Truth) → not b ≡ true → b ≡ false
-not-true true e = absurd (false≢true e)
-not-true false e = refl
-
 -- a new shape is the last one
 pub fresh-last : (shapes new : List Shape) (s : Shape) → not (list_any (shape_eq s) shapes) ≡ true → new ≡ insert_key shape_eq shapes s → new ≡ shapes ++ s ∷ []
 fresh-last shapes new s fresh keys = keys ∙ ap (λ b. if b then shapes else shapes ++ s ∷ []) (not-true (list_any (shape_eq s) shapes) fresh)
 
 -- a new shape with its bound
-pub extends_new : (shapes new : List Shape) (s : Shape) (bounds more : List ℕ) (n : ℕ) → IsStore shapes → AreBounds (trees shapes) bounds → IsBelow (length (trees shapes)) s
-    → n ≡ bound_of (tree_at (trees shapes) s) → not (list_any (shape_eq s) shapes) ≡ true → new ≡ insert_key shape_eq shapes s → more ≡ bounds ++ n ∷ [] → Extends shapes new more
-extends_new shapes new s bounds more n h a below e fresh keys items =
+pub extends-new : (shapes new : List Shape) (s : Shape) (bounds more : List ℕ) (n : ℕ) → IsStore shapes → AreBounds (trees shapes) bounds
+    → IsBelow (length (trees shapes)) s
+    → n ≡ bound_of (tree_at (trees shapes) s) → not (list_any (shape_eq s) shapes) ≡ true → new ≡ insert_key shape_eq shapes s → more ≡ bounds ++ n ∷ []
+    → Extends shapes new more
+extends-new shapes new s bounds more n h a below e fresh keys items =
     let none : list_any (shape_eq s) shapes ≡ false = not-true (list_any (shape_eq s) shapes) fresh in
     let last : new ≡ shapes ++ s ∷ [] = fresh-last shapes new s fresh keys in
     subst (λ ks. Extends shapes ks more) (sym last)
@@ -346,13 +348,16 @@ extends_new shapes new s bounds more n h a below e fresh keys items =
     })
 
 -- after an insertion, the type that a shape makes stands at the place of the shape that is the same
-pub holds_new : (shapes new : List Shape) (s : Shape) (i : ℕ) (r : Shape) → IsStore shapes → IsBelow (length (trees shapes)) s → new ≡ insert_key shape_eq shapes s
+pub holds-new : (shapes new : List Shape) (s : Shape) (i : ℕ) (r : Shape) → IsStore shapes → IsBelow (length (trees shapes)) s
+    → new ≡ insert_key shape_eq shapes s
     → slice_get new i ≡ Some r → shape_eq s r ≡ true → Holds (trees new) i (tree_at (trees shapes) s)
-holds_new shapes new s i r h below keys e same =
-    subst (λ ks. Holds (trees ks) i (tree_at (trees shapes) s)) (sym keys) (holds-inserted shapes h s below i r (subst (λ ks. slice_get ks i ≡ Some r) keys e) same)
+holds-new shapes new s i r h below keys e same =
+    subst (λ ks. Holds (trees ks) i (tree_at (trees shapes) s)) (sym keys)
+    (holds-inserted shapes h s below i r (subst (λ ks. slice_get ks i ≡ Some r) keys e) same)
 
 -- a shape that a search finds among the shapes of a store
-pub placed : (shapes : List Shape) (s : Shape) (i : ℕ) → IsStore shapes → position (shape_eq s) shapes ≡ Some i → Holds (trees shapes) i (tree_at (trees shapes) s)
+pub placed : (shapes : List Shape) (s : Shape) (i : ℕ) → IsStore shapes → position (shape_eq s) shapes ≡ Some i
+    → Holds (trees shapes) i (tree_at (trees shapes) s)
 placed shapes s i h e =
     let p = position-Some (shape_eq s) shapes i s e in
     let there : slice_get shapes i ≡ Some (get_or shapes i s) = slice_get-get_or shapes i s p.0 in

@@ -1,6 +1,7 @@
 use Rattle.std.proofs.Common.{true, refl}
 use Rattle.omega_node_laws.proofs.SynthSteps.{inst-done, get-done, inj-done, roll-done, unroll-done}
-use Rattle.omega_node_laws.proofs.BinderSteps.{function-done, lam-done, let-done, call-let, applied-done, call-applied, ty_lam-done, pack-done, unpack-done, if-done, arith-done}
+use Rattle.omega_node_laws.proofs.BinderSteps.{function-done, lam-done, let-done, call-let, applied-done, call-applied, ty_lam-done, pack-done, unpack-done}
+use Rattle.omega_node_laws.proofs.BinderSteps.{if-done, arith-done}
 use Rattle.omega_node_laws.proofs.BranchSteps.{fix-done, case-done}
 use Rattle.omega_node_laws.proofs.WholeSteps.{leaf-done, record-done, no-branch, branch-more}
 use Rattle.omega_node_laws.proofs.steps.Goals as goal

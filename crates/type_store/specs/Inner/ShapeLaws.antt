@@ -9,23 +9,27 @@ use Rattle.omega_kinds.proofs.LabelLaws.{label-yes, label-self}
 use Rattle.type_store.specs.Shape.{Shape, Parts, parts_eq, shape_eq}
 use Rattle.type_store.specs.Inner.Feed.{fed_shape}
 
-no : {A : Type 0} → false ≡ true → A
+-- false is not true
+pub no : {A : Type 0} → false ≡ true → A
 no e = absurd (false≢true e)
 
+-- two truth values are the same if each holds where the other does
 pub truths : (a b : Truth) → (a ≡ true → b ≡ true) → (b ≡ true → a ≡ true) → a ≡ b
 truths true true f g = refl
 truths true false f g = no (f refl)
 truths false true f g = no (g refl)
 truths false false f g = refl
 
-kind_eq-yes : (a b : Kind) → kind_eq a b ≡ true → a ≡ b
+-- kinds that the test takes for the same are the same
+pub kind_eq-yes : (a b : Kind) → kind_eq a b ≡ true → a ≡ b
 kind_eq-yes Kind.Star Kind.Star e = refl
 kind_eq-yes Kind.Star (Kind.Arrow c d) e = no e
 kind_eq-yes (Kind.Arrow a b) Kind.Star e = no e
 kind_eq-yes (Kind.Arrow a b) (Kind.Arrow c d) e =
     let p = and_parts (kind_eq a c) (kind_eq b d) e in ap₂ Kind.Arrow (kind_eq-yes a c p.0) (kind_eq-yes b d p.1)
 
-kind_eq-self : (a : Kind) → kind_eq a a ≡ true
+-- the test takes each kind for the same as itself
+pub kind_eq-self : (a : Kind) → kind_eq a a ≡ true
 kind_eq-self Kind.Star = refl
 kind_eq-self (Kind.Arrow a b) = and_from (kind_eq a a) (kind_eq b b) (kind_eq-self a) (kind_eq-self b)
 
@@ -40,7 +44,8 @@ parts_eq-yes _ _ e = no e
 parts_eq-self : (xs : Parts) → parts_eq xs xs ≡ true
 parts_eq-self [] = refl
 parts_eq-self (x ∷ xs) =
-    and_from (is_eq (label_cmp x.0 x.0) && x.1 == x.1) (parts_eq xs xs) (and_from (is_eq (label_cmp x.0 x.0)) (x.1 == x.1) (label-self x.0) (eq-eqb x.1 x.1 refl)) (parts_eq-self xs)
+    and_from (is_eq (label_cmp x.0 x.0) && x.1 == x.1) (parts_eq xs xs)
+    (and_from (is_eq (label_cmp x.0 x.0)) (x.1 == x.1) (label-self x.0) (eq-eqb x.1 x.1 refl)) (parts_eq-self xs)
 
 two : (a b c d : ℕ) → (a == c && b == d) ≡ true → (a ≡ c) × (b ≡ d)
 two a b c d e = let p = and_parts (a == c) (b == d) e in (eqb-true a c p.0, eqb-true b d p.1)
@@ -51,6 +56,7 @@ bound a b j k e = let p = and_parts (a == b) (kind_eq j k) e in (kind_eq-yes j k
 bound-self : (a : ℕ) (k : Kind) → (a == a && kind_eq k k) ≡ true
 bound-self a k = and_from (a == a) (kind_eq k k) (eq-eqb a a refl) (kind_eq-self k)
 
+-- shapes that the test takes for the same are the same
 pub shape_eq-yes : (s t : Shape) → shape_eq s t ≡ true → s ≡ t
 shape_eq-yes (Shape.Var i) (Shape.Var j) e = ap Shape.Var (eqb-true i j e)
 shape_eq-yes Shape.Int Shape.Int e = refl
@@ -66,6 +72,7 @@ shape_eq-yes (Shape.Lam j a) (Shape.Lam k b) e = let p = bound a b j k e in ap�
 shape_eq-yes (Shape.Apply a b) (Shape.Apply c d) e = let p = two a b c d e in ap₂ Shape.Apply p.0 p.1
 shape_eq-yes _ _ e = no e
 
+-- the test takes each shape for the same as itself
 pub shape_eq-self : (s : Shape) → shape_eq s s ≡ true
 shape_eq-self (Shape.Var i) = eq-eqb i i refl
 shape_eq-self Shape.Int = refl
@@ -80,9 +87,11 @@ shape_eq-self (Shape.Mu b) = eq-eqb b b refl
 shape_eq-self (Shape.Lam k b) = bound-self b k
 shape_eq-self (Shape.Apply f a) = and_from (f == f) (a == a) (eq-eqb f f refl) (eq-eqb a a refl)
 
+-- the test takes shapes that are the same for the same
 pub shape_eq-of : (s t : Shape) → s ≡ t → shape_eq s t ≡ true
 shape_eq-of s t e = subst (λ u. shape_eq s u ≡ true) e (shape_eq-self s)
 
+-- the test is an equivalence
 pub shape_laws : IsEquivalence shape_eq
 shape_laws = record {
   refl = shape_eq-self;
@@ -90,9 +99,11 @@ shape_laws = record {
   congr = λ s t u e. ap (λ v. shape_eq v u) (shape_eq-yes s t e);
 }
 
+-- and so it is a partial equivalence
 pub shape_part_laws : IsPartialEquivalence shape_eq
 shape_part_laws = partial_equiv_from_equiv shape_laws
 
+-- shapes that the test takes for the same feed a hasher the same
 pub shape_alike : (s t : Shape) → IsTrue (shape_eq s t) → fed_shape s ≡ fed_shape t
 shape_alike s t e = ap fed_shape (shape_eq-yes s t e)
 

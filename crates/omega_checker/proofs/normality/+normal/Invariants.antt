@@ -26,4 +26,6 @@ decreases-applied_kind l = 3 * (nodes l.operator.now + nodes l.arg.now) + 2
 abbrev pub invariant-normal_fields-loop-field : goal.invariant-normal_fields-loop-field
 invariant-normal_fields-loop-field l =
     let scope = scope_below l.ctx l.initial.inner.items in
-    (scope_of l.inner.items ≡ scope_of l.initial.inner.items) × (are_normal scope (row (drop l.field-index l.field-items)) ≡ are_normal scope (row l.field-items)) × (nodes_pairs (drop l.field-index l.field-items) ≤ nodes_pairs l.field-items)
+    (scope_of l.inner.items ≡ scope_of l.initial.inner.items) ×
+    (are_normal scope (row (drop l.field-index l.field-items)) ≡ are_normal scope (row l.field-items)) ×
+    (nodes_pairs (drop l.field-index l.field-items) ≤ nodes_pairs l.field-items)

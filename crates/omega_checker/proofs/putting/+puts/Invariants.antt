@@ -9,7 +9,9 @@ use Rattle.omega_checker.proofs.putting.+puts.Given as goal
 
 abbrev pub invariant-puts_fields-loop-i : goal.invariant-puts_fields-loop-i
 invariant-puts_fields-loop-i l =
-    (put_in_row (kind_tree l.kind) (args (kind_tree l.kind)) l.at (shift l.depth 0 l.arg) (row l.parts) ≡ row_at l.types l.found ↔ put_in_row (kind_tree l.kind) (args (kind_tree l.kind)) l.at (shift l.depth 0 l.arg) (row (drop l.i l.parts)) ≡ row_at l.types (drop l.i l.found)) × (nodes_pairs (drop l.i l.parts) ≤ nodes_pairs l.parts)
+    (put_in_row (kind_tree l.kind) (args (kind_tree l.kind)) l.at (shift l.depth 0 l.arg) (row l.parts) ≡ row_at l.types l.found ↔
+    put_in_row (kind_tree l.kind) (args (kind_tree l.kind)) l.at (shift l.depth 0 l.arg) (row (drop l.i l.parts)) ≡ row_at l.types (drop l.i l.found)) ×
+    (nodes_pairs (drop l.i l.parts) ≤ nodes_pairs l.parts)
 
 abbrev pub decreases-puts : goal.decreases-puts
 decreases-puts l = 2 * nodes l.body.now

@@ -9,4 +9,5 @@ pub returns : goal.returns
 returns c =
     let s = c.self.inside in
     filled-test s.types (scope_of s.kinds.items) (length s.kinds.items) s.vars.items c.args.inner c.args.hidden c.args.whole c.is_filled.result c.self.view_is
-    (subst (λ u. IsTrue c.is_filled.result ↔ u ≡ at s.types c.args.whole) (filled-outermost (at s.types c.args.hidden) (at s.types c.args.inner)) c.is_filled.ensures)
+    (subst (λ u. IsTrue c.is_filled.result ↔ u ≡ at s.types c.args.whole)
+    (filled-outermost (at s.types c.args.hidden) (at s.types c.args.inner)) c.is_filled.ensures)

@@ -9,4 +9,5 @@ use Rattle.omega_checker.proofs.scope.Scope.lower.Goals as goal
 pub returns : goal.returns
 returns c =
     let s = c.self.inside in
-    IfOk-weaker c.lower.result _ _ (λ o h. wrapped-find (λ r. lowered (Some (at r.types c.args.number))) s.types c.lower.new.self (scope_of s.kinds.items) (length s.kinds.items) s.vars.items o c.self.view_is c.self.invariant c.lower.ensures.grows h) c.lower.ensures.number
+    IfOk-weaker c.lower.result _ _ (λ o h. wrapped-find (λ r. lowered (Some (at r.types c.args.number))) s.types c.lower.new.self (scope_of s.kinds.items)
+    (length s.kinds.items) s.vars.items o c.self.view_is c.self.invariant c.lower.ensures.grows h) c.lower.ensures.number

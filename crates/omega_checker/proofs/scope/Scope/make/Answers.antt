@@ -9,4 +9,5 @@ use Rattle.omega_checker.proofs.scope.Scope.make.Goals as goal
 pub returns : goal.returns
 returns c =
     let s = c.self.inside in
-    IfOk-weaker c.make.result _ _ (λ n h. wrapped (λ ts. tree_at ts (shape_of c.args.form)) s.types c.make.new.self (scope_of s.kinds.items) (length s.kinds.items) s.vars.items n c.self.view_is c.self.invariant c.make.ensures.grows h) c.make.ensures.number
+    IfOk-weaker c.make.result _ _ (λ n h. wrapped (λ ts. tree_at ts (shape_of c.args.form)) s.types c.make.new.self (scope_of s.kinds.items)
+    (length s.kinds.items) s.vars.items n c.self.view_is c.self.invariant c.make.ensures.grows h) c.make.ensures.number

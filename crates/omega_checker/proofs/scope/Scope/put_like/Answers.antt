@@ -7,4 +7,5 @@ use Rattle.omega_checker.proofs.scope.Scope.put_like.Goals as goal
 pub returns : goal.returns
 returns c =
     let s = c.self.inside in
-    IfOk-weaker c.put_like.result _ _ (λ n h. wrapped (λ ts. c.args.ty.now) s.types c.put_like.new.self (scope_of s.kinds.items) (length s.kinds.items) s.vars.items n c.self.view_is c.self.invariant c.put_like.ensures.grows h) c.put_like.ensures.number
+    IfOk-weaker c.put_like.result _ _ (λ n h. wrapped (λ ts. c.args.ty.now) s.types c.put_like.new.self (scope_of s.kinds.items)
+    (length s.kinds.items) s.vars.items n c.self.view_is c.self.invariant c.put_like.ensures.grows h) c.put_like.ensures.number

@@ -39,4 +39,5 @@ decreases-put_fields l = 3 * nodes_pairs l.fields.now
 
 abbrev pub invariant-put_fields-loop-field : goal.invariant-put_fields-loop-field
 invariant-put_fields-loop-field l =
-    Begins l.initial.self l.self × MakesParts l.self l.parts.items (row (take l.field-index l.field-items)) × (nodes_pairs (drop l.field-index l.field-items) ≤ nodes_pairs l.field-items)
+    Begins l.initial.self l.self × MakesParts l.self l.parts.items (row (take l.field-index l.field-items)) ×
+    (nodes_pairs (drop l.field-index l.field-items) ≤ nodes_pairs l.field-items)

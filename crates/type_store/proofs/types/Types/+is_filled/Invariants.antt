@@ -10,4 +10,6 @@ abbrev pub decreases-are_filled : goal.decreases-are_filled
 decreases-are_filled l = 2 * l.top
 
 abbrev pub invariant-are_filled-loop-i : goal.invariant-are_filled-loop-i
-invariant-are_filled-loop-i l = filled_row l.index (at l.self l.arg) (row_at l.self l.parts) ≡ row_at l.self l.wholes ↔ filled_row l.index (at l.self l.arg) (row_at l.self (drop l.i l.parts)) ≡ row_at l.self (drop l.i l.wholes)
+invariant-are_filled-loop-i l =
+    filled_row l.index (at l.self l.arg) (row_at l.self l.parts) ≡ row_at l.self l.wholes ↔
+    filled_row l.index (at l.self l.arg) (row_at l.self (drop l.i l.parts)) ≡ row_at l.self (drop l.i l.wholes)

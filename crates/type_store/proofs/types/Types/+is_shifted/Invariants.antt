@@ -11,4 +11,6 @@ abbrev pub decreases-are_shifted : goal.decreases-are_shifted
 decreases-are_shifted l = 2 * l.top
 
 abbrev pub invariant-are_shifted-loop-i : goal.invariant-are_shifted-loop-i
-invariant-are_shifted-loop-i l = rename_row (bump l.by l.from) (row_at l.self l.parts) ≡ row_at l.self l.wholes ↔ rename_row (bump l.by l.from) (row_at l.self (drop l.i l.parts)) ≡ row_at l.self (drop l.i l.wholes)
+invariant-are_shifted-loop-i l =
+    rename_row (bump l.by l.from) (row_at l.self l.parts) ≡ row_at l.self l.wholes ↔
+    rename_row (bump l.by l.from) (row_at l.self (drop l.i l.parts)) ≡ row_at l.self (drop l.i l.wholes)

@@ -11,4 +11,6 @@ abbrev pub decreases-are_parts : goal.decreases-are_parts
 decreases-are_parts l = nodes_pairs l.fields.now
 
 abbrev pub invariant-are_parts-loop-i : goal.invariant-are_parts-loop-i
-invariant-are_parts-loop-i l = (row_at l.self l.parts ≡ row l.fields ↔ row_at l.self (drop l.i l.parts) ≡ row (drop l.i l.fields)) × (nodes_pairs (drop l.i l.fields) ≤ nodes_pairs l.fields)
+invariant-are_parts-loop-i l =
+    (row_at l.self l.parts ≡ row l.fields ↔ row_at l.self (drop l.i l.parts) ≡ row (drop l.i l.fields)) ×
+    (nodes_pairs (drop l.i l.fields) ≤ nodes_pairs l.fields)

@@ -48,4 +48,5 @@ abbrev pub invariant-alike-loop-i : goal.invariant-alike-loop-i
 invariant-alike-loop-i l = Begins l.initial.self l.self × AreAlike l.self l.hint l.items l.i × (nodes_pairs (drop l.i l.items) ≤ nodes_pairs l.items)
 
 abbrev pub invariant-like_rest-loop-i : goal.invariant-like_rest-loop-i
-invariant-like_rest-loop-i l = Begins l.initial.self l.self × MakesParts l.self l.parts.items (row (take l.i l.items)) × (nodes_pairs (drop l.i l.items) ≤ nodes_pairs l.items)
+invariant-like_rest-loop-i l =
+    Begins l.initial.self l.self × MakesParts l.self l.parts.items (row (take l.i l.items)) × (nodes_pairs (drop l.i l.items) ≤ nodes_pairs l.items)

@@ -16,4 +16,5 @@ decreases-put_in_fields l = 3 * l.whole
 
 abbrev pub invariant-put_in_fields-loop-part : goal.invariant-put_in_fields-loop-part
 invariant-put_in_fields-loop-part l =
-    Begins l.initial.self l.self × MakesParts l.self l.filled.items (row (take l.part-index (mapped_pairs (filled l.index (at l.initial.self l.arg)) l.initial.self l.parts)))
+    Begins l.initial.self l.self × MakesParts l.self l.filled.items
+    (row (take l.part-index (mapped_pairs (filled l.index (at l.initial.self l.arg)) l.initial.self l.parts)))

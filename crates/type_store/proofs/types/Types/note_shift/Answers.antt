@@ -7,6 +7,7 @@ pub invariant_of-self : goal.invariant_of-self
 invariant_of-self c =
     let key : Key = (c.args.number, c.args.from, c.args.by) in
     let right : IsShift c.args.self.now key c.args.shifted = record { within = c.requires.within; value = c.requires.right } in (
-      noted IsShift c.self.inside.store c.self.inside.shifts c.insert.new.self key c.args.shifted c.self.invariant.0 (subst (λ ts. IsShift ts key c.args.shifted) (sym c.self.view_is) right) c.insert.ensures,
+      noted IsShift c.self.inside.store c.self.inside.shifts c.insert.new.self key c.args.shifted c.self.invariant.0
+          (subst (λ ts. IsShift ts key c.args.shifted) (sym c.self.view_is) right) c.insert.ensures,
       c.self.invariant.1,
     )
