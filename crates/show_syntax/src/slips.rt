@@ -45,7 +45,9 @@ fn mark_slip(mark: Mark, before: Option<Terminal>, expected: &[Terminal]) -> Opt
             Some("There is no unit value: the empty record is `{}`.")
         }
         Mark::Comma if can(Terminal::Mark(Mark::RightParen)) => {
-            Some("There are no tuples: write a record, `{a = 1, b = 2}`, and one argument after the other, `fun (x : Int) => fun (y : Int) => x`.")
+            Some(
+                "There are no tuples: write a record, `{a = 1, b = 2}`, and one argument after the other, `fun (x : Int) => fun (y : Int) => x`.",
+            )
         }
         Mark::Dot => dot_slip(before),
         Mark::Arrow if can(DOUBLE_ARROW) => {
