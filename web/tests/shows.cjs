@@ -7,7 +7,8 @@ const {treeOf, targetFrom} = require("../page/derivations.js");
 const {fragmentOf, fieldsOf} = require("../page/link.js");
 
 const TESTS = "crates/fing_show/src";
-const CALL = /\ball_show(?:_as)?\(\s*&rt,\s*rt\.alloc\(\),(?:\s*View::(\w+(?:\(Form::\w+\))?),)?\s*(?:true|false),\s*&\[?([A-Z_]+)\]?,?\s*\)/g;
+const TABLES = "tests.rt"; // has the tables of rows, each with its view
+const TABLE = /^    \(View::(\w+(?:\(Form::\w+\))?), &(?:(\w+)::)?([A-Z_]+)\),$/gm;
 const OF_CODE = {
   Source: "page", Paper: "paper", Latex: "paper-latex", Term: "term", TermLatex: "term-latex",
   "Derivation(Form::Text)": "derivation", "Derivation(Form::Html)": "derivation-html",
@@ -26,20 +27,20 @@ function valueOf(literal) {
 
 // The rows of a table of a test: sources and their pages.
 function rowsOf(file, name) {
-  const [, size, text] = new RegExp(`^(?:pub\\(crate\\) )?const ${name}: (\\(&str, &str\\)|\\[\\(&str, &str\\); \\d+\\]) = ([^]*?)^[\\])];`, "m").exec(file);
+  const [, size, text] = new RegExp(`^(?:pub\\(crate\\) )?const ${name}: (\\[\\(&str, &str\\); \\d+\\]) = ([^]*?)^[\\])]+;`, "m").exec(file);
   const values = [...text.matchAll(/"((?:\\[^]|[^"\\])*)"/g)].map(it => valueOf(it[1]));
-  const count = Number(/\d+/.exec(size)?.[0] ?? 1);
+  const count = Number(/\d+/.exec(size)[0]);
   expect(`the rows of ${name}`, values.length, 2 * count);
   return Array.from({length: count}, (_, row) => ({source: values[2 * row], page: values[2 * row + 1]}));
 }
 
 // The pages that the tests of the crate have, each with its view; not those of a view that the module does not have.
 function pagesOfTests() {
-  const files = fs.readdirSync(path.join(TOP, TESTS)).filter(it => it.endsWith("tests.rt"));
-  const pages = files.flatMap(name => {
-    const file = read(`${TESTS}/${name}`);
-    return [...file.matchAll(CALL)].filter(([, view = "Source"]) => view in OF_CODE).flatMap(([, view = "Source", rows]) =>
-      rowsOf(file, rows).map(row => ({...row, view: OF_CODE[view], name: "a.fing"})));
+  const tables = read(`${TESTS}/${TABLES}`);
+  const homeOf = rows => new RegExp(`^use crate::(\\w+)::${rows};`, "m").exec(tables)?.[1];
+  const pages = [...tables.matchAll(TABLE)].filter(([, view]) => view in OF_CODE).flatMap(([, view, named, rows]) => {
+    const home = named ?? homeOf(rows);
+    return rowsOf(home ? read(`${TESTS}/${home}.rt`) : tables, rows).map(row => ({...row, view: OF_CODE[view], name: "a.fing"}));
   });
   const runs = rowsOf(read(`${TESTS}/step_tests.rt`), RUNS).map(row => ({...row, view: "steps", name: "a.fing"}));
   return [...pages, ...runs];
