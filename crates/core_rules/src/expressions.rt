@@ -18,7 +18,7 @@ use omega_terms::{Op, Term, TermNode};
 use omega_types::{Ty, TyFields, TyNode};
 use semantic_sigs::{Kinded, Typed};
 use std::alloc::Global;
-use type_normal::{NormalTy, hsubst, plain};
+use type_normal::{NormalTy, function_type, hsubst, plain};
 
 /// A value that is written out: a number, a truth value, a text.
 #[derive(Drop)]
@@ -56,12 +56,8 @@ pub fn lam_exp(alloc: Global, param: &Kinded, body: Typed) -> Result<Typed, Core
     ensures refused { IfErr result (λ e. IfSome (plain_why e) (λ why. FunctionRefuses param.now.ty (kind_tree param.now.kind) why)) }
 {
     expect_star(&param.kind)?;
-    let from = plain(&param.ty);
-    let ty = made(
-        alloc,
-        TyNode::Arrow(from.share()?, plain(&body.ty).share()?),
-    )?;
-    let term = Term::make(alloc, TermNode::Lam(from.share()?, body.term))?;
+    let ty = function_type(alloc, &param.ty, &body.ty)?;
+    let term = Term::make(alloc, TermNode::Lam(plain(&param.ty).share()?, body.term))?;
     Ok(Typed { ty, term })
 }
 
@@ -192,7 +188,7 @@ pub fn fix_exp(
     expect_same(&body.ty, &target.ty)?;
     let from = plain(&param.ty);
     let to = plain(&target.ty);
-    let ty = made(alloc, TyNode::Arrow(from.share()?, to.share()?))?;
+    let ty = function_type(alloc, &param.ty, &target.ty)?;
     let term = Term::make(alloc, TermNode::Fix(from.share()?, to.share()?, body.term))?;
     Ok(Typed { ty, term })
 }

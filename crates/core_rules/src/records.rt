@@ -108,12 +108,18 @@ pub(crate) fn add_exp(
 ) -> Result<(), Mem>
     ensures { OnOk result (parts.new.entries ≡ insert_entry name_cmp parts.old.entries name.now exp.now) }
 {
-    let copy = Typed {
+    parts.insert(name.share()?, shared(exp)?)?;
+    Ok(())
+}
+
+// The same type and term, with their parts shared.
+fn shared(exp: &Typed) -> Result<Typed, Mem>
+    ensures { IfOk result (λ e. e ≡ exp.now) }
+{
+    Ok(Typed {
         ty: exp.ty.share()?,
         term: exp.term.share()?,
-    };
-    parts.insert(name.share()?, copy)?;
-    Ok(())
+    })
 }
 
 // The fields of a record's type.

@@ -14,7 +14,7 @@ use omega_kinds::{Kind, Mem, arrow, same_kind};
 use omega_types::TyNode;
 use semantic_sigs::Kinded;
 use std::alloc::Global;
-use type_normal::{NormalTy, hsubst, plain};
+use type_normal::{NormalTy, function_type, hsubst, plain};
 
 /// A type that is written as a word: the numbers, the truth values, the texts.
 #[derive(Clone, Copy, Debug, PartialEq, Eq)]
@@ -56,8 +56,11 @@ pub fn arrow_ty(alloc: Global, from: &Kinded, to: &Kinded) -> Result<Kinded, Cor
 {
     expect_star(&from.kind)?;
     expect_star(&to.kind)?;
-    let node = TyNode::Arrow(plain(&from.ty).share()?, plain(&to.ty).share()?);
-    Ok(of_values(alloc, node)?)
+    let ty = function_type(alloc, &from.ty, &to.ty)?;
+    Ok(Kinded {
+        ty,
+        kind: Kind::Star,
+    })
 }
 
 /// `[X : K] -> T`, T under X. `KindDiffer` comes exactly where T has another kind than `*`: the kind, and `*`.

@@ -28,7 +28,7 @@ use omega_terms::Op as TermOp;
 use omega_types::{Ty, TyNode};
 use semantic_sigs::{Env, Kinded, Typed};
 use std::alloc::Global;
-use type_normal::{NormalTy, as_normal, plain, same};
+use type_normal::{NormalTy, as_normal, function_type, plain, same};
 
 /// The type is one of functions. `NotArrow` comes exactly where it is not: the type.
 pub fn expect_arrow(env: &Env, at: Span, ty: &NormalTy) -> Result<(), Refusal>
@@ -238,8 +238,7 @@ pub fn record_rule(
 pub fn arrow_of(alloc: Global, from: &Kinded, to: &Kinded) -> Result<NormalTy, Mem>
     ensures { IfOk result (λ t. t ≡ TyTree.Arrow from.now.ty to.now.ty) }
 {
-    let node = TyNode::Arrow(plain(&from.ty).share()?, plain(&to.ty).share()?);
-    Ok(as_normal(Ty::make(alloc, node)?))
+    function_type(alloc, &from.ty, &to.ty)
 }
 
 /// The operator of terms.

@@ -2,7 +2,7 @@
 use fing_text::Span;
 use omega_kinds::{Kind, Mem, Name};
 use semantic_sigs::{Path, Why};
-use type_normal::NormalTy;
+use type_normal::{NormalTy, plain};
 
 /// Why a phrase is refused. Types stand where the refusal says, in so many type variables as it says.
 ///
@@ -79,4 +79,31 @@ impl From<Mem> for Refusal {
             why: ElabWhy::Mem,
         }
     }
+}
+
+impl Refusal {
+    /// Whether the text of each type in the reason is short enough to be written: at most 268,435,456 forms. It decides
+    /// nothing but where memory is refused. Takes no memory.
+    pub fn is_written(&self) -> bool {
+        match &self.why {
+            ElabWhy::Clash { why, .. } => match why {
+                Why::Types(found, needed) => are_written(found, needed),
+                Why::Form | Why::Missing | Why::Effect => true,
+            },
+            ElabWhy::Differ(found, needed) => are_written(found, needed),
+            ElabWhy::NotArrow(ty)
+            | ElabWhy::NotAll(ty)
+            | ElabWhy::NotRecord(ty)
+            | ElabWhy::NotSum(ty)
+            | ElabWhy::NotData(ty) => plain(ty).extent().is_written(),
+            _ => true,
+        }
+    }
+}
+
+// Whether the texts of two types are short enough.
+fn are_written(a: &NormalTy, b: &NormalTy) -> bool {
+    let a = plain(a).extent();
+    let b = plain(b).extent();
+    a.beside(b).is_written()
 }

@@ -1,5 +1,6 @@
 // Sources of which a type, a signature or a value is higher than the stack is sure to hold, or too large. Each is refused
-// when memory is out, with nothing written, and a lower one of the same form is accepted.
+// when memory is out, with nothing written, and a lower one of the same form is accepted. So is one that is large only since
+// one tree stands on both sides of its arrows, but for what has its text.
 use crate::runs::{Answer, ran};
 use fing_top::Status;
 use std::alloc::Global;
@@ -32,6 +33,28 @@ const RECORDS: Rows = Rows {
     first: "val x0 = 1",
     more: "val x# = {a = x@, b = x@}",
     last: "",
+};
+
+// Twice as many forms with each line in the encoding, in which a signature part has its signature on both sides of an arrow,
+// and one more in the signature.
+const PARTS: Rows = Rows {
+    first: "signature S0 = sig type t end",
+    more: "signature S# = sig signature A = S@ end",
+    last: "",
+};
+
+// Twice as many forms with each line, of which the signature shows none.
+const ARROWS: Rows = Rows {
+    first: "module M = struct type t0 = Int",
+    more: "type t# = t@ -> t@",
+    last: "val f = fun (x : t#) => x val y = 1 end :> sig val y : Int end",
+};
+
+// The same with operators.
+const TWICE: Rows = Rows {
+    first: "module M = struct type t0 = fun (a : Type) => a -> a",
+    more: "type t# = fun (a : Type) => t0 (t@ a)",
+    last: "val f = fun (x : t# Int) => x val y = 1 end :> sig val y : Int end",
 };
 
 fn add_number(alloc: Global, text: &mut String, number: u32) -> Result<(), Fail> {
@@ -68,7 +91,7 @@ fn answer(alloc: Global, command: &str, rows: Rows, lines: u32) -> Result<Answer
 }
 
 const TOO_HIGH: [(Rows, u32); 5] = [
-    (OPERATORS, 13),
+    (OPERATORS, 14),
     (OPERATORS, 31),
     (HIDDEN, 14),
     (HIDDEN, 21),
@@ -95,9 +118,26 @@ fn what_is_too_high_is_want_of_memory(rt: HostRuntime) -> Result<(), Fail> {
 
 #[test]
 fn what_is_lower_is_accepted(rt: HostRuntime) -> Result<(), Fail> {
-    for (rows, lines) in &[(OPERATORS, 12), (HIDDEN, 11), (RECORDS, 14)] {
+    for (rows, lines) in &[(OPERATORS, 13), (HIDDEN, 11), (RECORDS, 14)] {
         let found = answer(rt.alloc(), "check", *rows, *lines)?;
         assert_eq!(rt; found.status, Status::Ok, "at {lines}");
+    }
+    Ok(())
+}
+
+#[test]
+fn what_stands_on_both_sides_of_an_arrow_is_met_once(rt: HostRuntime) -> Result<(), Fail> {
+    for (rows, lines) in &[(PARTS, 200), (ARROWS, 200), (TWICE, 200)] {
+        let found = answer(rt.alloc(), "check", *rows, *lines)?;
+        assert_eq!(rt; found.status, Status::Ok, "at {lines}");
+    }
+    Ok(())
+}
+
+#[test]
+fn what_has_too_long_a_text_is_not_written(rt: HostRuntime) -> Result<(), Fail> {
+    for rows in &[PARTS, ARROWS, TWICE] {
+        assert!(rt; is_want_of_memory(rt.alloc(), "emit", *rows, 60)?);
     }
     Ok(())
 }

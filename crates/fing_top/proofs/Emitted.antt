@@ -137,8 +137,8 @@ written-handed simplify out (ProgramReplies.meant {m = m} b told) s w p low =
     let handed : Confirms out.confirmed (Some j) = subst (λ (r : Reply). Confirms out.confirmed r.confirmed) told p in
     let here : IsEmitted (omega_text x e) x e = meaning-emitted simplify b in
     let heights : IsLow (Some j) = subst IsLow handed low in
-    let low_type : height x ≤ 4096 = heights.0 in
-    let low_term : term_height e ≤ 4096 = heights.1 in
+    let low_type : height x ≤ 8192 = heights.0 in
+    let low_term : term_height e ≤ 8192 = heights.1 in
     record {
       judgment = j;
       confirmed = handed;

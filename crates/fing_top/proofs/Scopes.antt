@@ -76,15 +76,15 @@ pub compiled-normal : (bytes : List ℕ) (c : Compiled) → IsCompiled bytes c �
 compiled-normal bytes c h = means-normal h.program c.effect c.sig h.types h.term c.checked.term h.means.derived
 
 -- what is compiled has the encoding of its signature as its type
-pub closed-signature : (x : Abs) (t : Ty) (low high : ℕ) → NormalAbs [] x → t ≡ enc_abs x → abs_height x ≤ low → low ≤ 4096 → height t ≤ high → high ≤ 4096 → AbsInScope 0 x
+pub closed-signature : (x : Abs) (t : Ty) (low high : ℕ) → NormalAbs [] x → t ≡ enc_abs x → abs_height x ≤ low → low ≤ 8192 → height t ≤ high → high ≤ 8192 → AbsInScope 0 x
 closed-signature x t low high k same a b c d =
     let e : height (enc_abs x) ≤ high = subst (λ (u : Ty). height u ≤ high) same c in
     abs-scope [] x 0 refl (omega (arith, d, e)) (omega (arith, a, b)) k
 
 -- a confirmed type that is not too high has its variables in scope
-pub confirmed-type : (j : Judgment) (t : Ty) (high : ℕ) → t ≡ j.ty → Derived j → height t ≤ high → high ≤ 4096 → TyInScope 0 t
+pub confirmed-type : (j : Judgment) (t : Ty) (high : ℕ) → t ≡ j.ty → Derived j → height t ≤ high → high ≤ 8192 → TyInScope 0 t
 confirmed-type j t high same typed a b = closed-type (type-kind (good-none []) (subst (λ (u : Ty). HasType [] [] j.term u) (sym same) typed)) (omega (arith, a, b))
 
 -- a confirmed term that is not too high has its variables in scope
-pub confirmed-term : (j : Judgment) (e : Term) (high : ℕ) → e ≡ j.term → Derived j → term_height e ≤ high → high ≤ 4096 → TermInScope 0 0 e
+pub confirmed-term : (j : Judgment) (e : Term) (high : ℕ) → e ≡ j.term → Derived j → term_height e ≤ high → high ≤ 8192 → TermInScope 0 0 e
 confirmed-term j e high same typed a b = closed-term (subst (λ (d : Term). HasType [] [] d j.ty) (sym same) typed) (omega (arith, a, b))

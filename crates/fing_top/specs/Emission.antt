@@ -47,7 +47,7 @@ EmittedIsVerified = ((simplify : Bool) → WritesVerified (command.Emit simplify
 -- no tree of the code is higher
 abbrev pub IsLow : Option Judgment → Type 0
 IsLow None = Unit {0}
-IsLow (Some j) = (height j.ty ≤ 4096) × (term_height j.term ≤ 4096)
+IsLow (Some j) = (height j.ty ≤ 8192) × (term_height j.term ≤ 8192)
 
 -- a term and its type were handed out, and the sink took a text of both, which is verified where no more than 4,000
 -- parentheses are open in it

@@ -9,14 +9,14 @@ ghost use Rattle.fing_words.specs.declared.command_line.CommandLine.TheVariants 
 
 use crate::compiling::{Compiled, compile};
 use crate::pages::put_elab;
-use crate::refusing::{has_line, write_line};
+use crate::refusing::{has_short_line, write_line};
 use crate::status::{Status, status_of};
 use fing_text::{Sink, WriteFault};
 use omega_checker::Checked;
 use std::alloc::Global;
 
 // Writes the effect and the signature of a program. The signature is closed, and neither it nor its encoding is higher than
-// 4,096, so each variable in it is in scope, with a level below 2^64.
+// 8,192, so each variable in it is in scope, with a level below 2^64.
 fn put_signature<K: Sink>(alloc: Global, sink: &mut K, found: &Compiled) -> Result<(), WriteFault>
     requires normal { NormalAbs [] found.now.sig }
     requires encoded { found.now.checked.ty ≡ enc_abs found.now.sig }
@@ -42,12 +42,12 @@ pub fn check<K: Sink>(
         (output (change (K.told sink.old) (K.told sink.new)) (change confirmed.old confirmed.new)) result }
 {
     match compile(alloc, bytes) {
-        Ok(found) => {
+        Ok(found) if found.sig.extent().is_written() => {
             let wrote = put_signature(alloc, sink, &found);
             *confirmed = Some(found.checked);
             status_of(wrote, Status::Ok)
         }
-        Err(why) if has_line(&why) => status_of(write_line(sink, &why), Status::Refused),
-        Err(_) => Status::NoMemory,
+        Err(why) if has_short_line(&why) => status_of(write_line(sink, &why), Status::Refused),
+        _ => Status::NoMemory,
     }
 }

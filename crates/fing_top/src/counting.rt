@@ -7,7 +7,7 @@ ghost use Rattle.fing_top.specs.Counts.{node_count, counts_line};
 ghost use Rattle.fing_top.specs.Inner.Ending.{counted_text};
 
 use crate::compiling::Compiled;
-use crate::refusing::{has_line, write_line};
+use crate::refusing::{has_short_line, write_line};
 use crate::running::{evaluated, status_at, write_end};
 use crate::status::{Status, status_of};
 use fing_text::{Sink, WriteFault, put_all};
@@ -91,7 +91,7 @@ pub fn count<K: Sink>(
             *confirmed = Some(found.checked);
             status_of(wrote, status_at(&end))
         }
-        Err(why) if has_line(&why) => status_of(write_line(sink, &why), Status::Refused),
+        Err(why) if has_short_line(&why) => status_of(write_line(sink, &why), Status::Refused),
         _ => Status::NoMemory,
     }
 }

@@ -10,7 +10,7 @@ ghost use Rattle.fing_top.specs.Meaning.{one_program};
 
 use crate::compiling::{compile, compile_simplified};
 use crate::pages::put_omega;
-use crate::refusing::{Refused, has_line, write_line};
+use crate::refusing::{Refused, has_short_line, write_line};
 use crate::status::{Status, status_of};
 use fing_text::{Sink, WriteFault};
 use omega_checker::Checked;
@@ -70,17 +70,24 @@ pub(crate) fn put_emission<K: Sink>(
         (output (change (K.told sink.old) (K.told sink.new)) (change confirmed.old confirmed.new)) result }
 {
     match made {
-        Ok(checked) => {
+        Ok(checked) if is_short(&checked) => {
             let wrote = put_checked(alloc, sink, &checked);
             *confirmed = Some(checked);
             status_of(wrote, Status::Ok)
         }
-        Err(why) if has_line(&why) => status_of(write_line(sink, &why), Status::Refused),
-        Err(_) => Status::NoMemory,
+        Err(why) if has_short_line(&why) => status_of(write_line(sink, &why), Status::Refused),
+        _ => Status::NoMemory,
     }
 }
 
-// Writes a type and a term that were confirmed as Omega text. Both are closed, and no tree is higher than 4,096, so each
+// Whether the text of a type and a term that were confirmed is short enough to be written: at most 268,435,456 forms.
+fn is_short(checked: &Checked) -> bool {
+    let ty = checked.ty().extent();
+    let term = checked.term().extent();
+    ty.beside(term).is_written()
+}
+
+// Writes a type and a term that were confirmed as Omega text. Both are closed, and no tree is higher than 8,192, so each
 // variable in them is in scope, with a level below 2^64.
 fn put_checked<K: Sink>(alloc: Global, sink: &mut K, checked: &Checked) -> Result<(), WriteFault>
     ensures { Wrote (K.told sink.old) (K.told sink.new) (omega_text checked.now.ty checked.now.term) result }

@@ -98,6 +98,17 @@ pub fn has_line(why: &Refused) -> bool
     }
 }
 
+// Whether the refusal has a line that is short enough to be written: none of its types has a text of more than 268,435,456
+// forms. Where it has none, the answer is want of memory.
+pub(crate) fn has_short_line(why: &Refused) -> bool
+    ensures { IsTrue result → HasLine why.now }
+{
+    match why {
+        Refused::Program(refusal) => refusal.is_written() && has_line(why),
+        _ => has_line(why),
+    }
+}
+
 /// Writes the line of a refusal, which has one. Takes no memory.
 pub fn write_line<K: Sink>(sink: &mut K, why: &Refused) -> Result<(), WriteFault>
     requires { HasLine why.now }

@@ -9,7 +9,7 @@ ghost use Rattle.fing_top.specs.Inner.Ending.{ending_status, ending_text};
 ghost use Rattle.fing_words.specs.declared.command_line.CommandLine.TheVariants as command;
 
 use crate::compiling::{Compiled, compile};
-use crate::refusing::{Refused, has_line, write_line, write_numbered};
+use crate::refusing::{Refused, has_short_line, write_line, write_numbered};
 use crate::status::{Status, status_of};
 use fing_text::{Sink, WriteFault, put};
 use omega_checker::Checked;
@@ -81,7 +81,7 @@ pub fn run<K: Sink>(
             *confirmed = Some(found.checked);
             status_of(wrote, status_at(&end))
         }
-        Err(why) if has_line(&why) => status_of(write_line(sink, &why), Status::Refused),
+        Err(why) if has_short_line(&why) => status_of(write_line(sink, &why), Status::Refused),
         _ => Status::NoMemory,
     }
 }

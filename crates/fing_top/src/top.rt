@@ -67,7 +67,7 @@ pub fn reply<K: Sink>(
     }
 }
 
-// No type or term that was confirmed is higher than 4,096.
+// No type or term that was confirmed is higher than 8,192.
 fn look_at_heights(confirmed: &Option<Checked>)
     ensures { IsLow confirmed.now }
 {
@@ -167,7 +167,7 @@ pub fn one_meaning()
 /// parentheses are open in it, it is a text of the type and the term that were confirmed for it, `omega_read::read` answers
 /// both for it, or out of memory, and the reply of `verify` to it is `well typed`. However many are open, it is such a text
 /// if the type is of height 2^64 at most and the term of height 2^63, so that each level of a variable is a number of 64
-/// bits; no tree of the program is higher than 4,096.
+/// bits; no tree of the program is higher than 8,192.
 pub fn emitted_is_verified()
     ensures { EmittedIsVerified }
 {}

@@ -1,4 +1,5 @@
 -- Instances compose.
+-- Main results: instances_compose, types_compose.
 use Rattle.std.specs.Prelude.{ℕ, List, ◌∷◌, ◌++◌, ◌≡◌, map}
 use Rattle.std.proofs.Math.Path.{refl, sym, ap, subst, subst₂, ◌∙◌}
 use Rattle.omega_kinds.specs.Kind.{Kind}
@@ -150,17 +151,20 @@ instance-composed {from} {mid} {to} {s} {g} {e} {d} {c} hs hg a b =
     let q : w.0 ≡ c = instance-one hg (subst (λ x. Instance mid to g x w.0) p v.2) b in
     subst (Instance from to (λ i. substitute g (s i)) e) q w.1
 
+-- an instance at the second substitution of an instance at the first is an instance at both composed, and the other way round
 pub instances_compose : InstancesCompose
 instances_compose from mid to s g e c hs hg = (λ o. instance-composed hs hg o.1 o.2, λ a. instance-through mid s g hs hg a)
 
 -- types for variables under those of other variables
 
+-- to put types in, and then f, is convertible to putting in, beside f, the normal forms that these types have under f
 pub puts-through : {inner ctx js : List Kind} {ns : List Ty} (f : ℕ → Ty) (ts : List Ty) → Substitutes inner ctx f → NormalForms ctx (map (substitute f) ts) js ns → Convertible (extend inner js) ctx (λ i. substitute f (puts ts Ty.Var i)) (puts ns f)
 puts-through {inner} {ctx} {js} {ns} f ts h n = subst (λ q. Convertible (extend inner js) ctx q (puts ns f)) (sym (substitute-puts f ts Ty.Var)) (puts-convertible n (λ i k x. c_refl (h i k x)))
 
 conv-back : {from to : List Kind} {s q : ℕ → Ty} → Convertible from to s q → Convertible from to q s
 conv-back h i k x = c_sym (h i k x)
 
+-- so an instance at f and these normal forms is an instance at f of an instance at the types themselves
 pub types-through : {inner ctx js : List Kind} {f : ℕ → Ty} {ts ns : List Ty} {e c : Term} → Substitutes inner ctx f → NormalForms inner ts js ts → NormalForms ctx (map (substitute f) ts) js ns
     → Instance (extend inner js) ctx (puts ns f) e c
     → (d : Term) × Instance (extend inner js) inner (puts ts Ty.Var) e d × Instance inner ctx f d c
@@ -171,6 +175,7 @@ pub types-composed : {inner ctx js : List Kind} {f : ℕ → Ty} {ts ns : List T
     → Instance (extend inner js) ctx (puts ns f) e c
 types-composed {f = f} {ts = ts} {ns = ns} h t n a b = instance-conv (puts ns f) (puts-through f ts h n) (instance-composed (at-substitutes (forms-kinds t)) h a b)
 
+-- types put in one after the other come to the same as all of them put in at once
 pub types_compose : TypesCompose
 types_compose ctx ks js ws ts ns e c w t n = (to-whole, to-parts)
   where

@@ -1,4 +1,5 @@
 -- Types put into what the rule of a sequence makes of a pure binding and a pure rest.
+-- Main results: sequence_put_in, pure-seq.
 use Rattle.std.specs.Prelude.{ℕ, List, ◌++◌, ◌≡◌, map}
 use Rattle.std.proofs.Math.Path.{refl, sym, subst}
 use Rattle.std.proofs.lemmas.List.{map-append}
@@ -96,6 +97,7 @@ abbrev pub SeqView : List Kind → Module → Module → Module → Type 0
 SeqView ctx (made Pure (Abs.Ex ks s) ts e) (made Pure (Abs.Ex js t) us d) w = (n : Sig) × (ns : List Ty) × (c : Term) × NormalSigForm ctx (sig_at ts s) n × NormalForms ctx (map (substitute (puts ts Ty.Var)) us) js ns × Instance (extend ctx ks) ctx (puts ts Ty.Var) d c × (w ≡ made Pure (Abs.Ex (ks ++ js) t) (ts ++ ns) (let_in (enc n) e c))
 SeqView ctx first rest w = Unit {0}
 
+-- what the rule of a sequence makes of two pure modules has these parts
 pub seq-view : {ctx : List Kind} {first rest w : Module} → Seq ctx first rest w → SeqView ctx first rest w
 seq-view (Seq.both_pure {n = n} {ns = ns} {c = c} a b i) = (n, ns, c, a, b, i, refl)
 seq-view (Seq.some_impure {f = Pure} {h = Pure} j p q r) = absurd (not_impure j)
@@ -108,11 +110,13 @@ seq-view (Seq.some_impure {f = Impure} j p q r) = tt
 abbrev ModulePut : (mid ctx : List Kind) → (ℕ → Ty) → Module → List Ty → Term → Type 0
 ModulePut mid ctx f (made e (Abs.Ex hs r) vs w) ns d = IsPut mid ctx f hs vs w ns d
 
+-- types are put into a sequence of two pure modules by putting them into the first, and them and what comes of it into the second
 pub sequence_put_in : SequencePutIn
 sequence_put_in mid ctx ks js hs f s t r n ts us vs ns more e d w c i h first rest q own sig put =
     let v = seq-view q in
     subst (λ m. ModulePut mid ctx f m (ns ++ more) (let_in (enc n) c i)) (sym v.6) (parts-put mid ctx ks js f s t n v.0 ts us ns more v.1 e d c i v.2 h first rest v.3 v.4 v.5 own sig put)
 
+-- a good pure binding and a pure rest that is good under it have a sequence, which is pure
 pub pure-seq : (ctx ks : List Kind) (s : Sig) (ts : List Ty) (e : Term) (y : Abs) (us : List Ty) (d : Term) → OkModule ctx (made Pure (Abs.Ex ks s) ts e) → OkModule (extend ctx ks) (made Pure y us d)
     → (z : Abs) × (vs : List Ty) × (c : Term) × Seq ctx (made Pure (Abs.Ex ks s) ts e) (made Pure y us d) (made Pure z vs c)
 pure-seq ctx ks s ts e (Abs.Ex js t) us d a b =

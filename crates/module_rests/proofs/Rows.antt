@@ -1,4 +1,5 @@
 -- Rows of bindings: what they come to, and one more of them.
+-- Main results: row-shape, bind-more, bind-closed, join-some.
 use Rattle.std.specs.Prelude.{ℕ, zero, suc, List, [], ◌∷◌, ◌++◌, ◌≡◌, ◌<◌, ◌==◌, true, false, length, map, reverse}
 use Rattle.std.proofs.Common.{arith}
 use Rattle.std.proofs.Math.Path.{refl, sym, ap, subst, ◌∙◌}
@@ -31,6 +32,7 @@ FoldedView ctx (first ∷ steps) m w = (ks : List Kind) × (s : Sig) × (ts : Li
     × OkModule ctx (made Pure (Abs.Ex ks s) ts e) × OkModule (extend ctx ks) (made Pure y us d)
     × Folded (extend ctx ks) steps m (made Pure y us d) × Seq ctx (made Pure (Abs.Ex ks s) ts e) (made Pure y us d) (made Pure z vs c)
 
+-- a row of no bindings comes to its last module, and each other row to a sequence of its first binding and the row after it
 pub folded-view : {ctx : List Kind} {steps : List Module} {m w : Module} → Folded ctx steps m w → FoldedView ctx steps m w
 folded-view Folded.last = refl
 folded-view (Folded.next {ks = ks} {s = s} {ts = ts} {us = us} {vs = vs} {e = e} {d = d} {c = c} {y = y} {z = z} a b f q) = (ks, s, ts, e, y, us, d, z, vs, c, refl, refl, a, b, f, q)
@@ -47,9 +49,11 @@ row-pure (first ∷ steps) lt (Folded.next a b f q) = refl
 
 -- what a row hides and shows
 
+-- what a module shows
 abbrev pub shown : Module → Sig
 shown (made f x ts e) = body_of x
 
+-- a row hides what its modules hide one after the other, and shows what the last one shows
 pub row-shape : {ctx : List Kind} (steps : List Module) {m w : Module} → Folded ctx steps m w → (hides w ≡ hidden steps m) × (shown w ≡ shown m)
 row-shape [] Folded.last = (refl, refl)
 row-shape (first ∷ steps) (Folded.next {ks = ks} {y = Abs.Ex js t} a b f q) =
@@ -96,6 +100,7 @@ bind-closed first whole bound before after join seq comes ctx w a b row =
 
 -- the code's rest, joined
 
+-- a row of no bindings comes to its last module
 pub none-comes : (none : List CodeModule) (last : CodeModule) → none ≡ [] → (ctx : List Kind) → Folded ctx (map module_of (reverse none)) (module_of last) (module_of last)
 none-comes none last e ctx = subst (λ xs. Folded ctx (map module_of (reverse xs)) (module_of last) (module_of last)) (sym e) Folded.last
 
@@ -106,6 +111,7 @@ some-in zero e = absurd (differ e)
     differ h = cc
 some-in (suc n) e = omega arith
 
+-- a module that is each pure module to which a row of one or more bindings comes is each module to which that row comes
 pub join-some : (steps turned : List CodeModule) (last : CodeModule) (w : Module) (n : ℕ) → false ≡ (n == 0) → length turned ≡ n → turned ≡ reverse steps
     → ((ctx : List Kind) (m : Module) → effect_of m ≡ Pure → OkModule ctx m → Folded ctx (map module_of turned) (module_of last) m → w ≡ m)
     → (ctx : List Kind) (m : Module) → OkModule ctx m → Folded ctx (map module_of (reverse steps)) (module_of last) m → w ≡ m

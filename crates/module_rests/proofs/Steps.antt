@@ -1,4 +1,5 @@
 -- What the calls over gathered bindings come to, from what they call.
+-- Main results: step-given, whole-put.
 use Rattle.std.specs.Prelude.{ℕ, List, [], ◌∷◌, ◌++◌, ◌≡◌, map}
 use Rattle.std.proofs.Common.{append_assoc}
 use Rattle.std.proofs.Math.Path.{refl, sym, ap, ap₂, subst, ◌∙◌}
@@ -9,7 +10,7 @@ use Rattle.omega_types.specs.Ty.{Ty}
 use Rattle.omega_types.specs.Substitution.{substitute}
 use Rattle.omega_types.specs.Binders.{extend, puts, NormalForms}
 use Rattle.omega_types.proofs.Algebra.{substitute-id}
-use Rattle.omega_types.proofs.BinderPuts.{NormalTypes, forms-types, forms-kinds, forms-normal, puts-append, vars-substitutes}
+use Rattle.omega_types.proofs.BinderPuts.{forms-kinds, forms-normal, puts-append, vars-substitutes}
 use Rattle.omega_terms.specs.Term.{Term}
 use Rattle.omega_terms.specs.Shorthands.{let_in}
 use Rattle.omega_terms.specs.Instance.{Instance}
@@ -26,22 +27,14 @@ use Rattle.semantic_sigs.specs.declared.made.Module.{Module as CodeModule}
 use Rattle.semantic_sigs.specs.Inner.Changes.{ty_in, sig_in, putting}
 use Rattle.semantic_sigs.specs.Inner.Made.{module_of}
 use Rattle.semantic_sigs.specs.Inner.View.{kinds_of, body_of}
-use Rattle.semantic_sigs.proofs.HeadLaws.{Good, in-normal, good-puts, good-vars, sig-put}
+use Rattle.semantic_sigs.proofs.HeadLaws.{sig-put}
 use Rattle.module_judgments.specs.Sequence.{Seq}
 use Rattle.module_laws.specs.PutIn.{IsPut}
 use Rattle.module_laws.proofs.Put.{forms-append, sequence_put_in}
+use Rattle.module_rules.proofs.Own.{types-put}
 use Rattle.module_rests.specs.Inner.Folded.{Folded}
 use Rattle.module_rests.specs.Inner.Gathering.{PutsAll, PutsOwn, effect_of, hidden}
 use Rattle.module_rests.proofs.Rows.{folded-view, row-shape, shown}
-
--- types put into types
-
-put-forms : (ts : List Ty) (ks : List Kind) {ctx js : List Kind} {us : List Ty} → Good (extend ctx ks) ctx (puts ts Ty.Var) (putting ts) → NormalTypes (extend ctx ks) us js → NormalForms ctx (map (substitute (puts ts Ty.Var)) us) js (map (ty_in (putting ts)) us)
-put-forms ts ks g NormalTypes.none = NormalForms.none
-put-forms ts ks g (NormalTypes.next m ms) = NormalForms.next (in-normal g m) (put-forms ts ks g ms)
-
-types-put : (ts us : List Ty) (ctx ks js : List Kind) → NormalForms ctx ts ks ts → NormalForms (extend ctx ks) us js us → NormalForms ctx (map (substitute (puts ts Ty.Var)) us) js (map (ty_in (putting ts)) us)
-types-put ts us ctx ks js a b = put-forms ts ks (good-puts a (good-vars ctx)) (forms-types b)
 
 -- what the instance of a term is
 abbrev IsInstance : Term → List Ty → Term → Type 0
@@ -138,6 +131,7 @@ all-put steps f x ts e term inner c m ws mid all n from put en ef rest ec ctx ks
 pub none-given : (steps : List CodeModule) (last : CodeModule) (ws all : List Ty) (e : Term) → steps ≡ [] → PutsOwn last.sig last.types last.term ws all e → PutsAll (map module_of steps) (module_of last) ws all e
 none-given steps last ws all e es put = subst (λ xs. PutsAll (map module_of xs) (module_of last) ws all e) (sym es) (last-put last.effect last.sig last.types last.term ws all e put)
 
+-- types are put into a list by putting them into its first binding, and all that there are then into the rest, with the terms in a let
 pub step-given : (steps rest : List CodeModule) (first last : CodeModule) (ws items mid all : List Ty) (n : Sig) (from : Ty) (term inner e : Term)
     → steps ≡ first ∷ rest → PutsOwn first.sig first.types first.term ws mid term → items ≡ mid → n ≡ sig_in (putting items) (body_of first.sig) → from ≡ enc n
     → PutsAll (map module_of rest) (module_of last) mid all inner → e ≡ let_in from term inner
@@ -166,6 +160,7 @@ whole-is steps last types x e ctx hs t us d put ex ok row =
     let kept : types ≡ us = q.1 ∙ own in
     λ i. made Pure (sig i) (kept i) (term i)
 
+-- what a row becomes with no types put in, hiding and showing what the row does, is each pure module to which the row comes
 pub whole-put : (steps : List CodeModule) (last : CodeModule) (start types : List Ty) (none kinds : List Kind) (from body : Sig) (x : Abs) (e : Term)
     → start ≡ [] → PutsAll (map module_of steps) (module_of last) start types e → none ≡ [] → kinds ≡ none ++ hidden (map module_of steps) (module_of last)
     → from ≡ body_of last.sig → body ≡ from → x ≡ Abs.Ex kinds body

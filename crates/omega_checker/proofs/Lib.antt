@@ -1,3 +1,4 @@
 pub mod NormalAlready
 pub mod Calls
 pub mod PutSteps
+pub mod PackSteps

@@ -5,7 +5,7 @@ ghost use Rattle.omega_kinds.specs.Kind.{Star};
 ghost use Rattle.omega_kinds.specs.View.{kind_tree};
 ghost use Rattle.omega_types.specs.Normaliser.{hsubst};
 ghost use Rattle.omega_types.specs.Ty.{Ty as TyTree};
-ghost use Rattle.omega_node_laws.specs.Found.{call_type, get_type, if_same, if_type, inj_type, inst_type, is_found as is_found_of, lowered as lowered_of, normal_at as normal_at_of, op_type, pack_type, roll_type, unroll_type};
+ghost use Rattle.omega_node_laws.specs.Found.{call_type, get_type, if_same, if_type, inj_type, inst_type, is_found as is_found_of, lowered as lowered_of, normal_at as normal_at_of, op_type, pack_type, roll_type, target_type, unroll_type};
 ghost use Rattle.omega_node_laws.specs.Scope.{Finds, IsIn, IsPackage, IsSum, Makes, parameter_type, type_at};
 ghost use Rattle.omega_terms.specs.Typing.{result_type};
 ghost use Rattle.type_store.specs.Numbers.{NumberOf};
@@ -165,8 +165,41 @@ impl Scope {
         }
     }
 
-    /// The type of a package: the target, where the body has the type that it asks for.
+    /// The type of a package: the target, where the body has the type that it asks for. A target whose body, with the hidden
+    /// type of kind `*` put in, is the type that was found is not tested: types that are found are normal, and so it is.
     pub(crate) fn packed(&mut self, hidden: &Ty, target: &Ty, body: u64) -> Result<Option<u64>, Mem>
+        requires { body < length self.old.types }
+        ensures { IfOk result (λ o. Finds self.old self.new o (pack_type self.old.kinds hidden.now (target_type self.old.kinds hidden.now target.now (Some (at self.old.types body))) (Some (at self.old.types body)))) }
+    {
+        match target.node() {
+            TyNode::Ex(Kind::Star, inner) => self.packed_likely(hidden, target, inner, body),
+            _ => self.packed_any(hidden, target, body),
+        }
+    }
+
+    // The same where the target hides a type of kind `*` in this one.
+    fn packed_likely(
+        &mut self,
+        hidden: &Ty,
+        target: &Ty,
+        inner: &Ty,
+        body: u64,
+    ) -> Result<Option<u64>, Mem>
+        requires target { target.now ≡ TyTree.Ex Star inner.now }
+        requires body { body < length self.old.types }
+        ensures { IfOk result (λ o. Finds self.old self.new o (pack_type self.old.kinds hidden.now (target_type self.old.kinds hidden.now target.now (Some (at self.old.types body))) (Some (at self.old.types body)))) }
+    {
+        let Some(arg) = self.normal(hidden, &Kind::Star)? else {
+            return self.packed_any(hidden, target, body);
+        };
+        match self.packed_type(&Kind::Star, inner, &arg, body)? {
+            Some(found) => Ok(Some(found)),
+            None => self.packed_any(hidden, target, body),
+        }
+    }
+
+    // The same where the target is tested.
+    fn packed_any(&mut self, hidden: &Ty, target: &Ty, body: u64) -> Result<Option<u64>, Mem>
         requires { body < length self.old.types }
         ensures { IfOk result (λ o. Finds self.old self.new o (pack_type self.old.kinds hidden.now (normal_at_of self.old.kinds target.now Star) (Some (at self.old.types body)))) }
     {

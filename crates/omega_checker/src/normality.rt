@@ -68,11 +68,11 @@ fn normal_type(ctx: &[Kind], inner: &mut Vec<Kind>, ty: &Ty) -> Result<bool, Mem
         TyNode::Var(index) => Ok(is_star(&kind_at(ctx, inner, *index)?)),
         TyNode::Int | TyNode::Bool | TyNode::Text => Ok(true),
         TyNode::Arrow(a, b) => {
-            if normal_type(ctx, inner, a)? {
-                normal_type(ctx, inner, b)
-            } else {
-                Ok(false)
+            let from = normal_type(ctx, inner, a)?;
+            if from && ty.both_sides().is_none() {
+                return normal_type(ctx, inner, b);
             }
+            Ok(from)
         }
         TyNode::Fields(fields) | TyNode::Sum(fields) => normal_fields(ctx, inner, fields),
         TyNode::All(k, b) => normal_body(ctx, inner, b, k, &Kind::Star),

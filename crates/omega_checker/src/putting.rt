@@ -47,9 +47,10 @@ fn puts(
 {
     match (body.node(), types.form(found), kind) {
         (TyNode::Arrow(a, b), Form::Arrow(c, d), _) => {
+            let is_once = *c == *d && body.both_sides().is_some();
             Ok(
                 puts(alloc, types, a, *c, at, depth, arg, kind)?
-                    && puts(alloc, types, b, *d, at, depth, arg, kind)?,
+                    && (is_once || puts(alloc, types, b, *d, at, depth, arg, kind)?),
             )
         }
         (TyNode::Fields(a), Form::Fields(b), _) => {

@@ -46,12 +46,12 @@ impl Kind {
 }
 
 /// The kind of operators from one kind to another, which keeps its height and its size. `Err` is out of memory, also for a
-/// kind that is higher than 4,096 or has more than 268,435,456 forms.
+/// kind that is higher than 8,192 or has more than 268,435,456 forms.
 pub fn arrow(alloc: Global, from: Kind, to: Kind) -> Result<Kind, Mem>
     ensures tree { IfOk result (λ k. kind_tree k ≡ Arrow (kind_tree from) (kind_tree to)) }
     ensures height { IfOk result (λ k. height_kept k ≡ max (height_kept from) (height_kept to) + 1) }
     ensures size { IfOk result (λ k. size_kept k ≡ min (size_kept from + size_kept to) 4294967295 + 1) }
-    ensures high { IfOk result (λ k. height_kept k ≤ 4096) }
+    ensures high { IfOk result (λ k. height_kept k ≤ 8192) }
     ensures large { IfOk result (λ k. size_kept k ≤ 268435456) }
 {
     let extent = from.extent().beside(to.extent()).over(1)?;

@@ -1,6 +1,6 @@
 -- Each move keeps the term and leaves less work.
 -- Main results: next-part, no-part, pack-value, inject-value, roll-value.
-use Rattle.std.proofs.Common.{◌≡◌, ℕ, zero, suc, ◌+◌, ◌*◌, ◌<◌, ◌≤◌, List, [], ◌∷◌, ◌++◌, length, map, take, drop, get_or, Option, Some, None, refl, sym, ap, ap₂, ◌∙◌, subst, arith, drop-cons, append_assoc, length-append, ◌⊎◌, inl, inr}
+use Rattle.std.proofs.Common.{◌≡◌, ℕ, zero, suc, ◌+◌, ◌*◌, ◌<◌, ◌≤◌, List, [], ◌∷◌, ◌++◌, length, map, take, drop, get_or, Option, Some, None, refl, sym, ap, ap₂, ◌∙◌, subst, arith, drop-cons, add-one, append-nil, append_assoc, length-append, ◌⊎◌, inl, inr}
 use Rattle.std.proofs.lemmas.List.{drop_all}
 use Rattle.std.proofs.lemmas.Option.{slice_get_cases}
 use Rattle.std.proofs.Math.Seq.{take-suc}
@@ -78,9 +78,6 @@ enter-fields n f whole copy m p q s h =
     let sizes : 3 * pairs_size (fields_of copy) + 1 ≤ 3 * term_size whole = omega (arith, ap pairs_size fs, ap term_size (is-form n (node.Fields f) whole p q)) in
     record { same = h.same ∙ same; sound = h.sound; less = omega (arith, h.less, sizes) }
 
-next : (n : ℕ) → suc n ≡ n + 1
-next n = omega arith
-
 -- ---- to the next field
 
 to-field : (whole : Term) (done : TermPairs) (x : Label × Term) (part : Term) → Begun whole done → length done < length (fields_of whole) → left whole done ≡ x ∷ rest whole done → part ≡ x.1 → Moves (with_done whole done) (3 * pairs_size (left whole done) + 1) (move.Down (frame.Waiting (waiting.Field whole done)) part)
@@ -91,14 +88,10 @@ to-field whole done x part b h e p =
       less = omega (arith, ap pairs_size e, ap term_size p);
     }
 
-append-nothing : (xs : TermPairs) → xs ++ [] ≡ xs
-append-nothing [] = refl
-append-nothing (x ∷ xs) = ap (λ ys. x ∷ ys) (append-nothing xs)
-
 to-record : (whole : Term) (done : TermPairs) (e : Term) → Begun whole done → length (fields_of whole) ≤ length done → e ≡ Term.Fields (term_row done) → Moves (with_done whole done) (3 * pairs_size (left whole done) + 1) (move.Up e)
 to-record whole done e b h p =
     record {
-      same = p ∙ ap (λ ys. Term.Fields (term_row ys)) (sym (append-nothing done) ∙ ap (λ ys. done ++ ys) (sym (drop_all (length done) (fields_of whole) h)));
+      same = p ∙ ap (λ ys. Term.Fields (term_row ys)) (sym (append-nil done) ∙ ap (λ ys. done ++ ys) (sym (drop_all (length done) (fields_of whole) h)));
       sound = subst IsValue (sym p) (IsValue.fields b.values);
       less = omega arith;
     }
@@ -115,7 +108,7 @@ values-more (x ∷ xs) l v (AreValues.more u w) h = AreValues.more u (values-mor
 
 left-first : (whole : Term) (done : TermPairs) (x : Label × Term) → length done < length (fields_of whole) → x ≡ get_or (fields_of whole) (length done) x → left whole done ≡ x ∷ rest whole done
 left-first whole done x h p =
-    drop-cons (fields_of whole) (length done) x h ∙ ap₂ (λ y k. y ∷ drop k (fields_of whole)) (sym p) (next (length done))
+    drop-cons (fields_of whole) (length done) x h ∙ ap₂ (λ y k. y ∷ drop k (fields_of whole)) (sym p) (sym (add-one (length done)))
 
 -- with one more field come to a value, the record's first fields are done, and one less is left
 pub one-more : (whole : Term) (done d : TermPairs) (x : Label × Term) (l : Label) (v : Term) → Begun whole done → length done < length (fields_of whole) → x ≡ get_or (fields_of whole) (length done) x → l ≡ x.0 → IsValue v → d ≡ done ++ (l, v) ∷ [] → Begun whole d × (with_done whole d ≡ fill_waiting (waiting.Field whole done) v) × (left whole d ≡ rest whole done)
@@ -128,7 +121,7 @@ one-more whole done d x l v b h is j w e =
     (map-append (λ y. y.0) done ((l, v) ∷ []) ∙
     (ap₂ (λ ks k. ks ++ k ∷ []) b.labels (j ∙ ap (λ y. y.0) is) ∙
     (sym (map-append (λ y. y.0) (take (length done) fs) (get_or fs (length done) x ∷ [])) ∙
-    (ap (map (λ y. y.0)) (sym (take-suc fs (length done) x h)) ∙ ap (λ n. map (λ y. y.0) (take n fs)) (next (length done) ∙ sym len))))) in
+    (ap (map (λ y. y.0)) (sym (take-suc fs (length done) x h)) ∙ ap (λ n. map (λ y. y.0) (take n fs)) (sym (add-one (length done)) ∙ sym len))))) in
     let same : with_done whole d ≡ fill_waiting (waiting.Field whole done) v =
     ap₂ (λ ys zs. Term.Fields (term_row (ys ++ zs))) e left_is ∙
     (ap (λ ys. Term.Fields (term_row ys)) (append_assoc done ((l, v) ∷ []) (rest whole done)) ∙

@@ -1,6 +1,6 @@
 -- Runs: what the loop keeps, and the laws of each run.
 -- Main results: found-value, stepped, faulted, still-going, spent-exactly, one-outcome, not-stuck, values-fit.
-use Rattle.std.proofs.Common.{◌≡◌, ◌↔◌, ℕ, suc, ◌+◌, ◌≤◌, ◌<◌, List, refl, sym, subst, arith, []}
+use Rattle.std.proofs.Common.{◌≡◌, ◌↔◌, ℕ, suc, ◌+◌, ◌≤◌, ◌<◌, List, refl, sym, subst, arith, add-one, []}
 use Rattle.std.proofs.Common.{Result as Outcome_, IfOk}
 use Rattle.std.proofs.lemmas.Result.{IfOk-weaker}
 use Rattle.omega_kinds.specs.declared.memory.Mem.{Mem}
@@ -31,9 +31,7 @@ use Rattle.omega_terms.specs.ValueText.{value_text}
 use Rattle.omega_machine.proofs.Plugs.{plug-typed, plug-step, plug-fault}
 use Rattle.omega_machine.proofs.PackedValues.{packed-value}
 
-pub next : (n : ℕ) → suc n ≡ n + 1
-next n = omega arith
-
+-- a step from what is reached in n steps leads to what is reached in one more
 pub one-more : {e d c : Term} {n : ℕ} → Reaches e n d → Step d c → Reaches e (suc n) c
 one-more Reaches.none s = Reaches.step s Reaches.none
 one-more (Reaches.step t r) s = Reaches.step t (one-more r s)
@@ -84,13 +82,13 @@ found-redex e n fs gs x o r v t g p f =
 pub stepped : (e : Term) (n : ℕ) (gs : List Frame) (r : Ready) (v : Term) (s : Reduct) (x : Focus) → AtRedex e n gs r v → s ≡ reduct.To x → Reduces (fill_ready r v) s → Going e (n + 1) gs x
 stepped e n gs r v s x h p d =
     let k = subst (Reduces (fill_ready r v)) p d in
-    record { reached = subst (λ m. Reaches e m (plug gs (term_in x))) (next n) (one-more h.reached (plug-step gs (fill_ready r v) (term_in x) h.frames k.0)); frames = h.frames; in_hole = k.1 }
+    record { reached = subst (λ m. Reaches e m (plug gs (term_in x))) (sym (add-one n)) (one-more h.reached (plug-step gs (fill_ready r v) (term_in x) h.frames k.0)); frames = h.frames; in_hole = k.1 }
 
 -- a run whose redex is a fault tells it as the outcome, with one step more
 pub faulted : (e : Term) (n b : ℕ) (gs : List Frame) (r : Ready) (v : Term) (s : Reduct) (x : Arith) → AtRedex e n gs r v → n < b → s ≡ reduct.Fault x → Reduces (fill_ready r v) s → Tells e b (answer.Fault x (n + 1))
 faulted e n b gs r v s x h l p d =
     let k = subst (Reduces (fill_ready r v)) p d in
-    subst (λ m. Outcome e b (Result.ended (End.the_fault (fault_of x)) m)) (next n) (Outcome.ended (Ends.fault h.reached (plug-fault gs (fill_ready r v) (fault_of x) h.frames k)) (omega (arith, l)))
+    subst (λ m. Outcome e b (Result.ended (End.the_fault (fault_of x)) m)) (sym (add-one n)) (Outcome.ended (Ends.fault h.reached (plug-fault gs (fill_ready r v) (fault_of x) h.frames k)) (omega (arith, l)))
 
 -- a redex is no value
 no-value : (r : Ready) (v : Term) → IsValue (fill_ready r v) → ⊥

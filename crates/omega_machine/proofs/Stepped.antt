@@ -1,5 +1,6 @@
 -- Runs that are made one step at a time.
-use Rattle.std.proofs.Common.{◌≡◌, ℕ, ◌+◌, ◌≤◌, ◌<◌, List, refl, sym, ap, ◌∙◌, subst, arith}
+-- Main results: steps, faults, walks, walked-value, walked-fault, walked-on.
+use Rattle.std.proofs.Common.{◌≡◌, ℕ, ◌+◌, ◌≤◌, ◌<◌, List, refl, sym, ap, ◌∙◌, subst, arith, add-one}
 use Rattle.omega_kinds.specs.declared.label.Label.{Label}
 use Rattle.omega_types.specs.Ty.{Ty}
 use Rattle.omega_terms.specs.declared.op.Op.{Op}
@@ -27,7 +28,7 @@ use Rattle.omega_machine.specs.Inner.Reducts.{Reduces}
 use Rattle.omega_machine.specs.Inner.Outcomes.{fault_of, Tells}
 use Rattle.omega_machine.specs.Inner.Stepping.{whole, IsUnderWay, IsRedex, redex_term, MakesStep, HasFault, Follows, rule_of}
 use Rattle.omega_machine.proofs.Plugs.{plug-step, plug-fault}
-use Rattle.omega_machine.proofs.Runs.{next, one-more}
+use Rattle.omega_machine.proofs.Runs.{one-more}
 
 -- ---- a form that steps with a value in its hole is a redex
 
@@ -122,6 +123,7 @@ fault-redex ready.Unrolled v x h k s = absurd (unroll-fault k s)
 kept : (x : Redex) (r f : Ready) (v w : Term) → x.rule ≡ rule_of (fill_ready r v) → x.form ≡ f → f ≡ r → x.value ≡ w → w ≡ v → (redex_term x ≡ fill_ready r v) × (x.rule ≡ rule_of (fill_ready r v))
 kept x r f v w p q s t u = (ap (λ g. fill_ready g x.value) (q ∙ s) ∙ ap (fill_ready r) (t ∙ u), p)
 
+-- where a redex in sound frames is reduced to a term, the whole makes a step, and the run after it is under way
 pub steps : (fs : List Frame) (r f : Ready) (v w : Term) (x : Redex) (a : Run) (s : Reduct) (y : Focus) → AreSound fs → IsSoundReady r → IsValue v → IsTyped (plug fs (fill_ready r v)) → x.rule ≡ rule_of (fill_ready r v) → x.form ≡ f → f ≡ r → x.value ≡ w → w ≡ v → a.frames.items ≡ fs → a.focus ≡ y → s ≡ reduct.To y → Reduces (fill_ready r v) s → MakesStep (plug fs (fill_ready r v)) x a
 steps fs r f v w x a s y frames sound value typed p q g t u af ay is d =
     let k = kept x r f v w p q g t u in
@@ -144,6 +146,7 @@ steps fs r f v w x a s y frames sound value typed p q g t u af ay is d =
       };
     }
 
+-- where a redex in sound frames is a fault, the whole has this fault
 pub faults : (fs : List Frame) (r f : Ready) (v w : Term) (x : Redex) (gs : List Frame) (s : Reduct) (y : Arith) → AreSound fs → IsSoundReady r → IsValue v → x.rule ≡ rule_of (fill_ready r v) → x.form ≡ f → f ≡ r → x.value ≡ w → w ≡ v → gs ≡ fs → s ≡ reduct.Fault y → Reduces (fill_ready r v) s → HasFault (plug fs (fill_ready r v)) y x gs
 faults fs r f v w x gs s y frames sound value p q g t u af is d =
     let k = kept x r f v w p q g t u in
@@ -163,24 +166,29 @@ pub record Walking (e : Term) (n : ℕ) (r : Run) : Type 0 where
   pub reached : Reaches e n (whole r)
   pub under_way : IsUnderWay r
 
+-- a run that is under way at the term itself has come there in no steps
 pub sets-out : (e : Term) (r : Run) → (whole r ≡ e) × IsUnderWay r → Walking e 0 r
 sets-out e r h = record { reached = subst (Reaches e 0) (sym h.0) Reaches.none; under_way = h.1 }
 
+-- where a step follows, the run after it has come one step further
 pub walks : (e : Term) (n : ℕ) (r s : Run) (x : Redex) (o : Next) → Walking e n r → o ≡ comes.Step x s → Follows (whole r) o → Walking e (n + 1) s
 walks e n r s x o w p f =
     let m = subst (Follows (whole r)) p f in
-    record { reached = subst (λ k. Reaches e k (whole s)) (next n) (one-more w.reached m.steps); under_way = m.goes_on }
+    record { reached = subst (λ k. Reaches e k (whole s)) (sym (add-one n)) (one-more w.reached m.steps); under_way = m.goes_on }
 
+-- a run that stands at a value within the budget tells it as the outcome
 pub walked-value : (e : Term) (n b : ℕ) (r : Run) (o : Next) (v : Term) → Walking e n r → n ≤ b → o ≡ comes.Value v → Follows (whole r) o → Tells e b (answer.Value (value_text v) n)
 walked-value e n b r o v w l p f =
     let h = subst (Follows (whole r)) p f in
     (v, Outcome.ended (Ends.value (subst (Reaches e n) (sym h.0) w.reached) h.1) l, refl)
 
+-- a run that stands at a fault before the budget is spent tells it as the outcome, with one step more
 pub walked-fault : (e : Term) (n b : ℕ) (r : Run) (o : Next) (x : Arith) (y : Redex) (gs : _) → Walking e n r → n < b → o ≡ comes.Fault x y gs → Follows (whole r) o → Tells e b (answer.Fault x (n + 1))
 walked-fault e n b r o x y gs w l p f =
     let h = subst (Follows (whole r)) p f in
-    subst (λ m. Outcome e b (Result.ended (End.the_fault (fault_of x)) m)) (next n) (Outcome.ended (Ends.fault w.reached h.faults) (omega (arith, l)))
+    subst (λ m. Outcome e b (Result.ended (End.the_fault (fault_of x)) m)) (sym (add-one n)) (Outcome.ended (Ends.fault w.reached h.faults) (omega (arith, l)))
 
+-- a run that stands at no value when as many steps as the budget are taken has spent it
 pub walked-on : (e : Term) (b : ℕ) (r : Run) (o : Next) → IsTyped e → Walking e b r → ((v : Term) → o ≡ comes.Value v → ⊥) → Follows (whole r) o → Outcome e b Result.spent
 walked-on e b r (comes.Value v) t w h f = absurd (h v refl)
 walked-on e b r (comes.Step x s) t w h f = (spent_iff b e t.0 t.1).1 (whole r, w.reached, λ v. value_step v f.steps)

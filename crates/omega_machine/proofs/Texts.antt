@@ -1,6 +1,6 @@
 -- How the text of a value is put together.
 -- Main results: lines-more, fields-more, quoted-more, program-lines.
-use Rattle.std.proofs.Common.{◌≡◌, ◌≢◌, ℕ, suc, ◌+◌, ◌<◌, ◌≤◌, List, [], ◌∷◌, ◌++◌, length, get_or, take, drop, flat_map, refl, sym, ap, ap₂, ◌∙◌, append_assoc, arith, codes}
+use Rattle.std.proofs.Common.{◌≡◌, ◌≢◌, ℕ, ◌+◌, ◌<◌, ◌≤◌, List, [], ◌∷◌, ◌++◌, length, get_or, take, drop, flat_map, refl, sym, ap, ap₂, ◌∙◌, append_assoc, append-nil, add-one, arith, codes}
 use Rattle.std.proofs.Math.Seq.{take-suc}
 use Rattle.std.proofs.lemmas.List.{drop_all, take_all}
 use Rattle.omega_kinds.specs.Text.{◌then◌}
@@ -19,13 +19,6 @@ use Rattle.omega_terms.specs.Inner.View.{term_of}
 use Rattle.omega_node_laws.proofs.FieldLoop.{left-more}
 use Rattle.omega_terms.specs.ValueText.{shown, shown_fields, mark_at, lines, inside, record_lines, value_text}
 use Rattle.omega_machine.proofs.Reduced.{is-form}
-
-next : (n : ℕ) → suc n ≡ n + 1
-next n = omega arith
-
-append-nothing : (xs : List ℕ) → xs ++ [] ≡ xs
-append-nothing [] = refl
-append-nothing (x ∷ xs) = ap (λ ys. x ∷ ys) (append-nothing xs)
 
 -- ---- pieces in a row
 
@@ -62,7 +55,7 @@ lines-more old new whole i xs x h l p e =
 -- when all lines are written, the text is that of all bindings
 pub lines-end : (out o : List ℕ) (i : ℕ) (xs ys : TermPairs) → out ++ lines (term_row (drop i xs)) ≡ o ++ lines (term_row xs) → length xs ≤ i → xs ≡ ys → out ≡ o ++ lines (term_row ys)
 lines-end out o i xs ys h l e =
-    sym (append-nothing out) ∙ (ap (λ zs. out ++ lines (term_row zs)) (sym (drop_all i xs l)) ∙ (h ∙ ap (λ zs. o ++ lines (term_row zs)) e))
+    sym (append-nil out) ∙ (ap (λ zs. out ++ lines (term_row zs)) (sym (drop_all i xs l)) ∙ (h ∙ ap (λ zs. o ++ lines (term_row zs)) e))
 
 -- ---- fields in braces
 
@@ -74,7 +67,7 @@ fields-first o out xs e = ap (λ y. y ++ shown_fields [] (term_row xs)) e
 pub fields-more : (old with_mark new whole m : List ℕ) (i : ℕ) (xs : TermPairs) (x : Label × Term) → old ++ shown_fields (mark_at i) (term_row (drop i xs)) ≡ whole → i < length xs → x ≡ get_or xs i x → m ≡ mark_at i → with_mark ≡ old ++ m → new ≡ with_mark ++ (label_text x.0 then codes " = " then shown x.1) → new ++ shown_fields (mark_at (i + 1)) (term_row (drop (i + 1) xs)) ≡ whole
 fields-more old with_mark new whole m i xs x h l p q r e =
     let later = shown_fields (codes ", ") (term_row (drop (i + 1) xs)) in
-    ap₂ (λ y k. y ++ shown_fields (mark_at k) (term_row (drop (i + 1) xs))) (e ∙ ap (λ y. y ++ (label_text x.0 then codes " = " then shown x.1)) (r ∙ ap (λ y. old ++ y) q)) (sym (next i)) ∙
+    ap₂ (λ y k. y ++ shown_fields (mark_at k) (term_row (drop (i + 1) xs))) (e ∙ ap (λ y. y ++ (label_text x.0 then codes " = " then shown x.1)) (r ∙ ap (λ y. old ++ y) q)) (add-one i) ∙
     (marked old (mark_at i) (label_text x.0) (codes " = ") (shown x.1) later ∙
     (ap (λ z. old ++ shown_fields (mark_at i) z) (sym (left-more i xs x l p)) ∙ h))
 
@@ -82,7 +75,7 @@ fields-more old with_mark new whole m i xs x h l p q r e =
 pub fields-end : (out o new : List ℕ) (mark : List ℕ) (i : ℕ) (xs ys : TermPairs) → out ++ shown_fields mark (term_row (drop i xs)) ≡ (o ++ codes "{") ++ shown_fields [] (term_row xs) → length xs ≤ i → xs ≡ ys → new ≡ out ++ codes "}" → new ≡ o ++ (codes "{" then shown_fields [] (term_row ys) then codes "}")
 fields-end out o new mark i xs ys h l e p =
     let at_end : out ≡ (o ++ codes "{") ++ shown_fields [] (term_row xs) =
-    sym (append-nothing out) ∙ (ap (λ zs. out ++ shown_fields mark (term_row zs)) (sym (drop_all i xs l)) ∙ h) in
+    sym (append-nil out) ∙ (ap (λ zs. out ++ shown_fields mark (term_row zs)) (sym (drop_all i xs l)) ∙ h) in
     p ∙ (ap (λ y. y ++ codes "}") at_end ∙ (three o (codes "{") (shown_fields [] (term_row xs)) (codes "}") ∙ ap (λ zs. o ++ (codes "{" then shown_fields [] (term_row zs) then codes "}")) e))
 
 -- ---- records of one field
@@ -133,7 +126,7 @@ record-many o new xs fs e n h = h ∙ ap (λ y. o ++ y) (sym (many-braces fs (λ
 
 -- quoted bytes begin after a quotation mark
 pub quoted-first : (o out : List ℕ) → out ≡ o ++ codes "\"" → out ≡ (o ++ codes "\"") ++ flat_map byte_text (take 0 [])
-quoted-first o out e = e ∙ sym (append-nothing (o ++ codes "\""))
+quoted-first o out e = e ∙ sym (append-nil (o ++ codes "\""))
 
 flat-append : (f : ℕ → List ℕ) (xs ys : List ℕ) → flat_map f (xs ++ ys) ≡ flat_map f xs ++ flat_map f ys
 flat-append f [] ys = refl
@@ -146,7 +139,7 @@ quoted-more front old new i bytes h l e =
     e ∙
     (ap (λ y. y ++ byte_text b) h ∙
     (append_assoc front (flat_map byte_text (take i bytes)) (byte_text b) ∙
-    ap (λ y. front ++ y) (ap (λ y. flat_map byte_text (take i bytes) ++ y) (sym (append-nothing (byte_text b))) ∙ (sym (flat-append byte_text (take i bytes) (b ∷ [])) ∙ ap (flat_map byte_text) (sym (take-suc bytes i 0 l) ∙ ap (λ n. take n bytes) (next i))))))
+    ap (λ y. front ++ y) (ap (λ y. flat_map byte_text (take i bytes) ++ y) (sym (append-nil (byte_text b))) ∙ (sym (flat-append byte_text (take i bytes) (b ∷ [])) ∙ ap (flat_map byte_text) (sym (take-suc bytes i 0 l) ∙ ap (λ n. take n bytes) (sym (add-one i)))))))
 
 -- when all bytes are written and the quotation mark is closed, the text is the quoted one
 pub quoted-end : (o old new : List ℕ) (i : ℕ) (bytes : List ℕ) → old ≡ (o ++ codes "\"") ++ flat_map byte_text (take i bytes) → length bytes ≤ i → new ≡ old ++ codes "\"" → new ≡ o ++ quoted_text bytes

@@ -13,7 +13,7 @@ use Rattle.omega_terms.specs.Typing.{shift_all}
 use Rattle.type_store.specs.Numbers.{NumberOf}
 use Rattle.type_store.specs.Trees.{at}
 use Rattle.type_store.proofs.TreeLaws.{begins-at}
-use Rattle.omega_node_laws.specs.Found.{and_then, normal_at, call_type, let_type, pack_type, lowered, of_package, if_type, op_type, synth_in}
+use Rattle.omega_node_laws.specs.Found.{and_then, normal_at, call_type, let_type, pack_type, lowered, of_package, if_type, op_type, synth_in, target_type}
 use Rattle.omega_node_laws.specs.Held.{Has, IsParameter, Held}
 use Rattle.omega_node_laws.specs.SameTy.{same_ty}
 use Rattle.omega_node_laws.specs.Scope.{Scope, types_of, type_at, Grows, IsWithVar, IsWithoutVar, IsWithType, IsWithoutType, Finds, Synthesises, FindsFunction}
@@ -216,19 +216,19 @@ arith-done {z} {b} {y} {c} {op} {e} {f} {o} {p} {r} s u h =
 
 -- the type of a package, from that of what is packed
 pub pack-done : {z x c : Scope} {t u : Ty} {e : Term} {o r : Option ℕ} {b : ℕ} → Synthesises z x z.kinds (types_of z) e o → o ≡ Some b
-    → Finds x c r (pack_type x.kinds t (normal_at x.kinds u Kind.Star) (Some (at x.types b)))
+    → Finds x c r (pack_type x.kinds t (target_type x.kinds t u (Some (at x.types b))) (Some (at x.types b)))
     → Synthesises z c z.kinds (types_of z) (Term.Pack t e u) r
 pack-done {z} {x} {c} {t} {u} {e} {o} {r} {b} s i h =
     let S = synth_in z.kinds (types_of z) e in
     let ks = s.grows.same_kinds in
     let body = sym (type-some x.types o S b s.is_number i) in
-    let n = subst (NumberOf c.types r) (λ i. pack_type (ks i) t (normal_at (ks i) u Kind.Star) (body i)) h.is_number in
+    let n = subst (NumberOf c.types r) (λ i. pack_type (ks i) t (target_type (ks i) t u (body i)) (body i)) h.is_number in
     record {
       grows = grows-then s.grows h.grows;
       is_number = n;
       held =
           with-parts _ n (λ v w. held-more x.types c.types h.grows.begins z.kinds (types_of z) e
-          (let d = pack-yes z.kinds t (normal_at z.kinds u Kind.Star) S v w in held-some _ s d.4));
+          (let d = pack-yes z.kinds t (target_type z.kinds t u S) S v w in held-some _ s d.4));
     }
 
 -- ---- an opened package

@@ -14,6 +14,7 @@ use Rattle.omega_types.specs.Ty.{Ty, Row}
 use Rattle.omega_types.specs.Index.{i_here, shift}
 use Rattle.omega_types.specs.Kinding.{HasKind, HasKinds, Fresh}
 use Rattle.omega_types.specs.Kinding.HasKind.{k_arrow}
+use Rattle.omega_types.specs.Normality.{Normal}
 use Rattle.omega_types.specs.Normaliser.{normal, normal_row, hsubst}
 use Rattle.omega_types.specs.Substitution.{rename, substitute, instantiate}
 use Rattle.omega_types.specs.Mentions.{lower}
@@ -31,8 +32,9 @@ use Rattle.omega_laws.specs.Synthesis.{Synth, SynthFields, SynthBranches}
 use Rattle.omega_laws.proofs.Synthesised.{sound, exact, synth-normal, synth_cast, revar, same_cons, same_refl, nf_nf, nf_kind, nf_shifted, all_body}
 use Rattle.omega_node_laws.specs.Found.{and_then, normal_at, put_normal, call_type, let_type, inst_type, get_type, if_same, pack_type, lowered, of_package}
 use Rattle.omega_node_laws.specs.Found.{if_type, op_type, fix_type, inj_type, case_type, is_found, unfolded, roll_type, unroll_type, more_type, is_new}
-use Rattle.omega_node_laws.specs.Found.{labels_differ, synth_in, synth_row, synth_branches}
+use Rattle.omega_node_laws.specs.Found.{labels_differ, synth_in, synth_row, synth_branches, target_type}
 use Rattle.omega_node_laws.specs.SameTy.{same_ty}
+use Rattle.omega_node_laws.proofs.PutBack.{normal-type, target-normal}
 use Rattle.omega_node_laws.proofs.Trees.{same_ty-yes, same_ty-self}
 use Rattle.omega_node_laws.proofs.Inverted.{if-yes, and_then-yes, map-yes, normal_at-yes, normal_at-of, call-yes, let-cases, inst-yes, part_at-of, get-yes}
 use Rattle.omega_node_laws.proofs.Inverted.{pack-yes, package-yes, lowered-yes, if_type-yes, op-yes, fix-yes, inj-yes, case-yes, is_found-yes, roll-yes}
@@ -152,7 +154,9 @@ mutual
   found-sound (Term.Get e l) ctx vars t g f h =
       let p = get-yes (synth_in ctx vars e) l t h in Synth.get (found-sound e ctx vars (Ty.Fields p.0) g f p.1) p.2
   found-sound (Term.Pack a e u) ctx vars t g f h =
-      let p = pack-yes ctx a (normal_at ctx u Kind.Star) (synth_in ctx vars e) t h in
+      let o = synth_in ctx vars e in
+      let tested = target-normal ctx a u o (λ s r. let i = found-sound e ctx vars s g f r in normal-type (type-kind g (sound g i)) (synth-normal g i)) in
+      let p = pack-yes ctx a (normal_at ctx u Kind.Star) o t (ap (λ n. pack_type ctx a n o) (sym tested) ∙ h) in
       let q = normal_at-yes ctx u Kind.Star (Ty.Ex p.0 p.1) p.2 in
       let k = ex-kinds (subst (λ v. HasKind ctx v Kind.Star) q.1 (nf_kind q.0)) in
       let n = ex-body (ap (normal ctx) (sym q.1) ∙ (nf_nf q.0 ∙ q.1)) in
@@ -304,9 +308,12 @@ mutual
   complete {ctx} g (Synth.pack {k = k} {t = t} {u = u} {body = b} h p i j) =
       let m = ex-kinds (subst (λ v. HasKind ctx v Kind.Star) p (nf_kind h)) in
       let n = ex-body (ap (normal ctx) (sym p) ∙ (nf_nf h ∙ p)) in
-      ap₂ (pack_type ctx t) (normal_at-of h ∙ ap Some p) (complete g j) ∙
+      let s = normal ctx (instantiate b t) in
+      let tested = target-normal ctx t u (Some s) (λ v q. subst (λ w. Normal ctx w Kind.Star) (same_Some _ _ q) (normal-type (type-kind g (sound g j)) (synth-normal g j))) in
+      (λ x. pack_type ctx t (target_type ctx t u (complete g j x)) (complete g j x)) ∙
+      (ap (λ o. pack_type ctx t o (Some s)) (tested ∙ (normal_at-of h ∙ ap Some p)) ∙
       (ap (λ o. if_same (Ty.Ex k b) o (Some (normal ctx (instantiate b t)))) (put-found i m n) ∙
-      (when-same (normal ctx (instantiate b t)) (Some (Ty.Ex k b)) ∙ ap Some (sym p)))
+      (when-same (normal ctx (instantiate b t)) (Some (Ty.Ex k b)) ∙ ap Some (sym p))))
   complete {ctx} {vars} g (Synth.unpack {k = k} {e = e} {t = t} {body = b} h i) =
       let m = ex-kinds (type-kind g (sound g h)) in
       ap (λ o. and_then o (λ s. of_package s (λ j c. lowered (synth_in (j ∷ ctx) (c ∷ shift_all (map (normal ctx) vars)) e)))) (complete g h) ∙

@@ -2,6 +2,7 @@ pub mod Trees
 pub mod ForCode
 pub mod FieldLoop
 pub mod Inverted
+pub mod PutBack
 pub mod Exact
 pub mod HeldMore
 pub mod NodesHeld

@@ -83,6 +83,22 @@ abbrev pub pack_type : List Kind → Ty → Option Ty → Option Ty → Option T
 pack_type ctx t None o = None
 pack_type ctx t (Some n) o = packed ctx t n o
 
+-- whether a type is the body of a binder of kind * with a normal type put in
+abbrev pub is_put : Option Ty → Ty → Option Ty → Truth
+is_put None b o = false
+is_put (Some n) b None = false
+is_put (Some n) b (Some s) = same_ty (hsubst Kind.Star zero n b) s
+
+-- whether a target, as it is written, hides a type of kind * in the type of what is packed
+abbrev pub is_target : List Kind → Ty → Ty → Option Ty → Truth
+is_target ctx t (Ty.Ex Kind.Star b) o = is_put (normal_at ctx t Kind.Star) b o
+is_target ctx t _ o = false
+
+-- the type of a package, from the types that are hidden and written and that of what is packed. A target that hides the type
+-- in that type is enough: types that are found are normal, and so it is
+abbrev pub target_type : List Kind → Ty → Ty → Option Ty → Option Ty
+target_type ctx t u o = if is_target ctx t u o then Some u else normal_at ctx u Kind.Star
+
 -- the type that is raised to this one, where it does not mention the variable
 abbrev pub lowered : Option Ty → Option Ty
 lowered None = None
@@ -181,7 +197,7 @@ abbrev mutual
   synth_in ctx vars (Term.Inst e t) = inst_type ctx (synth_in ctx vars e) t
   synth_in ctx vars (Term.Fields row) = if labels_differ row then option_map Ty.Fields (synth_row ctx vars row) else None
   synth_in ctx vars (Term.Get e l) = get_type (synth_in ctx vars e) l
-  synth_in ctx vars (Term.Pack t e u) = pack_type ctx t (normal_at ctx u Kind.Star) (synth_in ctx vars e)
+  synth_in ctx vars (Term.Pack t e u) = pack_type ctx t (target_type ctx t u (synth_in ctx vars e)) (synth_in ctx vars e)
   synth_in ctx vars (Term.Unpack p e) = and_then (synth_in ctx vars p) (λ s. of_package s (λ k b. lowered (synth_in (k ∷ ctx) (b ∷ shift_all vars) e)))
   synth_in ctx vars (Term.If a b c) = if_type (synth_in ctx vars a) (synth_in ctx vars b) (synth_in ctx vars c)
   synth_in ctx vars (Term.Arith op a b) = op_type op (synth_in ctx vars a) (synth_in ctx vars b)

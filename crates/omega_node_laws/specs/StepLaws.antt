@@ -18,7 +18,7 @@ use Rattle.omega_terms.specs.Typing.{shift_all}
 use Rattle.type_store.specs.Numbers.{NumberOf}
 use Rattle.type_store.specs.Shape.{Parts}
 use Rattle.type_store.specs.Trees.{at, row_at}
-use Rattle.omega_node_laws.specs.Found.{call_type, get_type, if_type, inj_type, inst_type, is_found, lowered, normal_at, op_type, pack_type, roll_type, synth_in, unroll_type}
+use Rattle.omega_node_laws.specs.Found.{call_type, get_type, if_type, inj_type, inst_type, is_found, lowered, normal_at, op_type, pack_type, roll_type, synth_in, target_type, unroll_type}
 use Rattle.omega_node_laws.specs.Scope.{Scope, types_of, type_at, Grows, Makes, Finds, Synthesises, FindsFunction, FindsBranches, IsPackage, IsSum, parameter_type}
 
 -- a term is synthesised in the variables of the scope
@@ -76,7 +76,7 @@ GetStep = (z y c : Scope) (e : Term) (l : Label) (o p : Option ℕ) → Here z y
 
 abbrev pub PackStep : Type 0
 PackStep =
-    (z x c : Scope) (t u : Ty) (e : Term) (b : ℕ) (o r : Option ℕ) → Here z x e o → o ≡ Some b → Finds x c r (pack_type x.kinds t (normal_at x.kinds u Kind.Star) (Some (at x.types b))) →
+    (z x c : Scope) (t u : Ty) (e : Term) (b : ℕ) (o r : Option ℕ) → Here z x e o → o ≡ Some b → Finds x c r (pack_type x.kinds t (target_type x.kinds t u (Some (at x.types b))) (Some (at x.types b))) →
     Here z c (Term.Pack t e u) r
 
 abbrev pub UnpackStep : Type 0

@@ -30,7 +30,7 @@ pub fn term_in_scope(types: u64, terms: u64, term: &Term) -> bool
     fits_term(types, terms, term)
 }
 
-// Whether each variable of the type is in scope.
+// Whether each variable of the type is in scope. One part of an arrow is enough where the two are known to be one tree.
 #[cycle(types)]
 fn fits_ty(types: u64, ty: &Ty) -> bool
     ensures { result ≡ ty_scoped types ty.now }
@@ -38,7 +38,9 @@ fn fits_ty(types: u64, ty: &Ty) -> bool
     match ty.node() {
         TyNode::Var(index) => *index < types,
         TyNode::Int | TyNode::Bool | TyNode::Text => true,
-        TyNode::Arrow(a, b) => fits_ty(types, a) && fits_ty(types, b),
+        TyNode::Arrow(a, b) => {
+            fits_ty(types, a) && (ty.both_sides().is_some() || fits_ty(types, b))
+        }
         TyNode::Fields(fields) | TyNode::Sum(fields) => fits_ty_fields(types, fields),
         TyNode::All(_, b) => fits_ty_body(types, b),
         TyNode::Ex(_, b) => fits_ty_body(types, b),

@@ -1,5 +1,6 @@
 // The walk: a dispatcher, and a function of its own for each form with parts, so that no frame holds the parts of all forms.
-// Each answers `None` where the term stays as it is, so what stays is shared and not built anew.
+// Each answers `None` where the term stays as it is, so what stays is shared and not built anew. What a form of several
+// parts becomes is a call of its own, made when no further part is walked, so that no frame of the walk has room for it.
 ghost use Rattle.std.specs.Prelude.{◌≡◌, unwrap_or, IfOk};
 ghost use Rattle.omega_kinds.specs.View.{kind_tree};
 ghost use Rattle.omega_terms.specs.Fields.{term_row};
@@ -27,6 +28,7 @@ pub fn simplify(alloc: Global, term: &Term) -> Result<Term, Mem>
 }
 
 // The new term, or else the old one.
+#[inline(never)]
 fn new_or_shared(new: Option<Term>, old: &Term) -> Result<Term, Mem>
     ensures { IfOk result (λ e. e ≡ unwrap_or new old.now) }
 {
@@ -85,6 +87,7 @@ fn simpler_call(alloc: Global, f: &Term, a: &Term) -> Result<Option<Term>, Mem>
 }
 
 // What becomes of a call whose parts become these.
+#[inline(never)]
 #[tactic(auto, using(crate::proofs::PartSteps::parts))]
 fn call_of(
     alloc: Global,
@@ -179,12 +182,26 @@ fn simpler_package(alloc: Global, t: &Ty, e: &Term, u: &Ty) -> Result<Option<Ter
 // An opened package.
 #[cycle(simpler)]
 #[inline(never)]
-#[tactic(auto, using(crate::proofs::PartSteps::parts))]
 fn simpler_opened(alloc: Global, p: &Term, e: &Term) -> Result<Option<Term>, Mem>
     ensures { IfOk result (λ new. unwrap_or new (TermTree.Unpack p.now e.now) ≡ simplified (TermTree.Unpack p.now e.now)) }
 {
     let packed = simpler(alloc, p)?;
     let body = simpler(alloc, e)?;
+    opened_of(alloc, p, e, packed, body)
+}
+
+// What becomes of an opened package whose parts become these.
+#[inline(never)]
+#[tactic(auto, using(crate::proofs::PartSteps::parts))]
+fn opened_of(
+    alloc: Global,
+    p: &Term,
+    e: &Term,
+    packed: Option<Term>,
+    body: Option<Term>,
+) -> Result<Option<Term>, Mem>
+    ensures { IfOk result (λ new. unwrap_or new (TermTree.Unpack p.now e.now) ≡ TermTree.Unpack (unwrap_or packed p.now) (unwrap_or body e.now)) }
+{
     if packed.is_none() && body.is_none() {
         return Ok(None);
     }
@@ -196,13 +213,29 @@ fn simpler_opened(alloc: Global, p: &Term, e: &Term) -> Result<Option<Term>, Mem
 // A choice.
 #[cycle(simpler)]
 #[inline(never)]
-#[tactic(auto, using(crate::proofs::PartSteps::parts))]
 fn simpler_choice(alloc: Global, a: &Term, b: &Term, c: &Term) -> Result<Option<Term>, Mem>
     ensures { IfOk result (λ new. unwrap_or new (TermTree.If a.now b.now c.now) ≡ simplified (TermTree.If a.now b.now c.now)) }
 {
     let test = simpler(alloc, a)?;
     let yes = simpler(alloc, b)?;
     let no = simpler(alloc, c)?;
+    choice_of(alloc, a, b, c, test, yes, no)
+}
+
+// What becomes of a choice whose parts become these.
+#[inline(never)]
+#[tactic(auto, using(crate::proofs::PartSteps::parts))]
+fn choice_of(
+    alloc: Global,
+    a: &Term,
+    b: &Term,
+    c: &Term,
+    test: Option<Term>,
+    yes: Option<Term>,
+    no: Option<Term>,
+) -> Result<Option<Term>, Mem>
+    ensures { IfOk result (λ new. unwrap_or new (TermTree.If a.now b.now c.now) ≡ TermTree.If (unwrap_or test a.now) (unwrap_or yes b.now) (unwrap_or no c.now)) }
+{
     if test.is_none() && yes.is_none() && no.is_none() {
         return Ok(None);
     }
@@ -215,12 +248,27 @@ fn simpler_choice(alloc: Global, a: &Term, b: &Term, c: &Term) -> Result<Option<
 // A computation.
 #[cycle(simpler)]
 #[inline(never)]
-#[tactic(auto, using(crate::proofs::PartSteps::parts))]
 fn simpler_arith(alloc: Global, op: Op, a: &Term, b: &Term) -> Result<Option<Term>, Mem>
     ensures { IfOk result (λ new. unwrap_or new (TermTree.Arith op a.now b.now) ≡ simplified (TermTree.Arith op a.now b.now)) }
 {
     let left = simpler(alloc, a)?;
     let right = simpler(alloc, b)?;
+    arith_of(alloc, op, a, b, left, right)
+}
+
+// What becomes of a computation whose parts become these.
+#[inline(never)]
+#[tactic(auto, using(crate::proofs::PartSteps::parts))]
+fn arith_of(
+    alloc: Global,
+    op: Op,
+    a: &Term,
+    b: &Term,
+    left: Option<Term>,
+    right: Option<Term>,
+) -> Result<Option<Term>, Mem>
+    ensures { IfOk result (λ new. unwrap_or new (TermTree.Arith op a.now b.now) ≡ TermTree.Arith op (unwrap_or left a.now) (unwrap_or right b.now)) }
+{
     if left.is_none() && right.is_none() {
         return Ok(None);
     }
@@ -256,12 +304,27 @@ fn simpler_injected(alloc: Global, l: &Label, e: &Term, t: &Ty) -> Result<Option
 // A case of a sum.
 #[cycle(simpler)]
 #[inline(never)]
-#[tactic(auto, using(crate::proofs::PartSteps::parts))]
 fn simpler_case(alloc: Global, e: &Term, t: &Ty, branches: &TermFields) -> Result<Option<Term>, Mem>
     ensures { IfOk result (λ new. unwrap_or new (TermTree.Case e.now t.now (term_row branches.now)) ≡ simplified (TermTree.Case e.now t.now (term_row branches.now))) }
 {
     let whole = simpler(alloc, e)?;
     let row = simpler_row(alloc, branches)?;
+    case_of(alloc, e, t, branches, whole, row)
+}
+
+// What becomes of a case whose parts become these.
+#[inline(never)]
+#[tactic(auto, using(crate::proofs::PartSteps::parts))]
+fn case_of(
+    alloc: Global,
+    e: &Term,
+    t: &Ty,
+    branches: &TermFields,
+    whole: Option<Term>,
+    row: Option<TermFields>,
+) -> Result<Option<Term>, Mem>
+    ensures { IfOk result (λ new. unwrap_or new (TermTree.Case e.now t.now (term_row branches.now)) ≡ TermTree.Case (unwrap_or whole e.now) t.now (term_row (unwrap_or row branches.now))) }
+{
     if whole.is_none() && row.is_none() {
         return Ok(None);
     }

@@ -98,7 +98,7 @@ impl Model for Term {
 
     ghost view = { λ e. term_of e.made.value.node };
 
-    ghost invariant = { λ e. (e.type_bound ≡ type_bound_of (term_of e.made.value.node)) × (e.term_bound ≡ term_bound_of (term_of e.made.value.node)) × (term_height (term_of e.made.value.node) ≤ e.made.value.extent.height) × (e.made.value.extent.height ≤ 4096) × (e.made.value.is_value ≡ value_test (term_of e.made.value.node)) };
+    ghost invariant = { λ e. (e.type_bound ≡ type_bound_of (term_of e.made.value.node)) × (e.term_bound ≡ term_bound_of (term_of e.made.value.node)) × (term_height (term_of e.made.value.node) ≤ e.made.value.extent.height) × (e.made.value.extent.height ≤ 8192) × (e.made.value.is_value ≡ value_test (term_of e.made.value.node)) };
 
     ghost use Rattle.omega_terms.specs.Inner.Falls.{made_le-term_size};
 
@@ -161,10 +161,10 @@ impl Term {
     }
 
     /// How high and how large the term is, the forms of its types and of kinds counted too. Takes one step.
-    /// No term is higher than 4,096.
+    /// No term is higher than 8,192.
     pub fn extent(&self) -> Extent
         ensures height { term_height self.now ≤ result.height }
-        ensures high { result.height ≤ 4096 }
+        ensures high { result.height ≤ 8192 }
     {
         self.made.extent
     }

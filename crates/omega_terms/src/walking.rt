@@ -46,7 +46,7 @@ pub fn walk<C: Change>(alloc: Global, term: &Term, change: &C, inner: Inner) -> 
         return term.share();
     }
     match term.node() {
-        TermNode::Var(index) => change.change_variable(alloc, *index, inner),
+        TermNode::Var(index) => walked_variable(alloc, *index, change, inner),
         TermNode::Int(_) | TermNode::Bool(_) | TermNode::Text(_) => term.share(),
         TermNode::Lam(t, e) => walk_function(alloc, t, e, change, inner),
         TermNode::Call(f, a) => walk_call(alloc, f, a, change, inner),
@@ -66,6 +66,27 @@ pub fn walk<C: Change>(alloc: Global, term: &Term, change: &C, inner: Inner) -> 
     }
 }
 
+// A variable. What becomes of it is a call of its own, so that a frame of the walk has no room for the locals of the change.
+#[inline(never)]
+fn walked_variable<C: Change>(
+    alloc: Global,
+    index: u64,
+    change: &C,
+    inner: Inner,
+) -> Result<Term, Mem>
+    ensures { IfOk result (λ made. made ≡ C.variable_at change.now inner.types inner.terms index) }
+{
+    change.change_variable(alloc, index, inner)
+}
+
+// A type, by a call of its own for the same reason.
+#[inline(never)]
+fn walked_type<C: Change>(alloc: Global, t: &Ty, change: &C, inner: Inner) -> Result<Ty, Mem>
+    ensures { IfOk result (λ made. made ≡ C.type_at change.now inner.types t.now) }
+{
+    change.change_type(alloc, t, inner)
+}
+
 // A function.
 #[cycle(walk)]
 #[inline(never)]
@@ -78,7 +99,7 @@ fn walk_function<C: Change>(
 ) -> Result<Term, Mem>
     ensures { IfOk result (λ made. made ≡ walked (C.type_at change.now) (C.variable_at change.now) inner.types inner.terms (TermTree.Lam t.now e.now)) }
 {
-    let t = change.change_type(alloc, t, inner)?;
+    let t = walked_type(alloc, t, change, inner)?;
     let e = walk(alloc, e, change, inner.under_term()?)?;
     Term::make(alloc, TermNode::Lam(t, e))
 }
@@ -129,7 +150,7 @@ fn walk_inst<C: Change>(
     ensures { IfOk result (λ made. made ≡ walked (C.type_at change.now) (C.variable_at change.now) inner.types inner.terms (TermTree.Inst e.now t.now)) }
 {
     let e = walk(alloc, e, change, inner)?;
-    let t = change.change_type(alloc, t, inner)?;
+    let t = walked_type(alloc, t, change, inner)?;
     Term::make(alloc, TermNode::Inst(e, t))
 }
 
@@ -177,9 +198,9 @@ fn walk_package<C: Change>(
 ) -> Result<Term, Mem>
     ensures { IfOk result (λ made. made ≡ walked (C.type_at change.now) (C.variable_at change.now) inner.types inner.terms (TermTree.Pack t.now e.now u.now)) }
 {
-    let t = change.change_type(alloc, t, inner)?;
+    let t = walked_type(alloc, t, change, inner)?;
     let e = walk(alloc, e, change, inner)?;
-    let u = change.change_type(alloc, u, inner)?;
+    let u = walked_type(alloc, u, change, inner)?;
     Term::make(alloc, TermNode::Pack(t, e, u))
 }
 
@@ -250,8 +271,8 @@ fn walk_fix<C: Change>(
 ) -> Result<Term, Mem>
     ensures { IfOk result (λ made. made ≡ walked (C.type_at change.now) (C.variable_at change.now) inner.types inner.terms (TermTree.Fix t.now u.now e.now)) }
 {
-    let t = change.change_type(alloc, t, inner)?;
-    let u = change.change_type(alloc, u, inner)?;
+    let t = walked_type(alloc, t, change, inner)?;
+    let u = walked_type(alloc, u, change, inner)?;
     let e = walk(alloc, e, change, inner.under_term()?.under_term()?)?;
     Term::make(alloc, TermNode::Fix(t, u, e))
 }
@@ -270,7 +291,7 @@ fn walk_injected<C: Change>(
     ensures { IfOk result (λ made. made ≡ walked (C.type_at change.now) (C.variable_at change.now) inner.types inner.terms (TermTree.Inj l.now e.now t.now)) }
 {
     let e = walk(alloc, e, change, inner)?;
-    let t = change.change_type(alloc, t, inner)?;
+    let t = walked_type(alloc, t, change, inner)?;
     Term::make(alloc, TermNode::Inj(l.share()?, e, t))
 }
 
@@ -288,7 +309,7 @@ fn walk_case<C: Change>(
     ensures { IfOk result (λ made. made ≡ walked (C.type_at change.now) (C.variable_at change.now) inner.types inner.terms (TermTree.Case e.now t.now (term_row branches.now))) }
 {
     let e = walk(alloc, e, change, inner)?;
-    let t = change.change_type(alloc, t, inner)?;
+    let t = walked_type(alloc, t, change, inner)?;
     let branches = walk_row(alloc, branches, change, inner.under_term()?)?;
     Term::make(alloc, TermNode::Case(e, t, branches))
 }
@@ -306,7 +327,7 @@ fn walk_rolled<C: Change>(
     ensures { IfOk result (λ made. made ≡ walked (C.type_at change.now) (C.variable_at change.now) inner.types inner.terms (TermTree.Roll e.now t.now)) }
 {
     let e = walk(alloc, e, change, inner)?;
-    let t = change.change_type(alloc, t, inner)?;
+    let t = walked_type(alloc, t, change, inner)?;
     Term::make(alloc, TermNode::Roll(e, t))
 }
 

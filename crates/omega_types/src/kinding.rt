@@ -6,6 +6,7 @@ ghost use Rattle.omega_kinds.specs.View.{kind_tree};
 ghost use Rattle.omega_types.specs.Fields.{row};
 ghost use Rattle.omega_types.specs.KindIn.{kind_in, are_distinct, all_star as all_star_of, is_star as is_star_of, star_if as star_if_of, applied as applied_of};
 ghost use Rattle.omega_types.specs.Kinding.{HasKind};
+ghost use Rattle.omega_types.specs.Ty.{Ty as TyTree};
 ghost use Rattle.omega_types.specs.Inner.Scope.{scope_of};
 
 use crate::tree::{Ty, TyFields, TyNode};
@@ -94,37 +95,101 @@ fn find_kind(alloc: Global, scope: &mut Vec<Kind>, ty: &Ty) -> Result<Option<Kin
     match ty.node() {
         TyNode::Var(index) => variable_kind(scope, *index),
         TyNode::Int | TyNode::Bool | TyNode::Text => Ok(Some(Kind::Star)),
-        TyNode::Arrow(a, b) => {
-            let a = find_kind(alloc, scope, a)?;
-            let b = find_kind(alloc, scope, b)?;
-            Ok(star_if(is_star(&a) && is_star(&b)))
-        }
-        TyNode::Fields(fields) | TyNode::Sum(fields) => {
-            let stars = all_star(alloc, scope, fields)?;
-            Ok(star_if(stars))
-        }
-        TyNode::All(k, b) => {
-            let b = find_under(alloc, scope, b, k)?;
-            Ok(star_if(is_star(&b)))
-        }
-        TyNode::Ex(k, b) => {
-            let b = find_under(alloc, scope, b, k)?;
-            Ok(star_if(is_star(&b)))
-        }
-        TyNode::Mu(b) => {
-            let b = find_under(alloc, scope, b, &Kind::Star)?;
-            Ok(star_if(is_star(&b)))
-        }
-        TyNode::Lam(k, b) => match find_under(alloc, scope, b, k)? {
-            Some(found) => Ok(Some(arrow(alloc, k.share()?, found)?)),
-            None => Ok(None),
+        TyNode::Arrow(from, to) => match ty.both_sides() {
+            Some(part) => find_even(alloc, scope, part),
+            None => find_arrow(alloc, scope, from, to),
         },
-        TyNode::Apply(f, a) => {
-            let f = find_kind(alloc, scope, f)?;
-            let a = find_kind(alloc, scope, a)?;
-            applied(f, a)
-        }
+        TyNode::Fields(fields) | TyNode::Sum(fields) => find_fields(alloc, scope, fields),
+        TyNode::All(k, b) | TyNode::Ex(k, b) => find_quantified(alloc, scope, b, k),
+        TyNode::Mu(b) => find_quantified(alloc, scope, b, &Kind::Star),
+        TyNode::Lam(k, b) => find_operator(alloc, scope, k, b),
+        TyNode::Apply(f, a) => find_application(alloc, scope, f, a),
     }
+}
+
+// A function type.
+#[cycle(find)]
+#[inline(never)]
+fn find_arrow(alloc: Global, scope: &mut Vec<Kind>, from: &Ty, to: &Ty) -> Result<Option<Kind>, Mem>
+    ensures kept { OnOk result (scope_of scope.new.items ≡ scope_of scope.old.items) }
+    ensures kind { IfOk result (λ o. option_map kind_tree o ≡ kind_in (scope_of scope.old.items) (TyTree.Arrow from.now to.now)) }
+{
+    let from = find_kind(alloc, scope, from)?;
+    let to = find_kind(alloc, scope, to)?;
+    Ok(star_if(is_star(&from) && is_star(&to)))
+}
+
+// A function type whose two parts are one tree.
+#[cycle(find)]
+#[inline(never)]
+fn find_even(alloc: Global, scope: &mut Vec<Kind>, part: &Ty) -> Result<Option<Kind>, Mem>
+    ensures kept { OnOk result (scope_of scope.new.items ≡ scope_of scope.old.items) }
+    ensures kind { IfOk result (λ o. option_map kind_tree o ≡ kind_in (scope_of scope.old.items) (TyTree.Arrow part.now part.now)) }
+{
+    let part = find_kind(alloc, scope, part)?;
+    Ok(star_if(is_star(&part)))
+}
+
+// A record type or a sum.
+#[cycle(find)]
+#[inline(never)]
+fn find_fields(alloc: Global, scope: &mut Vec<Kind>, fields: &TyFields) -> Result<Option<Kind>, Mem>
+    ensures kept { OnOk result (scope_of scope.new.items ≡ scope_of scope.old.items) }
+    ensures kind { IfOk result (λ o. option_map kind_tree o ≡ kind_in (scope_of scope.old.items) (TyTree.Fields (row fields.now))) }
+{
+    let stars = all_star(alloc, scope, fields)?;
+    Ok(star_if(stars))
+}
+
+// A type that binds a variable and has kind `*`, as its body must.
+#[cycle(find)]
+#[inline(never)]
+fn find_quantified(
+    alloc: Global,
+    scope: &mut Vec<Kind>,
+    body: &Ty,
+    kind: &Kind,
+) -> Result<Option<Kind>, Mem>
+    ensures kept { OnOk result (scope_of scope.new.items ≡ scope_of scope.old.items) }
+    ensures kind { IfOk result (λ o. option_map kind_tree o ≡ kind_in (scope_of scope.old.items) (TyTree.All (kind_tree kind.now) body.now)) }
+{
+    let found = find_under(alloc, scope, body, kind)?;
+    Ok(star_if(is_star(&found)))
+}
+
+// An operator.
+#[cycle(find)]
+#[inline(never)]
+fn find_operator(
+    alloc: Global,
+    scope: &mut Vec<Kind>,
+    kind: &Kind,
+    body: &Ty,
+) -> Result<Option<Kind>, Mem>
+    ensures kept { OnOk result (scope_of scope.new.items ≡ scope_of scope.old.items) }
+    ensures kind { IfOk result (λ o. option_map kind_tree o ≡ kind_in (scope_of scope.old.items) (TyTree.Lam (kind_tree kind.now) body.now)) }
+{
+    match find_under(alloc, scope, body, kind)? {
+        Some(found) => Ok(Some(arrow(alloc, kind.share()?, found)?)),
+        None => Ok(None),
+    }
+}
+
+// An application.
+#[cycle(find)]
+#[inline(never)]
+fn find_application(
+    alloc: Global,
+    scope: &mut Vec<Kind>,
+    operator: &Ty,
+    arg: &Ty,
+) -> Result<Option<Kind>, Mem>
+    ensures kept { OnOk result (scope_of scope.new.items ≡ scope_of scope.old.items) }
+    ensures kind { IfOk result (λ o. option_map kind_tree o ≡ kind_in (scope_of scope.old.items) (TyTree.Apply operator.now arg.now)) }
+{
+    let operator = find_kind(alloc, scope, operator)?;
+    let arg = find_kind(alloc, scope, arg)?;
+    applied(operator, arg)
 }
 
 // The kind of the body of a binder.

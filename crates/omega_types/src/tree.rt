@@ -1,9 +1,10 @@
 // Types, whose parts are shared.
-ghost use Rattle.std.specs.Prelude.{◌≡◌, ◌≤◌, ◌+◌, ◌++◌, ◌∷◌, [], IfOk, OnOk, OnErr, slice_get};
+ghost use Rattle.std.specs.Prelude.{◌≡◌, ◌≤◌, ◌+◌, ◌++◌, ◌∷◌, [], IfOk, IfSome, OnOk, OnErr, slice_get};
 ghost use Rattle.std.specs.Option.{option_copied};
 ghost use Rattle.omega_types.specs.Inner.Bound.{bound_of, bound_pairs};
 ghost use Rattle.omega_types.specs.Fields.{Rises, MayFollow, at_label};
 ghost use Rattle.omega_types.specs.Height.{height};
+ghost use Rattle.omega_types.specs.Ty.{Ty as TyTree};
 ghost use Rattle.omega_types.specs.Inner.View.{ty_of};
 
 use crate::finding::part_at;
@@ -25,11 +26,13 @@ pub struct Ty {
     made: Rc<Made>,
 }
 
-// A node with its extent, the forms of kinds counted too.
+// A node with its extent, the forms of kinds counted too. A node with the mark is an arrow whose two parts are one tree:
+// what is done to one of them need not be done to the other. Without the mark they may be one tree all the same.
 #[cycle(ty)]
 #[derive(Drop)]
 struct Made {
     extent: Extent,
+    is_even: bool,
     node: TyNode,
 }
 
@@ -77,11 +80,11 @@ impl Model for Ty {
 
     ghost use Rattle.omega_types.specs.Inner.Bound.{bound_of};
     ghost use Rattle.omega_types.specs.Height.{height};
-    ghost use Rattle.omega_types.specs.Inner.View.{ty_of};
+    ghost use Rattle.omega_types.specs.Inner.View.{ty_of, KnownEven};
 
     ghost view = { λ t. ty_of t.made.value.node };
 
-    ghost invariant = { λ t. (t.bound ≡ bound_of (ty_of t.made.value.node)) × (height (ty_of t.made.value.node) ≤ t.made.value.extent.height) × (t.made.value.extent.height ≤ 4096) };
+    ghost invariant = { λ t. (t.bound ≡ bound_of (ty_of t.made.value.node)) × (height (ty_of t.made.value.node) ≤ t.made.value.extent.height) × (t.made.value.extent.height ≤ 8192) × KnownEven t.made.value.is_even (ty_of t.made.value.node) };
 
     ghost use Rattle.omega_types.specs.Inner.Falls.{made_le-nodes};
 
@@ -123,8 +126,49 @@ impl Ty {
         let extent = node.parts().over(1)?;
         Ok(Ty {
             bound,
-            made: Rc::new(alloc, Made { extent, node })?,
+            made: Rc::new(
+                alloc,
+                Made {
+                    extent,
+                    is_even: false,
+                    node,
+                },
+            )?,
         })
+    }
+
+    /// The type of functions from a type to that type itself, of which the two parts are known to be one tree.
+    /// `Err` is out of memory, also for a type that is too high or too large (`Extent::over`).
+    pub fn to_itself(alloc: Global, part: Ty) -> Result<Ty, Mem>
+        ensures { IfOk result (λ t. t ≡ TyTree.Arrow part part) }
+    {
+        let bound = part.bound;
+        let extent = part.extent().twice().over(1)?;
+        let node = TyNode::Arrow(part.share()?, part);
+        Ok(Ty {
+            bound,
+            made: Rc::new(
+                alloc,
+                Made {
+                    extent,
+                    is_even: true,
+                    node,
+                },
+            )?,
+        })
+    }
+
+    /// The type on both sides of an arrow whose two parts are known to be one tree, and `None` for each other type. Such an
+    /// arrow is made by `to_itself`, and by each walk over one. Takes one step.
+    pub fn both_sides(&self) -> Option<&Ty>
+        ensures { IfSome result (λ part. self.now ≡ TyTree.Arrow part.now part.now) }
+    {
+        if self.made.is_even {
+            if let TyNode::Arrow(part, _) = &self.made.node {
+                return Some(part);
+            }
+        }
+        None
     }
 
     /// The outermost form of a type.
@@ -142,10 +186,10 @@ impl Ty {
     }
 
     /// How high and how large the type is, the forms of kinds counted too. Takes one step.
-    /// No type is higher than 4,096.
+    /// No type is higher than 8,192.
     pub fn extent(&self) -> Extent
         ensures height { height self.now ≤ result.height }
-        ensures high { result.height ≤ 4096 }
+        ensures high { result.height ≤ 8192 }
     {
         self.made.extent
     }

@@ -46,7 +46,10 @@ pub fn walk_type<C: TyChange>(alloc: Global, ty: &Ty, change: &C, depth: u64) ->
     match ty.node() {
         TyNode::Var(index) => change.change_variable(alloc, *index, depth),
         TyNode::Int | TyNode::Bool | TyNode::Text => ty.share(),
-        TyNode::Arrow(a, b) => walk_arrow(alloc, a, b, change, depth),
+        TyNode::Arrow(a, b) => match ty.both_sides() {
+            Some(part) => walk_even(alloc, part, change, depth),
+            None => walk_arrow(alloc, a, b, change, depth),
+        },
         TyNode::Fields(fields) => walk_record(alloc, fields, change, depth),
         TyNode::Sum(fields) => walk_sum(alloc, fields, change, depth),
         TyNode::All(k, b) => walk_all(alloc, k, b, change, depth),
@@ -66,6 +69,15 @@ fn walk_arrow<C: TyChange>(alloc: Global, a: &Ty, b: &Ty, change: &C, depth: u64
     let a = walk_type(alloc, a, change, depth)?;
     let b = walk_type(alloc, b, change, depth)?;
     Ty::make(alloc, TyNode::Arrow(a, b))
+}
+
+// A function type whose two parts are one tree.
+#[cycle(walk)]
+#[inline(never)]
+fn walk_even<C: TyChange>(alloc: Global, part: &Ty, change: &C, depth: u64) -> Result<Ty, Mem>
+    ensures { IfOk result (λ t. t ≡ walked_ty (C.variable_at change.now) depth (TyTree.Arrow part.now part.now)) }
+{
+    Ty::to_itself(alloc, walk_type(alloc, part, change, depth)?)
 }
 
 // A record type.

@@ -63,17 +63,17 @@ abbrev mutual
   term_row_size TermRow.End = 0
   term_row_size (TermRow.More l e rest) = term_size e + term_row_size rest + 1
 
--- how much is in a piece yet: six for each node, and one for the call of the piece
+-- how much is in a piece yet: eight for each node, and one for the call of the piece
 abbrev pub weight : Piece → ℕ
 weight (piece.Bytes b) = 0
 weight (piece.Number n) = 0
 weight (piece.Text b) = 0
 weight (piece.Label l) = 0
-weight (piece.Kind k) = 6 * kind_size (kind_tree k.now) + 1
-weight (piece.Ty n t) = 6 * ty_size t.now + 1
-weight (piece.TyFields n f) = 6 * row_size (row f.now) + 1
-weight (piece.Term here e) = 6 * term_size e.now + 1
-weight (piece.TermFields here f) = 6 * term_row_size (term_row f.now) + 1
+weight (piece.Kind k) = 8 * kind_size (kind_tree k.now) + 1
+weight (piece.Ty n t) = 8 * ty_size t.now + 1
+weight (piece.TyFields n f) = 8 * row_size (row f.now) + 1
+weight (piece.Term here e) = 8 * term_size e.now + 1
+weight (piece.TermFields here f) = 8 * term_row_size (term_row f.now) + 1
 
 -- the weight of pieces that are still to be written
 abbrev pub weights : List Piece → ℕ

@@ -9,8 +9,17 @@ use fing_text::{Sink, WriteFault, put};
 use itoa::Buffer;
 use omega_kinds::Label;
 
+// Writes these bytes, by a call of its own: so the frames of walks have no room for the locals of the sink.
+#[inline(never)]
+pub fn write_word<K: Sink>(sink: &mut K, word: &[u8]) -> Result<(), WriteFault>
+    ensures { Wrote (K.told sink.old) (K.told sink.new) word.now result }
+{
+    put(sink, word)
+}
+
 /// Writes a label: a reserved one by its word, a name by its own bytes.
 /// `Err` comes only where the sink counted a fault, and a prefix of the text was written, not all of it.
+#[inline(never)]
 pub fn write_label<K: Sink>(sink: &mut K, label: &Label) -> Result<(), WriteFault>
     ensures { Wrote (K.told sink.old) (K.told sink.new) (label_text label.now) result }
 {
@@ -25,6 +34,7 @@ pub fn write_label<K: Sink>(sink: &mut K, label: &Label) -> Result<(), WriteFaul
 }
 
 // Writes a number in decimal.
+#[inline(never)]
 pub fn write_number<K: Sink>(sink: &mut K, n: u64) -> Result<(), WriteFault>
     ensures { Wrote (K.told sink.old) (K.told sink.new) (decimal n) result }
 {
@@ -33,6 +43,7 @@ pub fn write_number<K: Sink>(sink: &mut K, n: u64) -> Result<(), WriteFault>
 }
 
 // Writes a signed number in decimal.
+#[inline(never)]
 pub fn write_signed<K: Sink>(sink: &mut K, z: i64) -> Result<(), WriteFault>
     ensures { Wrote (K.told sink.old) (K.told sink.new) (signed_decimal z) result }
 {
@@ -57,6 +68,7 @@ fn write_byte<K: Sink>(sink: &mut K, b: u8) -> Result<(), WriteFault>
 }
 
 // Writes the bytes of a text without its quotes.
+#[inline(never)]
 pub fn write_bytes<K: Sink>(sink: &mut K, bytes: &[u8]) -> Result<(), WriteFault>
     ensures { Wrote (K.told sink.old) (K.told sink.new) (flat_map byte_text bytes.now) result }
 {

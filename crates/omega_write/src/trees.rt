@@ -9,14 +9,15 @@ ghost use Rattle.omega_terms.specs.OmegaText.{omega_text};
 ghost use Rattle.omega_terms.specs.Term.{Term as TermTree};
 ghost use Rattle.omega_terms.specs.TermText.{term_text, op_front, quoted_text};
 ghost use Rattle.omega_terms.specs.TypeText.{ty_text};
-ghost use Rattle.std.specs.Prelude.{◌≡◌, decimal};
+ghost use Rattle.omega_types.specs.Ty.{Ty as TyTree};
+ghost use Rattle.std.specs.Prelude.{◌≡◌, codes, decimal};
 ghost use Rattle.omega_kinds.specs.Text.{◌then◌};
 ghost use Rattle.omega_write.specs.Inner.Counted.{level_in, next_in, counted_ty, counted_row, counted_term, counted_term_row};
 ghost use Rattle.omega_write.specs.Inner.Pieces.{piece_text, pieces_text, field_text, one_text, two_text, three_text};
 ghost use Rattle.omega_write.specs.declared.trees.Piece.TheVariants as piece;
 
-use crate::leaves::{write_bytes, write_label, write_number, write_signed};
-use fing_text::{Sink, WriteFault, put};
+use crate::leaves::{write_bytes, write_label, write_number, write_signed, write_word};
+use fing_text::{Sink, WriteFault};
 use omega_kinds::{Kind, Label};
 use omega_terms::{Op, Term, TermFields, TermNode};
 use omega_types::{Ty, TyFields, TyNode};
@@ -96,38 +97,113 @@ fn next(count: u64) -> u64
 /// Writes a kind: `*` or `(> K K)`.
 /// `Err` comes only where the sink counted a fault, and a prefix of the text was written, not all of it.
 #[cycle(trees)]
+#[inline(never)]
 pub fn write_kind<K: Sink>(sink: &mut K, kind: &Kind) -> Result<(), WriteFault>
     ensures { Wrote (K.told sink.old) (K.told sink.new) (kind_text (kind_tree kind.now)) result }
 {
     match kind {
-        Kind::Star => put(sink, b"*"),
-        Kind::Arrow(from, to, _) => write_two(sink, b"(> ", Piece::Kind(from), Piece::Kind(to)),
+        Kind::Star => write_word(sink, b"*"),
+        Kind::Arrow(from, to, _) => write_two_kinds(sink, from, to),
     }
 }
 
-// Writes a type, whose variables in scope are counted modulo 2^64.
+// Writes the kind of operators.
 #[cycle(trees)]
+#[inline(never)]
+fn write_two_kinds<'x, K: Sink>(
+    sink: &mut K,
+    from: &'x Kind,
+    to: &'x Kind,
+) -> Result<(), WriteFault>
+    ensures { Wrote (K.told sink.old) (K.told sink.new) (two_text (codes "(> ") (kind_text (kind_tree from.now)) (kind_text (kind_tree to.now))) result }
+{
+    write_two(sink, b"(> ", Piece::Kind(from), Piece::Kind(to))
+}
+
+// Writes a type, whose variables in scope are counted modulo 2^64. What forms of parts are written as is a call of its own
+// for each, here and for terms, so that no frame has room for the pieces of all forms.
+#[cycle(trees)]
+#[inline(never)]
 fn write_type<K: Sink>(sink: &mut K, types: u64, ty: &Ty) -> Result<(), WriteFault>
     ensures { Wrote (K.told sink.old) (K.told sink.new) (counted_ty types ty.now) result }
 {
     match ty.node() {
         TyNode::Var(index) => write_variable(sink, b"a", level(types, *index)),
-        TyNode::Int => put(sink, b"int"),
-        TyNode::Bool => put(sink, b"bool"),
-        TyNode::Text => put(sink, b"text"),
-        TyNode::Arrow(a, b) => write_two(sink, b"(-> ", Piece::Ty(types, a), Piece::Ty(types, b)),
-        TyNode::Fields(fields) => write_one(sink, b"(rec", Piece::TyFields(types, fields)),
-        TyNode::Sum(fields) => write_one(sink, b"(sum", Piece::TyFields(types, fields)),
-        TyNode::All(k, b) => write_two(sink, b"(all ", Piece::Kind(k), Piece::Ty(next(types), b)),
-        TyNode::Ex(k, b) => write_two(sink, b"(some ", Piece::Kind(k), Piece::Ty(next(types), b)),
-        TyNode::Mu(b) => write_one(sink, b"(mu ", Piece::Ty(next(types), b)),
-        TyNode::Lam(k, b) => write_two(sink, b"(lam ", Piece::Kind(k), Piece::Ty(next(types), b)),
-        TyNode::Apply(f, a) => write_two(sink, b"(@ ", Piece::Ty(types, f), Piece::Ty(types, a)),
+        TyNode::Int => write_word(sink, b"int"),
+        TyNode::Bool => write_word(sink, b"bool"),
+        TyNode::Text => write_word(sink, b"text"),
+        TyNode::Arrow(a, b) => write_two_types(sink, b"(-> ", types, a, b),
+        TyNode::Fields(fields) => write_row(sink, b"(rec", types, fields),
+        TyNode::Sum(fields) => write_row(sink, b"(sum", types, fields),
+        TyNode::All(k, b) => write_bound(sink, b"(all ", types, k, b),
+        TyNode::Ex(k, b) => write_bound(sink, b"(some ", types, k, b),
+        TyNode::Mu(b) => write_recursive(sink, types, b),
+        TyNode::Lam(k, b) => write_bound(sink, b"(lam ", types, k, b),
+        TyNode::Apply(f, a) => write_two_types(sink, b"(@ ", types, f, a),
     }
+}
+
+// Writes a form of two types.
+#[cycle(trees)]
+#[inline(never)]
+fn write_two_types<'x, K: Sink>(
+    sink: &mut K,
+    front: &'x [u8],
+    types: u64,
+    first: &'x Ty,
+    second: &'x Ty,
+) -> Result<(), WriteFault>
+    ensures { Wrote (K.told sink.old) (K.told sink.new) (two_text front.now (counted_ty types first.now) (counted_ty types second.now)) result }
+{
+    write_two(
+        sink,
+        front,
+        Piece::Ty(types, first),
+        Piece::Ty(types, second),
+    )
+}
+
+// Writes a record type or a sum.
+#[cycle(trees)]
+#[inline(never)]
+fn write_row<'x, K: Sink>(
+    sink: &mut K,
+    front: &'x [u8],
+    types: u64,
+    fields: &'x TyFields,
+) -> Result<(), WriteFault>
+    ensures { Wrote (K.told sink.old) (K.told sink.new) (one_text front.now (counted_row types (row fields.now))) result }
+{
+    write_one(sink, front, Piece::TyFields(types, fields))
+}
+
+// Writes a type that binds a variable of a kind.
+#[cycle(trees)]
+#[inline(never)]
+fn write_bound<'x, K: Sink>(
+    sink: &mut K,
+    front: &'x [u8],
+    types: u64,
+    kind: &'x Kind,
+    body: &'x Ty,
+) -> Result<(), WriteFault>
+    ensures { Wrote (K.told sink.old) (K.told sink.new) (two_text front.now (kind_text (kind_tree kind.now)) (counted_ty (next_in types) body.now)) result }
+{
+    write_two(sink, front, Piece::Kind(kind), Piece::Ty(next(types), body))
+}
+
+// Writes a recursive type.
+#[cycle(trees)]
+#[inline(never)]
+fn write_recursive<K: Sink>(sink: &mut K, types: u64, b: &Ty) -> Result<(), WriteFault>
+    ensures { Wrote (K.told sink.old) (K.told sink.new) (counted_ty types (TyTree.Mu b.now)) result }
+{
+    write_one(sink, b"(mu ", Piece::Ty(next(types), b))
 }
 
 // Writes the fields of a record or a sum type, each with a space before it.
 #[cycle(trees)]
+#[inline(never)]
 fn write_ty_fields<K: Sink>(sink: &mut K, types: u64, fields: &TyFields) -> Result<(), WriteFault>
     ensures { Wrote (K.told sink.old) (K.told sink.new) (counted_row types (row fields.now)) result }
 {
@@ -139,43 +215,175 @@ fn write_ty_fields<K: Sink>(sink: &mut K, types: u64, fields: &TyFields) -> Resu
 
 // Writes a term, whose variables in scope are counted modulo 2^64.
 #[cycle(trees)]
+#[inline(never)]
 fn write_expression<K: Sink>(sink: &mut K, here: Scope, term: &Term) -> Result<(), WriteFault>
     ensures { Wrote (K.told sink.old) (K.told sink.new) (counted_term here.types here.terms term.now) result }
 {
-    let under = here.under_term();
     match term.node() {
         TermNode::Var(index) => write_variable(sink, b"x", level(here.terms, *index)),
         TermNode::Int(z) => write_signed(sink, *z),
-        TermNode::Bool(true) => put(sink, b"true"),
-        TermNode::Bool(false) => put(sink, b"false"),
+        TermNode::Bool(true) => write_word(sink, b"true"),
+        TermNode::Bool(false) => write_word(sink, b"false"),
         TermNode::Text(text) => write_quoted(sink, text.bytes()),
-        TermNode::Lam(t, e) => write_two(sink, b"(fn ", here.ty(t), under.term(e)),
-        TermNode::Call(f, a) => write_two(sink, b"(call ", here.term(f), here.term(a)),
-        TermNode::TyLam(k, e) => {
-            write_two(sink, b"(tfn ", Piece::Kind(k), here.under_type().term(e))
-        }
-        TermNode::Inst(e, t) => write_two(sink, b"(inst ", here.term(e), here.ty(t)),
-        TermNode::Fields(fields) => write_one(sink, b"(rec", Piece::TermFields(here, fields)),
-        TermNode::Get(e, l) => write_two(sink, b"(get ", here.term(e), Piece::Label(l)),
-        TermNode::Pack(t, e, u) => {
-            write_three(sink, b"(pack ", here.ty(t), here.term(e), here.ty(u))
-        }
-        TermNode::Unpack(p, e) => {
-            write_two(sink, b"(open ", here.term(p), under.under_type().term(e))
-        }
-        TermNode::If(a, b, c) => {
-            write_three(sink, b"(if ", here.term(a), here.term(b), here.term(c))
-        }
-        TermNode::Arith(op, a, b) => write_two(sink, front(*op), here.term(a), here.term(b)),
-        TermNode::Fix(t, u, e) => {
-            let body = under.under_term().term(e);
-            write_three(sink, b"(fix ", here.ty(t), here.ty(u), body)
-        }
+        TermNode::Lam(t, e) => write_function(sink, here, t, e),
+        TermNode::Call(f, a) => write_two_terms(sink, b"(call ", here, f, a),
+        TermNode::TyLam(k, e) => write_type_function(sink, here, k, e),
+        TermNode::Inst(e, t) => write_at_type(sink, b"(inst ", here, e, t),
+        TermNode::Fields(fields) => write_record(sink, here, fields),
+        TermNode::Get(e, l) => write_get(sink, here, e, l),
+        TermNode::Pack(t, e, u) => write_package(sink, here, t, e, u),
+        TermNode::Unpack(p, e) => write_opened(sink, here, p, e),
+        TermNode::If(a, b, c) => write_choice(sink, here, a, b, c),
+        TermNode::Arith(op, a, b) => write_two_terms(sink, front(*op), here, a, b),
+        TermNode::Fix(t, u, e) => write_fix(sink, here, t, u, e),
         TermNode::Inj(l, e, t) => write_injected(sink, here, l, e, t),
         TermNode::Case(e, t, branches) => write_case(sink, here, e, t, branches),
-        TermNode::Roll(e, t) => write_rolled(sink, here, e, t),
+        TermNode::Roll(e, t) => write_at_type(sink, b"(roll ", here, e, t),
         TermNode::Unroll(e) => write_unrolled(sink, here, e),
     }
+}
+
+// Writes a form of two terms.
+#[cycle(trees)]
+#[inline(never)]
+fn write_two_terms<'x, K: Sink>(
+    sink: &mut K,
+    front: &'x [u8],
+    here: Scope,
+    first: &'x Term,
+    second: &'x Term,
+) -> Result<(), WriteFault>
+    ensures { Wrote (K.told sink.old) (K.told sink.new) (two_text front.now (counted_term here.types here.terms first.now) (counted_term here.types here.terms second.now)) result }
+{
+    write_two(sink, front, here.term(first), here.term(second))
+}
+
+// Writes a form of a term and a type.
+#[cycle(trees)]
+#[inline(never)]
+fn write_at_type<'x, K: Sink>(
+    sink: &mut K,
+    front: &'x [u8],
+    here: Scope,
+    e: &'x Term,
+    t: &'x Ty,
+) -> Result<(), WriteFault>
+    ensures { Wrote (K.told sink.old) (K.told sink.new) (two_text front.now (counted_term here.types here.terms e.now) (counted_ty here.types t.now)) result }
+{
+    write_two(sink, front, here.term(e), here.ty(t))
+}
+
+// Writes a function.
+#[cycle(trees)]
+#[inline(never)]
+fn write_function<'x, K: Sink>(
+    sink: &mut K,
+    here: Scope,
+    t: &'x Ty,
+    e: &'x Term,
+) -> Result<(), WriteFault>
+    ensures { Wrote (K.told sink.old) (K.told sink.new) (counted_term here.types here.terms (TermTree.Lam t.now e.now)) result }
+{
+    write_two(sink, b"(fn ", here.ty(t), here.under_term().term(e))
+}
+
+// Writes a function of types.
+#[cycle(trees)]
+#[inline(never)]
+fn write_type_function<'x, K: Sink>(
+    sink: &mut K,
+    here: Scope,
+    k: &'x Kind,
+    e: &'x Term,
+) -> Result<(), WriteFault>
+    ensures { Wrote (K.told sink.old) (K.told sink.new) (counted_term here.types here.terms (TermTree.TyLam (kind_tree k.now) e.now)) result }
+{
+    write_two(sink, b"(tfn ", Piece::Kind(k), here.under_type().term(e))
+}
+
+// Writes a record.
+#[cycle(trees)]
+#[inline(never)]
+fn write_record<K: Sink>(sink: &mut K, here: Scope, fields: &TermFields) -> Result<(), WriteFault>
+    ensures { Wrote (K.told sink.old) (K.told sink.new) (counted_term here.types here.terms (TermTree.Fields (term_row fields.now))) result }
+{
+    write_one(sink, b"(rec", Piece::TermFields(here, fields))
+}
+
+// Writes a field of a record that is taken.
+#[cycle(trees)]
+#[inline(never)]
+fn write_get<'x, K: Sink>(
+    sink: &mut K,
+    here: Scope,
+    e: &'x Term,
+    l: &'x Label,
+) -> Result<(), WriteFault>
+    ensures { Wrote (K.told sink.old) (K.told sink.new) (counted_term here.types here.terms (TermTree.Get e.now l.now)) result }
+{
+    write_two(sink, b"(get ", here.term(e), Piece::Label(l))
+}
+
+// Writes a package.
+#[cycle(trees)]
+#[inline(never)]
+fn write_package<'x, K: Sink>(
+    sink: &mut K,
+    here: Scope,
+    t: &'x Ty,
+    e: &'x Term,
+    u: &'x Ty,
+) -> Result<(), WriteFault>
+    ensures { Wrote (K.told sink.old) (K.told sink.new) (counted_term here.types here.terms (TermTree.Pack t.now e.now u.now)) result }
+{
+    write_three(sink, b"(pack ", here.ty(t), here.term(e), here.ty(u))
+}
+
+// Writes an opened package.
+#[cycle(trees)]
+#[inline(never)]
+fn write_opened<'x, K: Sink>(
+    sink: &mut K,
+    here: Scope,
+    p: &'x Term,
+    e: &'x Term,
+) -> Result<(), WriteFault>
+    ensures { Wrote (K.told sink.old) (K.told sink.new) (counted_term here.types here.terms (TermTree.Unpack p.now e.now)) result }
+{
+    let under = here.under_term();
+    write_two(sink, b"(open ", here.term(p), under.under_type().term(e))
+}
+
+// Writes a choice.
+#[cycle(trees)]
+#[inline(never)]
+fn write_choice<'x, K: Sink>(
+    sink: &mut K,
+    here: Scope,
+    a: &'x Term,
+    b: &'x Term,
+    c: &'x Term,
+) -> Result<(), WriteFault>
+    ensures { Wrote (K.told sink.old) (K.told sink.new) (counted_term here.types here.terms (TermTree.If a.now b.now c.now)) result }
+{
+    write_three(sink, b"(if ", here.term(a), here.term(b), here.term(c))
+}
+
+// Writes a function that calls itself.
+#[cycle(trees)]
+#[inline(never)]
+fn write_fix<'x, K: Sink>(
+    sink: &mut K,
+    here: Scope,
+    t: &'x Ty,
+    u: &'x Ty,
+    e: &'x Term,
+) -> Result<(), WriteFault>
+    ensures { Wrote (K.told sink.old) (K.told sink.new) (counted_term here.types here.terms (TermTree.Fix t.now u.now e.now)) result }
+{
+    let under = here.under_term();
+    let body = under.under_term().term(e);
+    write_three(sink, b"(fix ", here.ty(t), here.ty(u), body)
 }
 
 // Writes a term injected into a sum.
@@ -218,20 +426,6 @@ fn write_case<'x, K: Sink>(
     )
 }
 
-// Writes a rolled term.
-#[cycle(trees)]
-#[inline(never)]
-fn write_rolled<'x, K: Sink>(
-    sink: &mut K,
-    here: Scope,
-    e: &'x Term,
-    t: &'x Ty,
-) -> Result<(), WriteFault>
-    ensures { Wrote (K.told sink.old) (K.told sink.new) (counted_term here.types here.terms (TermTree.Roll e.now t.now)) result }
-{
-    write_two(sink, b"(roll ", here.term(e), here.ty(t))
-}
-
 // Writes an unrolled term.
 #[cycle(trees)]
 #[inline(never)]
@@ -258,6 +452,7 @@ fn front(op: Op) -> &'static [u8]
 
 // Writes the fields of a record, or the branches of a case, each with a space before it.
 #[cycle(trees)]
+#[inline(never)]
 fn write_term_fields<K: Sink>(
     sink: &mut K,
     here: Scope,
@@ -273,6 +468,7 @@ fn write_term_fields<K: Sink>(
 
 // Writes a field of a record, or a branch of a case, with a space before it.
 #[cycle(trees)]
+#[inline(never)]
 fn write_field<'x, K: Sink>(
     sink: &mut K,
     label: &'x Label,
@@ -285,6 +481,7 @@ fn write_field<'x, K: Sink>(
 
 // Writes a variable of a sort by its level.
 #[cycle(trees)]
+#[inline(never)]
 fn write_variable<'x, K: Sink>(sink: &mut K, sort: &'x [u8], level: u64) -> Result<(), WriteFault>
     ensures { Wrote (K.told sink.old) (K.told sink.new) (sort.now then decimal level) result }
 {
@@ -293,6 +490,7 @@ fn write_variable<'x, K: Sink>(sink: &mut K, sort: &'x [u8], level: u64) -> Resu
 
 // Writes a text in quotes.
 #[cycle(trees)]
+#[inline(never)]
 fn write_quoted<'x, K: Sink>(sink: &mut K, text: &'x [u8]) -> Result<(), WriteFault>
     ensures { Wrote (K.told sink.old) (K.told sink.new) (quoted_text text.now) result }
 {
@@ -370,11 +568,12 @@ fn write_pieces<K: Sink>(sink: &mut K, pieces: &[Piece<'_>]) -> Result<(), Write
 
 // Writes a piece.
 #[cycle(trees)]
+#[inline(never)]
 fn write_piece<K: Sink>(sink: &mut K, piece: &Piece<'_>) -> Result<(), WriteFault>
     ensures { Wrote (K.told sink.old) (K.told sink.new) (piece_text piece.now) result }
 {
     match piece {
-        Piece::Bytes(bytes) => put(sink, bytes),
+        Piece::Bytes(bytes) => write_word(sink, bytes),
         Piece::Number(n) => write_number(sink, *n),
         Piece::Text(bytes) => write_bytes(sink, bytes),
         Piece::Label(label) => write_label(sink, label),

@@ -33,7 +33,7 @@ use Rattle.sig_norm_laws.proofs.Orders.OrderExists.{field-split, part-opens, Ope
 use Rattle.sig_norm_laws.proofs.Orders.Decided.{param-enters}
 use Rattle.sig_roots.specs.Inner.Rooted.{rooted}
 use Rattle.sig_roots.proofs.RootedLaws.{rooted-conv, rooted-found}
-use Rattle.sig_roots.proofs.LeastLaws.{past-from}
+use Rattle.semantic_sigs.proofs.LeastLaws.{past-from}
 use Rattle.sig_roots.proofs.SeekLaws.{spread-past}
 use Rattle.packages.specs.Inner.First.{Places, is_untaken, blocks, barred, if_untaken, first, first_row, first_type, or_first}
 use Rattle.sig_laws.proofs.Formed.WellFormedLaws.{before_all-field}

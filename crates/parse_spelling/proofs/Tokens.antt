@@ -4,7 +4,7 @@ use Rattle.std.specs.Prelude.{◌≡◌, ℕ, ◌<◌, ◌≤◌, List, [], ◌�
 use Rattle.std.specs.Prelude.{if◌then◌else◌, Option, Some, None, ℤ, pos, negsuc, neg_ℤ}
 use Rattle.std.proofs.Common.{arith}
 use Rattle.std.proofs.Math.Path.{refl, sym, ◌∙◌, ap, subst}
-use Rattle.std.proofs.lemmas.Bool.{leb-true, le-leb, lt-leb}
+use Rattle.std.proofs.lemmas.Bool.{and_parts, leb-true, le-leb, lt-leb}
 use Rattle.std.proofs.lemmas.Bool.Decides.{nat_tests}
 use Rattle.std.proofs.lemmas.Cmp.{nat_list_eq_equiv}
 use Rattle.std.specs.Char.{is_ascii_digit}
@@ -33,10 +33,6 @@ if-holds : {A : Type 0} (P : A → Type 0) (c : Bool) {x y : A} → (c ≡ true 
 if-holds P true h g = h refl
 if-holds P false h g = g refl
 
-and-both : (a b : Bool) → (a && b) ≡ true → (a ≡ true) × (b ≡ true)
-and-both true b h = (refl, h)
-and-both false b h = cc
-
 -- names
 
 or-three : (a b c : Bool) → (a || (b || c)) ≡ true → (a || b || c) ≡ true
@@ -61,7 +57,7 @@ both-true false b h g = cc
 name-bytes : (bs : List ℕ) → list_all is_name_byte bs ≡ true → passes in_name bs ≡ true
 name-bytes [] h = refl
 name-bytes (b ∷ bs) h =
-    let p = and-both (is_name_byte b) (list_all is_name_byte bs) h in
+    let p = and_parts (is_name_byte b) (list_all is_name_byte bs) h in
     both-true (in_name b) (passes in_name bs) (or-three (begins_name b) (is_ascii_digit b) (b == 39) p.0) (name-bytes bs p.1)
 
 first-byte : (b : ℕ) → begins_name b ≡ true → in_name b ≡ true
@@ -124,8 +120,8 @@ escaped-ok b =
 
 plain-ok : (b : ℕ) → is_plain b ≡ true → ByteOk (Some b)
 plain-ok b h =
-    let p = and-both (nat_le 32 b) (nat_le b 126 && not (nat_eq b 34)) h in
-    let q = and-both (nat_le b 126) (not (nat_eq b 34)) p.1 in
+    let p = and_parts (nat_le 32 b) (nat_le b 126 && not (nat_eq b 34)) h in
+    let q = and_parts (nat_le b 126) (not (nat_eq b 34)) p.1 in
     let low = leb-true _ _ p.0 in
     let high = leb-true _ _ q.0 in
     printed b low (omega (arith, high))

@@ -1,13 +1,12 @@
 -- Which indexes are mentioned, counted as the code counts them.
--- Main results: abs-mentioned, fun-mentioned.
-use Rattle.std.specs.Prelude.{ℕ, suc, ◌+◌, ◌-◌, ◌<◌, ◌≤◌, ◌≡◌, ◌⊎◌, ◌↔◌, List, [], ◌∷◌, Bool, false, IsTrue, length, map}
+-- Main results: sig_mention-below, length-trees.
+use Rattle.std.specs.Prelude.{ℕ, suc, ◌<◌, ◌≡◌, List, [], ◌∷◌, length, map}
 use Rattle.std.proofs.Common.{arith}
 use Rattle.std.proofs.Math.Logic.{inl, inr}
-use Rattle.std.proofs.Math.Path.{refl, sym, ap, ◌∙◌, subst}
+use Rattle.std.proofs.Math.Path.{refl, sym, ap}
 use Rattle.omega_kinds.specs.Kind.{Kind}
 use Rattle.omega_kinds.specs.View.{kind_tree}
 use Rattle.omega_kinds.specs.declared.kind.Kind.{Kind as SharedKind}
-use Rattle.omega_kinds.specs.declared.effect.Effect.{Effect}
 use Rattle.omega_types.specs.Ty.{Ty, Row}
 use Rattle.omega_types.specs.Inner.Bound.{bound_of, bound_row}
 use Rattle.omega_types.specs.Binders.{past}
@@ -16,7 +15,6 @@ use Rattle.sig_definitions.specs.Signatures.Sig.{Sig, Abs, SigRow}
 use Rattle.sig_definitions.specs.Signatures.SigMentions.{MentionsSig, MentionsAbs, MentionsRow}
 use Rattle.sig_laws.proofs.Algebra.BinderLaws.{past-length}
 use Rattle.semantic_sigs.specs.Inner.Bound.{bound_sig, bound_abs, bound_sig_row}
-use Rattle.semantic_sigs.specs.Inner.View.{kinds_of, body_of}
 
 mutual
   mention-below : (i : ℕ) (t : Ty) → Mentions i t → i < bound_of t
@@ -55,14 +53,6 @@ mutual
   sig_row_mention-below i (SigRow.More l s rest) (inl m) = omega (arith, sig_mention-below i s m)
   sig_row_mention-below i (SigRow.More l s rest) (inr m) = omega (arith, sig_row_mention-below i rest m)
 
--- an index that passes all free ones
-pub sig-absent : (s : Sig) (count index bound rest : ℕ) → bound ≡ bound_sig s → rest ≡ bound - count → rest ≤ index → IsTrue false ↔ MentionsSig (count + index) s
-sig-absent s count index bound rest eb er le = (λ h. cc, λ m. absurd (let lt = sig_mention-below (count + index) s m in omega (arith, lt, eb, er, le)))
-
--- a signature that hides types does not mention an index at or above its bound
-pub abs-absent : (x : Abs) (count index bound rest : ℕ) → bound ≡ bound_abs x → rest ≡ bound - count → rest ≤ index → IsTrue false ↔ MentionsAbs (count + index) x
-abs-absent x count index bound rest eb er le = (λ h. cc, λ m. absurd (let lt = abs_mention-below (count + index) x m in omega (arith, lt, eb, er, le)))
-
 -- a list of kinds has as many trees as kinds
 pub length-trees : (items : List SharedKind) → length (map kind_tree items) ≡ length items
 length-trees [] = refl
@@ -72,26 +62,3 @@ length-trees (k ∷ items) = ap suc (length-trees items)
 pub no-kinds : (items : List SharedKind) (ks : List Kind) → map kind_tree items ≡ ks → length items ≡ 0 → ks ≡ []
 no-kinds [] ks e l = sym e
 no-kinds (k ∷ items) ks e l = absurd (omega (arith, l))
-
-past-items : (ks : List Kind) (items : List SharedKind) (index : ℕ) → map kind_tree items ≡ ks → length items + index ≡ past ks index
-past-items ks items index e = ap (λ n. n + index) (sym (length-trees items) ∙ ap length e) ∙ sym (past-length ks index)
-
--- a signature that hides types mentions an index if its body mentions it past them
-pub abs-mentioned : (x : Abs) (body : Sig) (kinds : List Kind) (items : List SharedKind) (index : ℕ) (found : Bool) → body ≡ body_of x → kinds ≡ kinds_of x → map kind_tree items ≡ kinds → IsTrue found ↔ MentionsSig (length items + index) body → IsTrue found ↔ MentionsAbs index x
-abs-mentioned (Abs.Ex ks s) body kinds items index found eb ek ei h =
-    subst (λ i. IsTrue found ↔ MentionsSig i s) (past-items ks items index (ei ∙ ek)) (subst (λ b. IsTrue found ↔ MentionsSig (length items + index) b) eb h)
-
--- a functor mentions an index if its parameter or its result mentions it past the functor's variables
-pub fun-mentioned : (sig s : Sig) (x : Abs) (e : Effect) (ks : List Kind) (items : List SharedKind) (index : ℕ) (a b found : Bool) → sig ≡ Sig.Fun e ks s x → map kind_tree items ≡ ks → IsTrue a ↔ MentionsSig (length items + index) s → IsTrue b ↔ MentionsAbs (length items + index) x → IsTrue found ↔ (IsTrue a ⊎ IsTrue b) → IsTrue found ↔ MentionsSig index sig
-fun-mentioned sig s x e ks items index a b found es ei ha hb h =
-    let ga = subst (λ i. IsTrue a ↔ MentionsSig i s) (past-items ks items index ei) ha in
-    let gb = subst (λ i. IsTrue b ↔ MentionsAbs i x) (past-items ks items index ei) hb in
-    subst (λ u. IsTrue found ↔ MentionsSig index u) (sym es) (λ t. to ga.0 gb.0 (h.0 t), λ m. h.1 (from ga.1 gb.1 m))
-  where
-    to : {A B C D : Type 0} → (A → C) → (B → D) → A ⊎ B → C ⊎ D
-    to f g (inl u) = inl (f u)
-    to f g (inr v) = inr (g v)
-
-    from : {A B C D : Type 0} → (C → A) → (D → B) → C ⊎ D → A ⊎ B
-    from f g (inl u) = inl (f u)
-    from f g (inr v) = inr (g v)

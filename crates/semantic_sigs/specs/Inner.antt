@@ -14,3 +14,4 @@ pub mod Entries
 pub mod EnvCode
 pub mod Slots
 pub mod Standing
+pub mod Least

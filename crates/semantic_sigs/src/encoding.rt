@@ -36,7 +36,7 @@ pub fn encode_sig(sig: &Sig) -> Result<Ty, Mem>
 }
 
 /// The encoding of the signature that a node makes, from those that its parts keep. A signature part is encoded once,
-/// and its type shared. `Err` is out of memory, also where an index would pass the last number.
+/// and its type stands on both sides of one arrow. `Err` is out of memory, also where an index would pass the last number.
 pub(crate) fn encode_node(alloc: Global, node: &SigNode) -> Result<Ty, Mem>
     ensures { IfOk result (λ t. t ≡ enc (sig_of node.now)) }
 {
@@ -44,9 +44,8 @@ pub(crate) fn encode_node(alloc: Global, node: &SigNode) -> Result<Ty, Mem>
         SigNode::Val(ty) => one_part(alloc, Label::Val, plain(ty).share()?),
         SigNode::Typ(ty, kind) => one_part(alloc, Label::Typ, shown_type(alloc, plain(ty), kind)?),
         SigNode::Meta(abs) => {
-            let from = encode(alloc, abs)?;
-            let to = from.share()?;
-            one_part(alloc, Label::Sig, Ty::make(alloc, TyNode::Arrow(from, to))?)
+            let encoded = encode(alloc, abs)?;
+            one_part(alloc, Label::Sig, Ty::to_itself(alloc, encoded)?)
         }
         SigNode::Str(fields) => {
             let fields = encode_fields(alloc, fields)?;
@@ -93,7 +92,7 @@ fn shown_type(alloc: Global, ty: &Ty, kind: &Kind) -> Result<Ty, Mem>
     ensures { IfOk result (λ t. t ≡ shown_type_of ty.now (kind_tree kind.now)) }
 {
     let part = at_predicate(alloc, ty)?;
-    let body = Ty::make(alloc, TyNode::Arrow(part.share()?, part))?;
+    let body = Ty::to_itself(alloc, part)?;
     let predicate = arrow(alloc, kind.share()?, Kind::Star)?;
     Ty::make(alloc, TyNode::All(predicate, body))
 }

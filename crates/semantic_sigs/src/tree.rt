@@ -18,7 +18,7 @@ use type_normal::{NormalTy, plain};
 
 // What a form of a signature counts for in its height: a walk over signatures takes more stack for a form than one over
 // types.
-const LEVELS: u32 = 3;
+const LEVELS: u32 = 6;
 
 /// A semantic signature: a handle on a tree under binders, whose parts are shared.
 /// Contracts see it as the plain tree with de Bruijn indexes, 0 being the innermost.
@@ -110,7 +110,7 @@ impl Model for Sig {
 
     ghost view = { λ s. sig_of s.made.value.node };
 
-    ghost invariant = { λ s. (s.bound ≡ bound_of_sig (sig_of s.made.value.node)) × (sig_height (sig_of s.made.value.node) ≤ s.made.value.extent.height) × (s.made.value.extent.height ≤ 4096) × (s.made.value.encoding ≡ enc_of (sig_of s.made.value.node)) };
+    ghost invariant = { λ s. (s.bound ≡ bound_of_sig (sig_of s.made.value.node)) × (sig_height (sig_of s.made.value.node) ≤ s.made.value.extent.height) × (s.made.value.extent.height ≤ 8192) × (s.made.value.encoding ≡ enc_of (sig_of s.made.value.node)) };
 
     ghost use Rattle.semantic_sigs.specs.Inner.Falls.{made_falls};
 
@@ -161,7 +161,7 @@ impl Model for Abs {
 
     ghost view = { λ x. abs_of x.node.value };
 
-    ghost invariant = { λ x. (x.bound ≡ bound_of_abs (abs_of x.node.value)) × (abs_height (abs_of x.node.value) ≤ x.node.value.extent.height) × (x.node.value.extent.height ≤ 4096) };
+    ghost invariant = { λ x. (x.bound ≡ bound_of_abs (abs_of x.node.value)) × (abs_height (abs_of x.node.value) ≤ x.node.value.extent.height) × (x.node.value.extent.height ≤ 8192) };
 
     ghost use Rattle.semantic_sigs.specs.Inner.Falls.{abs_falls};
 
@@ -202,12 +202,12 @@ impl Sig {
         self.bound
     }
 
-    /// How high and how large the signature is, or more: each of its forms counts three in the height, and each form of
+    /// How high and how large the signature is, or more: each of its forms counts six in the height, and each form of
     /// its types one. The kinds of the variables of functors and of abstract signatures do not count; the kind of a `Typ`
-    /// may. Takes one step. No signature is higher than 4,096.
+    /// may. Takes one step. No signature is higher than 8,192.
     pub fn extent(&self) -> Extent
         ensures height { sig_height self.now ≤ result.height }
-        ensures high { result.height ≤ 4096 }
+        ensures high { result.height ≤ 8192 }
     {
         self.made.extent
     }
@@ -253,7 +253,7 @@ impl SigNode {
 
     // The extent of the parts beside each other.
     fn parts(&self) -> Extent
-        ensures { sig_height (sig_of self.now) ≤ result.height + 3 }
+        ensures { sig_height (sig_of self.now) ≤ result.height + 6 }
     {
         match self {
             SigNode::Val(ty) => plain(ty).extent(),
@@ -370,7 +370,7 @@ impl Abs {
     /// count. Takes one step.
     pub fn extent(&self) -> Extent
         ensures height { abs_height self.now ≤ result.height }
-        ensures high { result.height ≤ 4096 }
+        ensures high { result.height ≤ 8192 }
     {
         self.node.extent
     }

@@ -1,6 +1,6 @@
 -- Pages in colour grow piece by piece.
 -- Main results: plain, styled.
-use Rattle.std.proofs.Common.{◌≡◌, ℕ, List, [], ◌∷◌, ◌++◌, length, arith, refl, sym, subst, ◌∙◌}
+use Rattle.std.proofs.Common.{ℕ, List, [], ◌∷◌, ◌++◌, sym, subst, ◌∙◌}
 use Rattle.std.proofs.lemmas.List.{append_assoc, append-nil}
 use Rattle.show_colour.specs.Inner.Coloured.{IsColoured, sign}
 use Rattle.show_colour.specs.declared.style.Style.{Style}
@@ -30,8 +30,3 @@ styled page shown text look a =
     let same = sym (append_assoc (shown ++ sign look) text end ∙ append_assoc shown (sign look) (text ++ end)) in
     subst (λ l. IsColoured (page ++ l) (((shown ++ sign look) ++ text) ++ end)) (append-nil text)
     (subst (λ l. IsColoured (page ++ (text ++ [])) l) same whole)
-
--- a text with no bytes
-pub none : (text : List ℕ) → length text ≡ 0 → text ≡ []
-none [] e = refl
-none (b ∷ text) e = absurd (omega (arith, e))

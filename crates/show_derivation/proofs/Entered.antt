@@ -1,4 +1,5 @@
 -- What keeps a scope good, in the terms in which the code has it.
+-- Main results: included, declared, recursive.
 use Rattle.std.proofs.Common.{◌≡◌, ◌∷◌, [], List, sym, subst, ap, ◌∙◌}
 use Rattle.omega_kinds.specs.Kind.{Kind}
 use Rattle.omega_kinds.specs.Name.{Name}
@@ -16,12 +17,15 @@ use Rattle.elab_rules.specs.Inner.Fields.{fields_in}
 use Rattle.elab_phrases.proofs.SigLaws.{decl-body}
 use Rattle.show_envs.proofs.Entering.{good-same, with-param, with-binding, with-included, with-type, with-value, with-fix, with-part, with-declaration}
 
+-- the empty scope is good
 pub good-none : {g : Env} → g ≡ [] → OkEnv g
 good-none e = subst OkEnv (sym e) tt
 
+-- what a module includes, with the signature as the code has it
 pub included : {g h n : Env} {m : Mod} {f : Effect} {y : Abs} {ts : List Ty} {d : Term} {s : Sig} {fs : SigRow} → h ≡ g → OkEnv h → ModMeans g m (made f y ts d) → s ≡ body_of y → s ≡ Sig.Str fs → n ≡ named_fields (with_module h (kinds_of y) include_name (body_of y)) fs → OkEnv n
 included p o m b c e = with-included p o m (sym b ∙ c) e
 
+-- what a declaration declares, with the fields as the code has them
 pub declared : {g h i n : Env} {d : Decl} {y : Abs} {ks : List Kind} {fs : SigRow} → h ≡ g → OkEnv h → DeclMeans g d y → fs ≡ fields_in y → ks ≡ kinds_of y → i ≡ type_vars h ks → n ≡ named_fields i fs → OkEnv n
 declared {y = y} p o m f k e c = with-declaration p o m (decl-body y m ∙ ap Sig.Str (sym f)) k e c
 

@@ -1,5 +1,6 @@
 -- What comes into scope keeps an environment good, stated of the environment before, h, which is as it was in g when the phrase was
 -- elaborated, and of the one after, n.
+-- Main results: with-param, with-binding, with-included, with-type, with-value, with-fix, with-part, with-declaration.
 use Rattle.std.proofs.Common.{◌≡◌, ◌∷◌, List, refl, sym, subst, ap, ◌∙◌}
 use Rattle.omega_kinds.specs.Kind.{Kind}
 use Rattle.omega_kinds.specs.Name.{Name}

@@ -1,4 +1,5 @@
 -- The last places of names with one name more, and fields in their order.
+-- Main results: pushed, unarranged, arranged.
 use Rattle.std.proofs.Common.{◌≡◌, ℕ, suc, ◌+◌, ◌≤◌, ◌==◌, List, [], ◌∷◌, ◌++◌, Bool, true, false, Option, Some, None, length, arith, refl, sym, ap, subst, ◌∙◌}
 use Rattle.std.specs.Prelude.{IsPermutation, cond, map}
 use Rattle.std.specs.Borrow.{Bor}

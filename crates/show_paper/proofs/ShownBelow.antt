@@ -1,4 +1,5 @@
 -- Each field that is shown is smaller than the structure that has it.
+-- Main results: shown_below.
 use Rattle.std.proofs.Common.{ℕ, zero, suc, ◌<◌, List, [], ◌∷◌, length, get_or, All, arith}
 use Rattle.std.specs.Borrow.{Bor}
 use Rattle.omega_kinds.specs.Name.{Name}
@@ -13,5 +14,6 @@ below [] k d lt = absurd (omega (arith, lt))
 below (f ∷ fields) zero d lt = omega arith
 below (f ∷ fields) (suc k) d lt = omega (arith, below fields k d (omega (arith, lt)))
 
+-- the signature of each field that is shown has fewer nodes than all fields together
 pub shown_below : (names : List Name) (fields : SigPairs) (shown : List (Bor (Name × Sig))) → IsArranged names fields shown → All (λ f. sig_nodes f.now.1 < sig_pairs_nodes fields) shown
 shown_below names fields shown a = shown_all (λ f. sig_nodes f.1 < sig_pairs_nodes fields) names fields shown a (below fields)

@@ -73,7 +73,7 @@ impl TermWriter {
 
     /// Writes a type.
     pub fn put_type(&mut self, ty: &Ty) -> Result<(), Mem> {
-        if self.most.is_some() && ty.extent().size > MOST_TYPE {
+        if self.most.is_some() && ty.extent().text > MOST_TYPE {
             return self.put_cut();
         }
         put_type(&mut self.text, ty)

@@ -17,7 +17,7 @@ use Rattle.sig_definitions.specs.Explicit.SigPath.{SigPath, Item}
 use Rattle.sig_definitions.specs.Explicit.WellFormed.{WellFormedAbs}
 use Rattle.sig_definitions.specs.Matching.LookUp.{Found}
 use Rattle.sig_definitions.specs.Matching.MatchRefusal.{MatchRefusal, NoRoot, Clash, Form, Missing, Effects, clash, within, RefusesMatch, RefusesSub, RefusesSubAbs, RefusesFields}
-use Rattle.sig_definitions.specs.Matching.Subtyping.{Match}
+use Rattle.sig_definitions.specs.Matching.Subtyping.{Sub, Match}
 use Rattle.sig_definitions.specs.Signatures.Alike.{NormalAbs, NormalAbsForm, IsSigAt}
 use Rattle.sig_definitions.specs.Signatures.Encoding.{enc, enc_abs}
 use Rattle.sig_definitions.specs.Signatures.Sig.{Sig, Abs, SigRow, HasField, NoField}
@@ -28,6 +28,7 @@ use Rattle.sig_laws.proofs.Formed.Conditions.{explicit-abs}
 use Rattle.sig_match_laws.specs.MatchClaims.{IsRightSig}
 use Rattle.sig_match_laws.proofs.LookUp.Good.{good-left_field}
 use Rattle.sig_match_laws.proofs.OneMatch.Views.{match-view}
+use Rattle.sig_reflexive_laws.proofs.Encodings.{part_gives}
 use Rattle.sig_laws.proofs.Formed.WellFormedLaws.{explicit-body}
 use Rattle.semantic_sigs.specs.Inner.Fields.{SigPairs, sig_row}
 use Rattle.semantic_sigs.specs.Inner.View.{kinds_of, body_of}
@@ -465,6 +466,12 @@ meta-ok depth x y f g e from to ef et h k ee = λ ctx c w v.
     let s = meta-there w v in
     let b = meta-back w v in
     meta-same ctx x y f g e from to ef et (h ctx c s.0 s.1) (k ctx c b.0 b.1) ee
+
+-- and signature parts of one encoding need no comparison
+pub meta-equal : (depth : ℕ) (x y : Abs) (e : Term) (from to : Ty) → enc_abs x ≡ enc_abs y → from ≡ enc (Sig.Meta x) → to ≡ enc_abs y → e ≡ meta_part from to →
+    EachSub depth (Sig.Meta x) (Sig.Meta y) (Ok e)
+meta-equal depth x y e from to s ef et ee = λ ctx c w v.
+    subst (Sub ctx (Sig.Meta x) (Sig.Meta y)) (sym (ee ∙ ap₂ meta_part ef et)) (part_gives ctx x y w s)
 
 -- fields
 

@@ -1,5 +1,5 @@
 pub mod RootedLaws
-pub mod LeastLaws
+pub mod BarLaws
 pub mod SeekLaws
 pub mod MergeLaws
 pub mod WalkLaws

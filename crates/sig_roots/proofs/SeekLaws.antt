@@ -24,11 +24,12 @@ use Rattle.sig_laws.proofs.Algebra.EtaLaws.{applied-kinded}
 use Rattle.sig_match_laws.specs.RootSearch.{kind_left, after, or_else, where_both, find_root, find_root_row, least_root}
 use Rattle.sig_match_laws.proofs.LookUp.Roots.{own-kind, least_root-exists, least_root-gives, kind_left-over}
 use Rattle.sig_roots.specs.Inner.Rooted.{rooted}
-use Rattle.sig_roots.specs.Inner.Least.{least_sig}
+use Rattle.semantic_sigs.specs.Inner.Least.{least_sig}
 use Rattle.sig_roots.specs.Inner.Seek.{is_open, unless_barred, ends, seek, seek_row}
 use Rattle.sig_roots.specs.Inner.Roots.{IsRoot}
 use Rattle.sig_roots.proofs.RootedLaws.{rooted-conv, rooted-is, rooted-found}
-use Rattle.sig_roots.proofs.LeastLaws.{IsLeast, past-from, least-sig, least-past_sig, open-none, none-open}
+use Rattle.semantic_sigs.proofs.LeastLaws.{IsLeast, past-from, least-sig, least-past_sig}
+use Rattle.sig_roots.proofs.BarLaws.{open-none, none-open}
 
 none-if : (o : Option SigPath) → ((p : SigPath) → o ≡ Some p → ⊥) → o ≡ None
 none-if None h = refl

@@ -1,4 +1,3 @@
 pub mod Rooted
-pub mod Least
 pub mod Seek
 pub mod Roots

@@ -12,7 +12,6 @@ ghost use Rattle.semantic_sigs.specs.Inner.View.{kinds_of, body_of};
 ghost use Rattle.sig_roots.specs.Inner.Roots.{AreRoots};
 ghost use Rattle.sig_roots.specs.Inner.Seek.{merged, seek};
 
-mod least;
 mod variables;
 mod walk;
 

@@ -7,11 +7,10 @@ ghost use Rattle.sig_match_laws.specs.RootSearch.{after};
 ghost use Rattle.sig_roots.specs.Inner.Rooted.{rooted as rooted_of};
 ghost use Rattle.sig_roots.specs.Inner.Seek.{seek, seek_abs, seek_row, behind, merged, is_open as is_open_of, unless_barred, ends};
 
-use crate::least::least_in_sig;
 use crate::variables::rooted;
 use omega_kinds::{Effect, Kinds, Mem};
 use omega_types::Ty;
-use semantic_sigs::{Abs, Item, Path, Sig, SigFields, SigNode};
+use semantic_sigs::{Abs, Item, Path, Sig, SigFields, SigNode, least_in_sig};
 use std::alloc::Global;
 use type_normal::{lesser, plain};
 

@@ -1,4 +1,5 @@
 -- The fields of a structure put into an ordered map by their names, the last one first, and the row of its entries.
+-- Main results: put-all, entry-follows, gathered-given.
 use Rattle.std.proofs.Common.{◌≡◌, ℕ, zero, suc, ◌+◌, ◌-◌, ◌<◌, ◌≤◌, List, [], ◌∷◌, ◌++◌, length, get_or, drop, take, map, cond, refl, sym, ap, ◌∙◌, subst, arith, drop_of_length-le, take-append-drop}
 use Rattle.std.proofs.lemmas.Map.Lookups.{exact_bytes}
 use Rattle.std.specs.BTreeMap.{insert_entry}
@@ -58,11 +59,13 @@ rises-from fields i r = rises-end (take i fields) (drop i fields) (subst (λ (zs
 abbrev pub PutFrom : (fields old now : SigPairs) (left : ℕ) → Type 0
 PutFrom fields old now left = (left ≤ length fields) × (AreApart (sig_row fields) (sig_row old) → sig_row now ≡ merge (sig_row (drop left fields)) (sig_row old))
 
+-- before any field is put in, the map has the old fields alone
 pub put-begin : (fields old : SigPairs) → PutFrom fields old old (length fields)
 put-begin fields old =
     let le : length fields ≤ length fields = omega arith in
     (le, λ a. ap (λ (zs : SigPairs). merge (sig_row zs) (sig_row old)) (sym (drop_of_length-le fields le)))
 
+-- where the field before the place is put into the map, the place moves on to it
 pub put-next : (fields old now new : SigPairs) (left : ℕ) (x : Name × Sig) → 0 < left → Rises fields → x ≡ get_or fields (left - 1) x → new ≡ insert_entry name_cmp now x.0 x.1 → PutFrom fields old now left → PutFrom fields old new (left - 1)
 put-next fields old now new left x lt r ex en w =
     let le = w.0 in
@@ -79,6 +82,7 @@ put-next fields old now new left x lt r ex en w =
           ap sig_row en ∙ (put-new now x.0 x.1 (subst (NoField x.0) (sym before) none) ∙ (ap (insert_field x.0 x.1) before ∙ ap (λ (zs : SigPairs). merge (sig_row zs) (sig_row old)) (sym d))),
     )
 
+-- when the place is the first one, the map has both rows, merged
 pub put-all : (fields old now : SigPairs) (left : ℕ) → left ≤ 0 → PutFrom fields old now left → AreApart (sig_row fields) (sig_row old) → sig_row now ≡ merge (sig_row fields) (sig_row old)
 put-all fields old now left le w a =
     let none : left ≡ 0 = omega arith in
@@ -101,6 +105,7 @@ entry-follows done all left rest x l sorted e first is =
 str-row : {fs gs : SigRow} → Sig.Str fs ≡ Sig.Str gs → fs ≡ gs
 str-row e = cc
 
+-- a declaration and those gathered after it hide the types of both and have the fields of both, merged
 pub gathered-given : (x y z : Abs) (later : List SharedKind) (s raised : Sig) (kinds : List Kind) (old new : SigPairs)
     → map kind_tree later ≡ kinds_of y → s ≡ body_of x → raised ≡ rename_sig (bump (length later) 0) s → y ≡ Abs.Ex (kinds_of y) (Sig.Str (sig_row old))
     → ((fs : SigRow) → raised ≡ Sig.Str fs → AreApart fs (sig_row old) → sig_row new ≡ merge fs (sig_row old))

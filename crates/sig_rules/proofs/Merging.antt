@@ -42,6 +42,7 @@ before_row-all (x ∷ xs) ys = ap (SigRow.More x.0 x.1) (before_row-all xs ys)
 
 -- rising lists
 
+-- in a rising list the name of a field may follow the fields before it
 pub may-follow : (done : SigPairs) (x : Name × Sig) (xs : SigPairs) → Rises (done ++ x ∷ xs) → MayFollow done x.0
 may-follow [] x xs r = tt
 may-follow (y ∷ []) x xs r = r.0
@@ -59,10 +60,12 @@ rises-without (z ∷ []) x [] r = tt
 rises-without (z ∷ []) x (y ∷ ys) r = (name-transitive z.0 x.0 y.0 r.0 r.1.0, r.1.1)
 rises-without (z ∷ w ∷ ws) x xs r = (r.0, rises-without (w ∷ ws) x xs r.1)
 
+-- in a rising list the name of the first field comes before all names after it
 pub before-all : (x : Name × Sig) (xs : SigPairs) → Rises (x ∷ xs) → BeforeAll x.0 (sig_row xs)
 before-all x [] r = tt
 before-all x (y ∷ ys) r = (r.0, before_all-before x.0 y.0 (sig_row ys) r.0 (before-all y ys r.1))
 
+-- the end of a rising list rises
 pub rises-end : (done : SigPairs) (xs : SigPairs) → Rises (done ++ xs) → Rises xs
 rises-end [] xs r = r
 rises-end (x ∷ []) [] r = tt

@@ -1,161 +1,197 @@
--- A number that falls at each call that hereditary substitution makes of itself: it counts them.
--- Main results: body-falls.
-use Rattle.std.proofs.Common.{◌≡◌, ℕ, zero, suc, ◌+◌, ◌<◌, ◌≤◌, ap, ap₂, sym, ◌∙◌, ◌*◌, arith}
+-- A number that falls at each call that putting types in for variables makes of itself: it counts them.
+-- Main results: apply-falls, came-falls, came_at-falls.
+use Rattle.std.proofs.Common.{◌≡◌, ℕ, zero, suc, ◌+◌, ◌<◌, ◌≤◌, ap, ap₂, ◌∙◌, ◌*◌, arith}
 use Rattle.omega_kinds.specs.Kind.{Kind}
 use Rattle.omega_types.specs.Ty.{Ty, Row}
-use Rattle.omega_types.specs.Substitution.{rename}
-use Rattle.omega_types.specs.Index.{shift, Slot, taken, kept, slot}
-use Rattle.omega_types.specs.Normaliser.{Args, Part, stuck, whole, tree, apply_part, fill_part, put_in, args}
-use Rattle.omega_types.proofs.Single.{shift-zero}
-use Rattle.omega_types.proofs.Steps.{deeper}
+use Rattle.omega_types.specs.Index.{Slot, taken, kept, slot}
+use Rattle.type_normal.specs.Inner.Heads.{Head, stands, came, came_at, raised, apply_head, under_head, sunk, head_in, ty_in, slot_head, one_head}
 
 -- the number of arrows of a kind
 abbrev pub height : Kind → ℕ
 height Kind.Star = zero
 height (Kind.Arrow k l) = suc (height k + height l)
 
-abbrev pub part_height : Part → ℕ
-part_height (stuck t) = zero
-part_height (whole t k A) = height k
-
--- the calls of a substitution, where count says how many an application takes from then on
+-- the calls in a type, where count says how many an application takes from then on
 abbrev mutual
-  pub calls_with : (Part → Ty → ℕ) → Kind → ℕ → Ty → Ty → ℕ
-  calls_with count k i a (Ty.Var j) = 1
-  calls_with count k i a Ty.Int = 1
-  calls_with count k i a Ty.Bool = 1
-  calls_with count k i a Ty.Text = 1
-  calls_with count k i a (Ty.Arrow s t) = suc (calls_with count k i a s + calls_with count k i a t)
-  calls_with count k i a (Ty.Fields row) = suc (row_calls_with count k i a row)
-  calls_with count k i a (Ty.Sum row) = suc (row_calls_with count k i a row)
-  calls_with count k i a (Ty.All l b) = suc (calls_with count k (suc i) (rename suc a) b)
-  calls_with count k i a (Ty.Ex l b) = suc (calls_with count k (suc i) (rename suc a) b)
-  calls_with count k i a (Ty.Mu b) = suc (calls_with count k (suc i) (rename suc a) b)
-  calls_with count k i a (Ty.Lam l b) = suc (calls_with count k (suc i) (rename suc a) b)
-  calls_with count k i a (Ty.Apply f t) = suc (calls_with count k i a f + calls_with count k i a t + count (put_in k (args k) i a f) (tree (put_in k (args k) i a t)))
+  pub calls_with : (Head → Ty → ℕ) → (ℕ → Head) → Ty → ℕ
+  calls_with count h (Ty.Var j) = 1
+  calls_with count h Ty.Int = 1
+  calls_with count h Ty.Bool = 1
+  calls_with count h Ty.Text = 1
+  calls_with count h (Ty.Arrow s t) = suc (calls_with count h s + calls_with count h t)
+  calls_with count h (Ty.Fields row) = suc (row_calls_with count h row)
+  calls_with count h (Ty.Sum row) = suc (row_calls_with count h row)
+  calls_with count h (Ty.All l b) = suc (calls_with count (under_head h) b)
+  calls_with count h (Ty.Ex l b) = suc (calls_with count (under_head h) b)
+  calls_with count h (Ty.Mu b) = suc (calls_with count (under_head h) b)
+  calls_with count h (Ty.Lam l b) = suc (calls_with count (under_head h) b)
+  calls_with count h (Ty.Apply f t) = suc (calls_with count h f + calls_with count h t + count (head_in h f) (ty_in h t))
 
-  pub row_calls_with : (Part → Ty → ℕ) → Kind → ℕ → Ty → Row → ℕ
-  row_calls_with count k i a Row.End = 1
-  row_calls_with count k i a (Row.More l t rest) = suc (calls_with count k i a t + row_calls_with count k i a rest)
+  pub row_calls_with : (Head → Ty → ℕ) → (ℕ → Head) → Row → ℕ
+  row_calls_with count h Row.End = 1
+  row_calls_with count h (Row.More l t rest) = suc (calls_with count h t + row_calls_with count h rest)
 
--- the calls of an operator that meets its argument
-abbrev pub apply_calls : (Kind → ℕ → Ty → Ty → ℕ) → Part → Ty → ℕ
-apply_calls calls (whole (Ty.Lam j b) (Kind.Arrow k l) A) a = suc (calls k zero a b)
+-- the calls of an operator of a kind that meets its argument
+abbrev pub apply_calls : ((ℕ → Head) → Ty → ℕ) → Head → Ty → ℕ
+apply_calls calls (came_at (Ty.Lam j b) (Kind.Arrow k l)) a = suc (calls (one_head k zero a) b)
 apply_calls calls p a = zero
 
 -- the same, where no more than so many kinds are entered
-abbrev pub contract_calls : ℕ → Part → Ty → ℕ
+abbrev pub contract_calls : ℕ → Head → Ty → ℕ
 contract_calls zero = λ p a. zero
 contract_calls (suc n) = apply_calls (calls_with (contract_calls n))
 
--- how many calls of itself hereditary substitution makes in a type
-abbrev pub calls : Kind → ℕ → Ty → Ty → ℕ
-calls k = calls_with (contract_calls (height k)) k
+-- how many calls an operator takes that meets its argument: one without a kind takes the argument at the kind it binds
+abbrev pub operator_calls : Head → Ty → ℕ
+operator_calls (stands t) a = zero
+operator_calls (came (Ty.Lam j b)) a = contract_calls (suc (height j)) (came_at (Ty.Lam j b) (Kind.Arrow j Kind.Star)) a
+operator_calls (came t) a = zero
+operator_calls (came_at t k) a = contract_calls (height k) (came_at t k) a
+
+-- how many calls of itself the walk makes in a type
+abbrev pub calls : (ℕ → Head) → Ty → ℕ
+calls = calls_with operator_calls
 
 -- how many it makes in a row
-abbrev pub row_calls : Kind → ℕ → Ty → Row → ℕ
-row_calls k = row_calls_with (contract_calls (height k)) k
+abbrev pub row_calls : (ℕ → Head) → Row → ℕ
+row_calls = row_calls_with operator_calls
 
--- those of a binder's body, and of an operator that meets its argument
-abbrev pub under_calls : Kind → ℕ → Ty → Ty → ℕ
-under_calls k i a b = calls k (suc i) (rename suc a) b
+-- what comes in has a kind of at most so many arrows
+data Low (n : ℕ) : Head → Type 0 where
+  l_stands : (t : Ty) → Low n (stands t)
+  l_came : (t : Ty) (k : Kind) → height k ≤ n → Low n (came_at t k)
 
--- how many it makes for an operator that meets its argument
-abbrev pub operator_calls : Part → Ty → ℕ
-operator_calls p a = contract_calls (part_height p) p a
+abbrev Lows : ℕ → (ℕ → Head) → Type 0
+Lows n h = (i : ℕ) → Low n (h i)
 
-abbrev Below : (Part → Ty → ℕ) → (Part → Ty → ℕ) → Type 0
-Below c d = (p : Part) (a : Ty) → c p a ≤ d p a
+low-raised : {n : ℕ} {p : Head} → Low n p → Low n (raised p)
+low-raised (l_stands t) = l_stands _
+low-raised (l_came t k le) = l_came _ k le
+
+low-under : {n : ℕ} {h : ℕ → Head} → Lows n h → Lows n (under_head h)
+low-under g zero = l_stands (Ty.Var zero)
+low-under g (suc i) = low-raised (g i)
+
+low-apply : {n : ℕ} {p : Head} → Low n p → (a : Ty) → Low n (apply_head p a)
+low-apply (l_stands t) a = l_stands _
+low-apply (l_came (Ty.Lam j b) (Kind.Arrow k l) le) a = l_came _ l (omega (arith, le))
+low-apply (l_came (Ty.Lam j b) Kind.Star le) a = l_stands _
+low-apply (l_came (Ty.Var i) k le) a = l_stands _
+low-apply (l_came Ty.Int k le) a = l_stands _
+low-apply (l_came Ty.Bool k le) a = l_stands _
+low-apply (l_came Ty.Text k le) a = l_stands _
+low-apply (l_came (Ty.Arrow s t) k le) a = l_stands _
+low-apply (l_came (Ty.Fields r) k le) a = l_stands _
+low-apply (l_came (Ty.Sum r) k le) a = l_stands _
+low-apply (l_came (Ty.All l b) k le) a = l_stands _
+low-apply (l_came (Ty.Ex l b) k le) a = l_stands _
+low-apply (l_came (Ty.Mu b) k le) a = l_stands _
+low-apply (l_came (Ty.Apply f t) k le) a = l_stands _
+
+low-in : {n : ℕ} {h : ℕ → Head} → Lows n h → (t : Ty) → Low n (head_in h t)
+low-in g (Ty.Var i) = g i
+low-in g Ty.Int = l_stands _
+low-in g Ty.Bool = l_stands _
+low-in g Ty.Text = l_stands _
+low-in g (Ty.Arrow s t) = l_stands _
+low-in g (Ty.Fields r) = l_stands _
+low-in g (Ty.Sum r) = l_stands _
+low-in g (Ty.All l b) = l_stands _
+low-in g (Ty.Ex l b) = l_stands _
+low-in g (Ty.Mu b) = l_stands _
+low-in g (Ty.Lam l b) = l_stands _
+low-in {h = h} g (Ty.Apply f t) = low-apply (low-in g f) (ty_in h t)
+
+low-slot : (n : ℕ) (k : Kind) (a : Ty) (s : Slot) → height k ≤ n → Low n (slot_head k a s)
+low-slot n k a taken le = l_came a k le
+low-slot n k a (kept m) le = l_stands _
+
+low-one : (n : ℕ) (k : Kind) (i : ℕ) (a : Ty) → height k ≤ n → Lows n (one_head k i a)
+low-one n k i a le j = low-slot n k a (slot i j) le
+
+-- where heads have such kinds, one count is at most the other
+abbrev Below : ℕ → (Head → Ty → ℕ) → (Head → Ty → ℕ) → Type 0
+Below n c d = (p : Head) (a : Ty) → Low n p → c p a ≤ d p a
 
 mutual
-  calls_with-mono : (c d : Part → Ty → ℕ) → Below c d → (k : Kind) (i : ℕ) (a t : Ty) → calls_with c k i a t ≤ calls_with d k i a t
-  calls_with-mono c d h k i a (Ty.Var j) = omega arith
-  calls_with-mono c d h k i a Ty.Int = omega arith
-  calls_with-mono c d h k i a Ty.Bool = omega arith
-  calls_with-mono c d h k i a Ty.Text = omega arith
-  calls_with-mono c d h k i a (Ty.Arrow s t) = let p = calls_with-mono c d h k i a s in let q = calls_with-mono c d h k i a t in omega arith
-  calls_with-mono c d h k i a (Ty.Fields row) = let p = row_calls_with-mono c d h k i a row in omega arith
-  calls_with-mono c d h k i a (Ty.Sum row) = let p = row_calls_with-mono c d h k i a row in omega arith
-  calls_with-mono c d h k i a (Ty.All l b) = let p = calls_with-mono c d h k (suc i) (rename suc a) b in omega arith
-  calls_with-mono c d h k i a (Ty.Ex l b) = let p = calls_with-mono c d h k (suc i) (rename suc a) b in omega arith
-  calls_with-mono c d h k i a (Ty.Mu b) = let p = calls_with-mono c d h k (suc i) (rename suc a) b in omega arith
-  calls_with-mono c d h k i a (Ty.Lam l b) = let p = calls_with-mono c d h k (suc i) (rename suc a) b in omega arith
-  calls_with-mono c d h k i a (Ty.Apply f t) =
-      let p = calls_with-mono c d h k i a f in
-      let q = calls_with-mono c d h k i a t in
-      let r = h (put_in k (args k) i a f) (tree (put_in k (args k) i a t)) in
+  calls_with-mono : (n : ℕ) (c d : Head → Ty → ℕ) → Below n c d → (h : ℕ → Head) → Lows n h → (t : Ty) → calls_with c h t ≤ calls_with d h t
+  calls_with-mono n c d m h g (Ty.Var j) = omega arith
+  calls_with-mono n c d m h g Ty.Int = omega arith
+  calls_with-mono n c d m h g Ty.Bool = omega arith
+  calls_with-mono n c d m h g Ty.Text = omega arith
+  calls_with-mono n c d m h g (Ty.Arrow s t) = let p = calls_with-mono n c d m h g s in let q = calls_with-mono n c d m h g t in omega arith
+  calls_with-mono n c d m h g (Ty.Fields row) = let p = row_calls_with-mono n c d m h g row in omega arith
+  calls_with-mono n c d m h g (Ty.Sum row) = let p = row_calls_with-mono n c d m h g row in omega arith
+  calls_with-mono n c d m h g (Ty.All l b) = let p = calls_with-mono n c d m (under_head h) (low-under g) b in omega arith
+  calls_with-mono n c d m h g (Ty.Ex l b) = let p = calls_with-mono n c d m (under_head h) (low-under g) b in omega arith
+  calls_with-mono n c d m h g (Ty.Mu b) = let p = calls_with-mono n c d m (under_head h) (low-under g) b in omega arith
+  calls_with-mono n c d m h g (Ty.Lam l b) = let p = calls_with-mono n c d m (under_head h) (low-under g) b in omega arith
+  calls_with-mono n c d m h g (Ty.Apply f t) =
+      let p = calls_with-mono n c d m h g f in
+      let q = calls_with-mono n c d m h g t in
+      let r = m (head_in h f) (ty_in h t) (low-in g f) in
       omega arith
 
-  row_calls_with-mono : (c d : Part → Ty → ℕ) → Below c d → (k : Kind) (i : ℕ) (a : Ty) (row : Row) → row_calls_with c k i a row ≤ row_calls_with d k i a row
-  row_calls_with-mono c d h k i a Row.End = omega arith
-  row_calls_with-mono c d h k i a (Row.More l t rest) = let p = calls_with-mono c d h k i a t in let q = row_calls_with-mono c d h k i a rest in omega arith
+  row_calls_with-mono : (n : ℕ) (c d : Head → Ty → ℕ) → Below n c d → (h : ℕ → Head) → Lows n h → (row : Row) → row_calls_with c h row ≤ row_calls_with d h row
+  row_calls_with-mono n c d m h g Row.End = omega arith
+  row_calls_with-mono n c d m h g (Row.More l t rest) = let p = calls_with-mono n c d m h g t in let q = row_calls_with-mono n c d m h g rest in omega arith
 
-apply-mono : (c d : Part → Ty → ℕ) → Below c d → (p : Part) (a : Ty) → apply_calls (calls_with c) p a ≤ apply_calls (calls_with d) p a
-apply-mono c d h (stuck t) a = omega arith
-apply-mono c d h (whole (Ty.Lam j b) (Kind.Arrow k l) A) a = let q = calls_with-mono c d h k zero a b in omega arith
-apply-mono c d h (whole (Ty.Lam j b) Kind.Star A) a = omega arith
-apply-mono c d h (whole (Ty.Var j) k A) a = omega arith
-apply-mono c d h (whole _ k A) a = omega arith
-
-contract-mono : (n m : ℕ) → n ≤ m → Below (contract_calls n) (contract_calls m)
-contract-mono zero m h p a = omega arith
-contract-mono (suc n) zero h p a = absurd (omega (arith, h))
-contract-mono (suc n) (suc m) h p a = apply-mono (contract_calls n) (contract_calls m) (contract-mono n m (omega arith)) p a
-
--- a part has a kind with no more arrows than that of the argument
-
-fill-height : (k : Kind) (A : Args k) (a : Ty) (s : Slot) → part_height (fill_part k A a s) ≤ height k
-fill-height k A a taken = omega arith
-fill-height k A a (kept n) = omega arith
-
-apply-height : (p : Part) (a : Ty) → part_height (apply_part p a) ≤ part_height p
-apply-height (stuck t) a = omega arith
-apply-height (whole (Ty.Lam j b) (Kind.Arrow k l) A) a = omega arith
-apply-height (whole (Ty.Lam j b) Kind.Star A) a = omega arith
-apply-height (whole (Ty.Var j) k A) a = omega arith
-apply-height (whole _ k A) a = omega arith
-
-pub put_in-height : (k : Kind) (i : ℕ) (a t : Ty) → part_height (put_in k (args k) i a t) ≤ height k
-put_in-height k i a (Ty.Var j) = fill-height k (args k) a (slot i j)
-put_in-height k i a (Ty.Apply f t) = let p = apply-height (put_in k (args k) i a f) (tree (put_in k (args k) i a t)) in let q = put_in-height k i a f in omega arith
-put_in-height k i a _ = omega arith
-
--- the calls of an application hold those of its parts, and of the operator that meets its argument
-pub calls-apply : (k : Kind) (i : ℕ) (a f t : Ty) → calls k i a f + calls k i a t + operator_calls (put_in k (args k) i a f) (tree (put_in k (args k) i a t)) < calls k i a (Ty.Apply f t)
-calls-apply k i a f t =
-    let p = contract-mono (part_height (put_in k (args k) i a f)) (height k) (put_in-height k i a f) (put_in k (args k) i a f) (tree (put_in k (args k) i a t)) in
+apply-mono : (c d : Head → Ty → ℕ) → ((p : Head) (a : Ty) → c p a ≤ d p a) → (p : Head) (a : Ty) →
+    apply_calls (calls_with c) p a ≤ apply_calls (calls_with d) p a
+apply-mono c d m (came_at (Ty.Lam j b) (Kind.Arrow k l)) a =
+    let q = calls_with-mono (height k) c d (λ p e _. m p e) (one_head k zero a) (low-one (height k) k zero a (omega arith)) b in
     omega arith
+apply-mono c d m (came_at (Ty.Lam j b) Kind.Star) a = omega arith
+apply-mono c d m (came_at (Ty.Var j) k) a = omega arith
+apply-mono c d m _ a = omega arith
 
--- those of an operator that meets its argument hold those of its body
-pub calls-body : (j k l : Kind) (A : Args (Kind.Arrow k l)) (a b : Ty) → calls k zero a b < operator_calls (whole (Ty.Lam j b) (Kind.Arrow k l) A) a
-calls-body j k l A a b =
-    let p = calls_with-mono (contract_calls (height k)) (contract_calls (height k + height l)) (contract-mono (height k) (height k + height l) (omega arith)) k zero a b in
-    omega arith
+contract-mono : (n m : ℕ) → n ≤ m → (p : Head) (a : Ty) → contract_calls n p a ≤ contract_calls m p a
+contract-mono zero m le p a = omega arith
+contract-mono (suc n) zero le p a = absurd (omega (arith, le))
+contract-mono (suc n) (suc m) le p a = apply-mono (contract_calls n) (contract_calls m) (contract-mono n m (omega arith)) p a
 
--- below a binder, with indexes counted as the code counts them
-pub calls-under : (k : Kind) (at depth next deep : ℕ) (arg b : Ty) → next ≡ at + 1 → deep ≡ depth + 1 → calls k next (shift deep 0 arg) b ≡ under_calls k at (shift depth 0 arg) b
-calls-under k at depth next deep arg b e f =
-    ap₂ (λ i a. calls k i a b) (one e) (ap (λ d. shift d 0 arg) f ∙ sym (deeper depth arg))
+operator-low : (n : ℕ) → Below n operator_calls (contract_calls n)
+operator-low n _ a (l_stands t) = omega arith
+operator-low n _ a (l_came t k le) = contract-mono (height k) n le (came_at t k) a
+
+-- in an operator's body, where its argument comes in, no more calls are made than so many kinds allow
+body-low : (n : ℕ) (k : Kind) (a b : Ty) → height k ≤ n → calls (one_head k zero a) b ≤ calls_with (contract_calls n) (one_head k zero a) b
+body-low n k a b le = calls_with-mono n operator_calls (contract_calls n) (operator-low n) (one_head k zero a) (low-one n k zero a le) b
+
+-- the calls of an operator that meets its argument hold those of its body
+calls-came_at : (j k l : Kind) (a b : Ty) → calls (one_head k zero a) b < operator_calls (came_at (Ty.Lam j b) (Kind.Arrow k l)) a
+calls-came_at j k l a b = let p = body-low (height k + height l) k a b (omega arith) in omega arith
+
+calls-came : (j : Kind) (a b : Ty) → calls (one_head j zero a) b < operator_calls (came (Ty.Lam j b)) a
+calls-came j a b = let p = body-low (height j) j a b (omega arith) in omega arith
+
+-- below a binder, with binders counted as the code counts them
+pub calls-under : (depth : ℕ) (h : ℕ → Head) (b : Ty) → calls (under_head (sunk depth h)) b ≡ calls (sunk (depth + 1) h) b
+calls-under depth h b = ap (λ n. calls (sunk n h) b) (next depth)
   where
-    one : {n m : ℕ} → n ≡ m + 1 → n ≡ suc m
-    one h = omega arith
+    next : (n : ℕ) → suc n ≡ n + 1
+    next n = omega arith
 
-pub calls-outermost : (k : Kind) (i : ℕ) (arg b : Ty) → calls k i (shift 0 0 arg) b ≡ calls k i arg b
-calls-outermost k i arg b = ap (λ a. calls k i a b) (shift-zero 0 arg)
+-- an operator that meets its argument has fewer calls than the application
+pub apply-falls : (h : ℕ → Head) (f t a : Ty) (p : Head) → p ≡ head_in h f → a ≡ ty_in h t → 4 * operator_calls p a < 4 * calls h (Ty.Apply f t)
+apply-falls h f t a p g e =
+    let m : operator_calls p a ≡ operator_calls (head_in h f) (ty_in h t) = ap₂ operator_calls g e in
+    omega (arith, m)
 
--- an operator that meets its argument: before, and in its body
-pub apply-falls : (k : Kind) (i : ℕ) (arg body f t a : Ty) (p : Part) → body ≡ Ty.Apply f t → p ≡ put_in k (args k) i arg f → a ≡ tree (put_in k (args k) i arg t) → 4 * operator_calls p a < 4 * calls k i arg body
-apply-falls k i arg body f t a p e g h =
-    let n = calls-apply k i arg f t in
-    let m : operator_calls p a ≡ operator_calls (put_in k (args k) i arg f) (tree (put_in k (args k) i arg t)) = ap₂ operator_calls g h in
-    let o : calls k i arg body ≡ calls k i arg (Ty.Apply f t) = ap (calls k i arg) e in
-    omega (arith, n, m, o)
+-- entering its body with its argument leaves fewer
+pub came-falls : (p : Head) (operator arg b : Ty) (j from : Kind) → p ≡ came operator → operator ≡ Ty.Lam j b → from ≡ j →
+    4 * calls (sunk 0 (one_head from 0 arg)) b + 2 < 4 * operator_calls p arg
+came-falls p operator arg b j from e f g =
+    let n = calls-came j arg b in
+    let o : operator_calls p arg ≡ operator_calls (came (Ty.Lam j b)) arg = ap (λ q. operator_calls q arg) (e ∙ ap came f) in
+    let q : calls (one_head from 0 arg) b ≡ calls (one_head j 0 arg) b = ap (λ l. calls (one_head l 0 arg) b) g in
+    omega (arith, n, o, q)
 
--- entering an operator's body with its argument leaves fewer calls than the application
-pub body-falls : (p : Part) (operator arg b : Ty) (kind from to entered j : Kind) → p ≡ whole operator kind (args kind) → operator ≡ Ty.Lam j b → kind ≡ Kind.Arrow from to → entered ≡ from → 4 * calls entered 0 (shift 0 0 arg) b + 1 < 4 * operator_calls p arg
-body-falls p operator arg b kind from to entered j e f g h =
-    let n = calls-body j from to (args (Kind.Arrow from to)) arg b in
-    let m = calls-outermost from 0 arg b in
-    let o : operator_calls p arg ≡ operator_calls (whole (Ty.Lam j b) (Kind.Arrow from to) (args (Kind.Arrow from to))) arg = ap (λ q. operator_calls q arg) (e ∙ ap₂ (λ u l. whole u l (args l)) f g) in
-    let q : calls entered 0 (shift 0 0 arg) b ≡ calls from 0 (shift 0 0 arg) b = ap (λ l. calls l 0 (shift 0 0 arg) b) h in
-    omega (arith, n, m, o, q)
+-- so does entering the body of one of a kind
+pub came_at-falls : (p : Head) (operator arg b : Ty) (kind from to entered j : Kind) → p ≡ came_at operator kind → operator ≡ Ty.Lam j b →
+    kind ≡ Kind.Arrow from to → entered ≡ from → 4 * calls (sunk 0 (one_head entered 0 arg)) b + 2 < 4 * operator_calls p arg
+came_at-falls p operator arg b kind from to entered j e f g h =
+    let n = calls-came_at j from to arg b in
+    let o : operator_calls p arg ≡ operator_calls (came_at (Ty.Lam j b) (Kind.Arrow from to)) arg = ap (λ q. operator_calls q arg) (e ∙ ap₂ came_at f g) in
+    let q : calls (one_head entered 0 arg) b ≡ calls (one_head from 0 arg) b = ap (λ l. calls (one_head l 0 arg) b) h in
+    omega (arith, n, o, q)

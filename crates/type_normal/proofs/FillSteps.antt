@@ -1,6 +1,6 @@
 -- What hereditary substitution does at each form of type, with indexes counted as the code counts them.
 -- Main results: fill-same, fill-above, row-put_in.
-use Rattle.std.proofs.Common.{◌≡◌, ℕ, zero, suc, ◌+◌, ◌-◌, ◌<◌, ◌≤◌, [], ◌∷◌, refl, sym, ap, ap₂, ◌∙◌, arith}
+use Rattle.std.proofs.Common.{◌≡◌, ℕ, zero, suc, ◌+◌, ◌-◌, ◌<◌, ◌≤◌, [], ◌∷◌, refl, ap, ap₂, ◌∙◌, arith}
 use Rattle.omega_kinds.specs.Kind.{Kind}
 use Rattle.omega_types.specs.Ty.{Ty, Row}
 use Rattle.omega_types.specs.Inner.Bound.{bound_of, bound_row}
@@ -9,20 +9,23 @@ use Rattle.omega_types.specs.Index.{shift, taken, kept, raised, slot}
 use Rattle.omega_types.specs.Normaliser.{Args, stuck, whole, tree, apply_part, fill_part, put_in, put_in_row, args, hsubst}
 use Rattle.omega_types.specs.Substitution.{rename}
 use Rattle.omega_types.proofs.Single.{shift-zero}
-use Rattle.omega_types.proofs.Steps.{deeper, map_parts, may_follow-at}
+use Rattle.omega_types.proofs.Steps.{deeper, map_parts}
 
-slot-below : (i j : ℕ) → j < i → slot i j ≡ kept j
+-- an index below that of the substitution stays
+pub slot-below : (i j : ℕ) → j < i → slot i j ≡ kept j
 slot-below zero j h = absurd (omega (arith, h))
 slot-below (suc i) zero h = refl
 slot-below (suc i) (suc j) h = ap raised (slot-below i j (omega arith))
 
-slot-above : (i j : ℕ) → i < j → slot i j ≡ kept (j - 1)
+-- a greater index is one less
+pub slot-above : (i j : ℕ) → i < j → slot i j ≡ kept (j - 1)
 slot-above zero zero h = absurd (omega (arith, h))
 slot-above zero (suc j) h = ap kept (omega arith)
 slot-above (suc i) zero h = absurd (omega (arith, h))
 slot-above (suc i) (suc j) h = ap raised (slot-above i j (omega arith)) ∙ ap kept (omega arith)
 
-slot-same : (i j : ℕ) → j ≡ i → slot i j ≡ taken
+-- at the index of the substitution the type is put in
+pub slot-same : (i j : ℕ) → j ≡ i → slot i j ≡ taken
 slot-same zero zero h = refl
 slot-same zero (suc j) h = absurd (omega (arith, h))
 slot-same (suc i) zero h = absurd (omega (arith, h))
@@ -37,10 +40,6 @@ fill-same k a i j h = ap (fill_part k (args k) a) (slot-same i j h)
 -- a greater index is one less
 pub fill-above : (k : Kind) (a : Ty) (i j : ℕ) → i < j → fill_part k (args k) a (slot i j) ≡ stuck (Ty.Var (j - 1))
 fill-above k a i j h = ap (fill_part k (args k) a) (slot-above i j h)
-
--- the argument, as the code has it, is what stands at the index
-pub filled-same : (k j : Kind) (t a : Ty) (i n : ℕ) → n ≡ i → j ≡ k → t ≡ a → whole t j (args j) ≡ fill_part k (args k) a (slot i n)
-filled-same k j t a i n e f g = ap₂ (λ u l. whole u l (args l)) g f ∙ sym (fill-same k a i n e)
 
 -- a part that mentions neither the variable nor a greater index
 
@@ -85,5 +84,3 @@ pub apply-star : (t : Ty) (A : Args Kind.Star) (a : Ty) → apply_part (whole t 
 apply-star (Ty.Lam k b) A a = refl
 apply-star (Ty.Var i) A a = refl
 apply-star _ A a = refl
-
-pub ruleset fill_steps = (fill-same, fill-above, put_in-unchanged, put_in-under, put_in-outermost, row-put_in, may_follow-at, apply-star)

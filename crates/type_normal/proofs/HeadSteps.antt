@@ -8,8 +8,8 @@ use Rattle.omega_types.specs.Fields.{Pairs, row}
 use Rattle.omega_types.specs.Index.{shift}
 use Rattle.omega_types.specs.Substitution.{rename}
 use Rattle.omega_types.proofs.Single.{shift-zero}
-use Rattle.omega_types.proofs.Steps.{deeper, map_parts, may_follow-at}
-use Rattle.type_normal.specs.Inner.Heads.{Head, stands, came, tree, raised, apply_head, under_head, sunk, sinks, head_in, row_in, ty_in, front_head, put_heads, putting}
+use Rattle.omega_types.proofs.Steps.{deeper, map_parts}
+use Rattle.type_normal.specs.Inner.Heads.{Head, stands, came, came_at, tree, raised, apply_head, under_head, sunk, sinks, head_in, row_in, ty_in, front_head, put_heads, putting}
 
 -- an index that is bound inside stays
 
@@ -55,9 +55,6 @@ mutual
   row-unchanged n h Row.End k le = refl
   row-unchanged n h (Row.More l t rest) k le = ap₂ (λ p r. Row.More l (tree p) r) (head-unchanged n h t k (omega arith)) (row-unchanged n h rest k (omega arith))
 
-pub head-closed : (depth : ℕ) (h : ℕ → Head) (t : Ty) → bound_of t ≤ depth → head_in (sunk depth h) t ≡ stands t
-head-closed depth h t le = head-unchanged depth (sunk depth h) t (sunk-below depth h) le
-
 -- below a binder
 pub ty-under : (depth : ℕ) (h : ℕ → Head) (b : Ty) → ty_in (under_head (sunk depth h)) b ≡ ty_in (sunk (depth + 1) h) b
 ty-under depth h b = ap (λ n. ty_in (sunk n h) b) (next depth)
@@ -75,17 +72,16 @@ pub row-changed : (h : ℕ → Head) (xs : Pairs) → row (map_parts (ty_in h) x
 row-changed h [] = refl
 row-changed h (x ∷ xs) = ap (Row.More x.0 (ty_in h x.1)) (row-changed h xs)
 
-pub ruleset head_steps = (head-closed, ty-under, row-changed, may_follow-at)
-
--- an index from outside
-
-abbrev shifted : ℕ → Head → Head
+-- what comes in for an index from outside, below so many binders
+abbrev pub shifted : ℕ → Head → Head
 shifted depth (stands t) = stands (shift depth 0 t)
 shifted depth (came t) = came (shift depth 0 t)
+shifted depth (came_at t k) = came_at (shift depth 0 t) k
 
 shifted-zero : (p : Head) → p ≡ shifted 0 p
 shifted-zero (stands t) = ap stands (sym (shift-zero 0 t))
 shifted-zero (came t) = ap came (sym (shift-zero 0 t))
+shifted-zero (came_at t k) = ap (λ u. came_at u k) (sym (shift-zero 0 t))
 
 next-shift : (depth : ℕ) (t : Ty) → rename suc (shift depth 0 t) ≡ shift (suc depth) 0 t
 next-shift depth t = deeper depth t ∙ ap (λ n. shift n 0 t) (next depth)
@@ -96,8 +92,10 @@ next-shift depth t = deeper depth t ∙ ap (λ n. shift n 0 t) (next depth)
 raised-shifted : (depth : ℕ) (p : Head) → raised (shifted depth p) ≡ shifted (suc depth) p
 raised-shifted depth (stands t) = ap stands (next-shift depth t)
 raised-shifted depth (came t) = ap came (next-shift depth t)
+raised-shifted depth (came_at t k) = ap (λ u. came_at u k) (next-shift depth t)
 
-sunk-above : (depth : ℕ) (h : ℕ → Head) (i j : ℕ) → i ≡ depth + j → sunk depth h i ≡ shifted depth (h j)
+-- below binders, an index from outside them is that index outside, with what comes in shifted
+pub sunk-above : (depth : ℕ) (h : ℕ → Head) (i j : ℕ) → i ≡ depth + j → sunk depth h i ≡ shifted depth (h j)
 sunk-above zero h i j e = ap h (omega arith) ∙ shifted-zero (h j)
 sunk-above (suc depth) h zero j e = absurd (omega (arith, e))
 sunk-above (suc depth) h (suc i) j e = ap raised (sunk-above depth h i j (omega arith)) ∙ raised-shifted depth (h j)
@@ -113,7 +111,8 @@ put_heads-inside [] h i j d e = absurd (omega (arith, e))
 put_heads-inside (t ∷ ts) h i zero d e = put_heads-outside ts (front_head t h) i zero (omega arith)
 put_heads-inside (t ∷ ts) h i (suc j) d e = put_heads-inside ts (front_head t h) i j d (omega arith)
 
-var-above : (depth n i : ℕ) → i ≡ depth + n → stands (shift depth 0 (Ty.Var n)) ≡ stands (Ty.Var i)
+-- a variable below binders
+pub var-above : (depth n i : ℕ) → i ≡ depth + n → stands (shift depth 0 (Ty.Var n)) ≡ stands (Ty.Var i)
 var-above depth n i e = ap (λ m. stands (Ty.Var m)) (sym e)
 
 -- an index beyond the types put in is less by how many they are

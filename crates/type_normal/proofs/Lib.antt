@@ -8,3 +8,4 @@ pub mod FillSteps
 pub mod NormalSteps
 pub mod HeadSteps
 pub mod HeadLaws
+pub mod PlaceSteps

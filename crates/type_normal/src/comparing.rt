@@ -28,7 +28,10 @@ fn same_ty(left: &Ty, right: &Ty) -> bool
         (TyNode::Int, TyNode::Int) => true,
         (TyNode::Bool, TyNode::Bool) => true,
         (TyNode::Text, TyNode::Text) => true,
-        (TyNode::Arrow(a, b), TyNode::Arrow(c, d)) => same_ty(a, c) && same_ty(b, d),
+        (TyNode::Arrow(a, b), TyNode::Arrow(c, d)) => {
+            let is_once = left.both_sides().is_some() && right.both_sides().is_some();
+            same_ty(a, c) && (is_once || same_ty(b, d))
+        }
         (TyNode::Fields(a), TyNode::Fields(b)) => same_fields(a, b),
         (TyNode::Sum(a), TyNode::Sum(b)) => same_fields(a, b),
         (TyNode::All(j, a), TyNode::All(k, b)) => same_kind(j, k) && same_ty(a, b),

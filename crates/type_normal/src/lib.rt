@@ -5,15 +5,18 @@
 // least free index, `renumber` renames, and `raise` undoes `lower` where nothing that is left out is mentioned.
 #![tactic(auto)]
 
+mod arrows;
 mod comparing;
 mod filling;
 mod lowering;
 mod mentioning;
 mod normal_ty;
 mod normalising;
+mod placing;
 mod putting;
 mod renumbering;
 
+pub use arrows::function_type;
 pub use comparing::same;
 pub use filling::hsubst;
 pub use lowering::{lower, lower_from};

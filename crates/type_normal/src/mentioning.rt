@@ -40,7 +40,10 @@ fn least_in_ty(ty: &Ty, from: u64) -> Option<u64>
     match ty.node() {
         TyNode::Var(index) => index.checked_sub(from),
         TyNode::Int | TyNode::Bool | TyNode::Text => None,
-        TyNode::Arrow(a, b) => least_in_two(a, b, from),
+        TyNode::Arrow(a, b) => match ty.both_sides() {
+            Some(part) => least_in_ty(part, from),
+            None => least_in_two(a, b, from),
+        },
         TyNode::Fields(fields) | TyNode::Sum(fields) => least_in_fields(fields, from),
         TyNode::All(_, b) => least_in_body(b, from),
         TyNode::Ex(_, b) => least_in_body(b, from),

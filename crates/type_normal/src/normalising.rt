@@ -6,6 +6,7 @@ ghost use Rattle.omega_types.specs.Fields.{row};
 ghost use Rattle.omega_types.specs.Kinding.{HasKind};
 ghost use Rattle.omega_types.specs.Normaliser.{beta as beta_of, kind_at as kind_at_of, normal, normal_row};
 ghost use Rattle.omega_types.specs.Normalises.{NormalForm};
+ghost use Rattle.omega_types.specs.Ty.{Ty as TyTree};
 ghost use Rattle.omega_types.specs.Inner.Scope.{scope_of};
 
 use crate::filling::fill_whole;
@@ -54,7 +55,7 @@ fn eta(alloc: Global, kind: &Kind, ty: Ty) -> Result<Ty, Mem>
 }
 
 // The normal form of a normal operator at a normal argument.
-pub(crate) fn beta(alloc: Global, operator: Ty, arg: Ty) -> Result<Ty, Mem>
+fn beta(alloc: Global, operator: Ty, arg: Ty) -> Result<Ty, Mem>
     ensures { IfOk result (λ t. t ≡ beta_of operator arg) }
 {
     if let TyNode::Lam(kind, body) = operator.node() {
@@ -71,46 +72,140 @@ fn normalise(alloc: Global, scope: &mut Vec<Kind>, ty: &Ty) -> Result<Ty, Mem>
     ensures value { IfOk result (λ n. n ≡ normal (scope_of scope.old.items) ty.now) }
 {
     match ty.node() {
-        TyNode::Var(index) => {
-            let kind = kind_at(scope, *index)?;
-            eta(alloc, &kind, ty.share()?)
-        }
+        TyNode::Var(index) => normalise_var(alloc, scope, *index, ty),
         TyNode::Int | TyNode::Bool | TyNode::Text => ty.share(),
-        TyNode::Arrow(a, b) => {
-            let a = normalise(alloc, scope, a)?;
-            let b = normalise(alloc, scope, b)?;
-            Ty::make(alloc, TyNode::Arrow(a, b))
-        }
-        TyNode::Fields(fields) => {
-            let fields = normalise_fields(alloc, scope, fields)?;
-            Ty::make(alloc, TyNode::Fields(fields))
-        }
-        TyNode::Sum(fields) => {
-            let fields = normalise_fields(alloc, scope, fields)?;
-            Ty::make(alloc, TyNode::Sum(fields))
-        }
-        TyNode::All(k, b) => {
-            let b = normalise_under(alloc, scope, b, k)?;
-            Ty::make(alloc, TyNode::All(k.share()?, b))
-        }
-        TyNode::Ex(k, b) => {
-            let b = normalise_under(alloc, scope, b, k)?;
-            Ty::make(alloc, TyNode::Ex(k.share()?, b))
-        }
-        TyNode::Mu(b) => {
-            let b = normalise_under(alloc, scope, b, &Kind::Star)?;
-            Ty::make(alloc, TyNode::Mu(b))
-        }
-        TyNode::Lam(k, b) => {
-            let b = normalise_under(alloc, scope, b, k)?;
-            Ty::make(alloc, TyNode::Lam(k.share()?, b))
-        }
-        TyNode::Apply(f, a) => {
-            let f = normalise(alloc, scope, f)?;
-            let a = normalise(alloc, scope, a)?;
-            beta(alloc, f, a)
-        }
+        TyNode::Arrow(a, b) => match ty.both_sides() {
+            Some(part) => normalise_even(alloc, scope, part),
+            None => normalise_arrow(alloc, scope, a, b),
+        },
+        TyNode::Fields(fields) => normalise_record(alloc, scope, fields),
+        TyNode::Sum(fields) => normalise_sum(alloc, scope, fields),
+        TyNode::All(k, b) => normalise_all(alloc, scope, k, b),
+        TyNode::Ex(k, b) => normalise_ex(alloc, scope, k, b),
+        TyNode::Mu(b) => normalise_mu(alloc, scope, b),
+        TyNode::Lam(k, b) => normalise_operator(alloc, scope, k, b),
+        TyNode::Apply(f, a) => normalise_application(alloc, scope, f, a),
     }
+}
+
+// A variable: its eta-long form.
+#[inline(never)]
+#[tactic(auto, using(crate::proofs::NormalSteps::normal_steps))]
+fn normalise_var(alloc: Global, scope: &[Kind], index: u64, ty: &Ty) -> Result<Ty, Mem>
+    requires { ty.now ≡ TyTree.Var index }
+    ensures { IfOk result (λ n. n ≡ normal (scope_of scope.now) ty.now) }
+{
+    let kind = kind_at(scope, index)?;
+    eta(alloc, &kind, ty.share()?)
+}
+
+// A function type.
+#[cycle(normalise)]
+#[inline(never)]
+#[tactic(auto, using(crate::proofs::NormalSteps::normal_steps))]
+fn normalise_arrow(alloc: Global, scope: &mut Vec<Kind>, a: &Ty, b: &Ty) -> Result<Ty, Mem>
+    ensures kept { OnOk result (scope_of scope.new.items ≡ scope_of scope.old.items) }
+    ensures value { IfOk result (λ n. n ≡ normal (scope_of scope.old.items) (TyTree.Arrow a.now b.now)) }
+{
+    let a = normalise(alloc, scope, a)?;
+    let b = normalise(alloc, scope, b)?;
+    Ty::make(alloc, TyNode::Arrow(a, b))
+}
+
+// A function type whose two parts are one tree.
+#[cycle(normalise)]
+#[inline(never)]
+#[tactic(auto, using(crate::proofs::NormalSteps::normal_steps))]
+fn normalise_even(alloc: Global, scope: &mut Vec<Kind>, part: &Ty) -> Result<Ty, Mem>
+    ensures kept { OnOk result (scope_of scope.new.items ≡ scope_of scope.old.items) }
+    ensures value { IfOk result (λ n. n ≡ normal (scope_of scope.old.items) (TyTree.Arrow part.now part.now)) }
+{
+    Ty::to_itself(alloc, normalise(alloc, scope, part)?)
+}
+
+// A record type.
+#[cycle(normalise)]
+#[inline(never)]
+#[tactic(auto, using(crate::proofs::NormalSteps::normal_steps))]
+fn normalise_record(alloc: Global, scope: &mut Vec<Kind>, fields: &TyFields) -> Result<Ty, Mem>
+    ensures kept { OnOk result (scope_of scope.new.items ≡ scope_of scope.old.items) }
+    ensures value { IfOk result (λ n. n ≡ normal (scope_of scope.old.items) (TyTree.Fields (row fields.now))) }
+{
+    let fields = normalise_fields(alloc, scope, fields)?;
+    Ty::make(alloc, TyNode::Fields(fields))
+}
+
+// A sum.
+#[cycle(normalise)]
+#[inline(never)]
+#[tactic(auto, using(crate::proofs::NormalSteps::normal_steps))]
+fn normalise_sum(alloc: Global, scope: &mut Vec<Kind>, fields: &TyFields) -> Result<Ty, Mem>
+    ensures kept { OnOk result (scope_of scope.new.items ≡ scope_of scope.old.items) }
+    ensures value { IfOk result (λ n. n ≡ normal (scope_of scope.old.items) (TyTree.Sum (row fields.now))) }
+{
+    let fields = normalise_fields(alloc, scope, fields)?;
+    Ty::make(alloc, TyNode::Sum(fields))
+}
+
+// A universal type.
+#[cycle(normalise)]
+#[inline(never)]
+#[tactic(auto, using(crate::proofs::NormalSteps::normal_steps))]
+fn normalise_all(alloc: Global, scope: &mut Vec<Kind>, k: &Kind, b: &Ty) -> Result<Ty, Mem>
+    ensures kept { OnOk result (scope_of scope.new.items ≡ scope_of scope.old.items) }
+    ensures value { IfOk result (λ n. n ≡ normal (scope_of scope.old.items) (TyTree.All (kind_tree k.now) b.now)) }
+{
+    let b = normalise_under(alloc, scope, b, k)?;
+    Ty::make(alloc, TyNode::All(k.share()?, b))
+}
+
+// An existential type.
+#[cycle(normalise)]
+#[inline(never)]
+#[tactic(auto, using(crate::proofs::NormalSteps::normal_steps))]
+fn normalise_ex(alloc: Global, scope: &mut Vec<Kind>, k: &Kind, b: &Ty) -> Result<Ty, Mem>
+    ensures kept { OnOk result (scope_of scope.new.items ≡ scope_of scope.old.items) }
+    ensures value { IfOk result (λ n. n ≡ normal (scope_of scope.old.items) (TyTree.Ex (kind_tree k.now) b.now)) }
+{
+    let b = normalise_under(alloc, scope, b, k)?;
+    Ty::make(alloc, TyNode::Ex(k.share()?, b))
+}
+
+// A recursive type.
+#[cycle(normalise)]
+#[inline(never)]
+#[tactic(auto, using(crate::proofs::NormalSteps::normal_steps))]
+fn normalise_mu(alloc: Global, scope: &mut Vec<Kind>, b: &Ty) -> Result<Ty, Mem>
+    ensures kept { OnOk result (scope_of scope.new.items ≡ scope_of scope.old.items) }
+    ensures value { IfOk result (λ n. n ≡ normal (scope_of scope.old.items) (TyTree.Mu b.now)) }
+{
+    let b = normalise_under(alloc, scope, b, &Kind::Star)?;
+    Ty::make(alloc, TyNode::Mu(b))
+}
+
+// An operator.
+#[cycle(normalise)]
+#[inline(never)]
+#[tactic(auto, using(crate::proofs::NormalSteps::normal_steps))]
+fn normalise_operator(alloc: Global, scope: &mut Vec<Kind>, k: &Kind, b: &Ty) -> Result<Ty, Mem>
+    ensures kept { OnOk result (scope_of scope.new.items ≡ scope_of scope.old.items) }
+    ensures value { IfOk result (λ n. n ≡ normal (scope_of scope.old.items) (TyTree.Lam (kind_tree k.now) b.now)) }
+{
+    let b = normalise_under(alloc, scope, b, k)?;
+    Ty::make(alloc, TyNode::Lam(k.share()?, b))
+}
+
+// An application: an operator takes the argument.
+#[cycle(normalise)]
+#[inline(never)]
+#[tactic(auto, using(crate::proofs::NormalSteps::normal_steps))]
+fn normalise_application(alloc: Global, scope: &mut Vec<Kind>, f: &Ty, a: &Ty) -> Result<Ty, Mem>
+    ensures kept { OnOk result (scope_of scope.new.items ≡ scope_of scope.old.items) }
+    ensures value { IfOk result (λ n. n ≡ normal (scope_of scope.old.items) (TyTree.Apply f.now a.now)) }
+{
+    let f = normalise(alloc, scope, f)?;
+    let a = normalise(alloc, scope, a)?;
+    beta(alloc, f, a)
 }
 
 // The normal form of the body of a binder.

@@ -78,32 +78,15 @@ still ts n index arg w h = record { within = w; value = sym (filled-still index 
 
 -- ---- two parts, one after the other
 
-module _ (node : Ty → Ty → Ty) (fills : (index : ℕ) (a s t : Ty) → filled index a (node s t) ≡ node (filled index a s) (filled index a t)) where
-  two : (index : ℕ) (old mid top us : List Ty) (full : Ty) (arg a b a' b' n : ℕ) → node (at old a) (at old b) ≡ full → Begins old mid → Begins mid top
-      → arg < length old → b < length old
-      → Holds mid a' (filled index (at old arg) (at old a)) → Holds top b' (filled index (at mid arg) (at mid b)) → Holds us n (node (at top a') (at top b'))
-      → Holds us n (filled index (at old arg) full)
-  two index old mid top us full arg a b a' b' n is p q w x h k made =
-      let first : at top a' ≡ filled index (at old arg) (at old a) = begins-at mid top a' q h.within ∙ h.value in
-      let second : at top b' ≡ filled index (at old arg) (at old b) = k.value ∙ ap₂ (filled index) (begins-at old mid arg p w) (begins-at old mid b p x) in
-      record {
-        within = made.within;
-        value = made.value ∙ (ap₂ node first second ∙ (sym (fills index (at old arg) (at old a) (at old b)) ∙ ap (filled index (at old arg)) is));
-      }
-
--- the arrow between two sides that were filled one after the other is the filled arrow
-pub fills-arrow : (index : ℕ) (old mid top us : List Ty) (full : Ty) (arg a b a' b' n : ℕ) → Ty.Arrow (at old a) (at old b) ≡ full → Begins old mid
-    → Begins mid top → arg < length old → b < length old
-    → Holds mid a' (filled index (at old arg) (at old a)) → Holds top b' (filled index (at mid arg) (at mid b)) → Holds us n (Ty.Arrow (at top a') (at top b'))
-    → Holds us n (filled index (at old arg) full)
-fills-arrow = two Ty.Arrow (λ index a s t. refl)
-
 -- the application of two parts that were filled one after the other is the filled application
-pub fills-apply : (index : ℕ) (old mid top us : List Ty) (full : Ty) (arg a b a' b' n : ℕ) → Ty.Apply (at old a) (at old b) ≡ full → Begins old mid
-    → Begins mid top → arg < length old → b < length old
+pub fills-apply : (index : ℕ) (old mid top us : List Ty) (arg a b a' b' n : ℕ) → Begins old mid → Begins mid top → arg < length old → b < length old
     → Holds mid a' (filled index (at old arg) (at old a)) → Holds top b' (filled index (at mid arg) (at mid b)) → Holds us n (Ty.Apply (at top a') (at top b'))
-    → Holds us n (filled index (at old arg) full)
-fills-apply = two Ty.Apply (λ index a s t. put-apply (args Kind.Star) index (shift index 0 a) s t)
+    → Holds us n (filled index (at old arg) (Ty.Apply (at old a) (at old b)))
+fills-apply index old mid top us arg a b a' b' n p q w x h k made =
+    let first : at top a' ≡ filled index (at old arg) (at old a) = begins-at mid top a' q h.within ∙ h.value in
+    let second : at top b' ≡ filled index (at old arg) (at old b) = k.value ∙ ap₂ (filled index) (begins-at old mid arg p w) (begins-at old mid b p x) in
+    let whole = put-apply (args Kind.Star) index (shift index 0 (at old arg)) (at old a) (at old b) in
+    record { within = made.within; value = made.value ∙ (ap₂ Ty.Apply first second ∙ sym whole) }
 
 -- ---- below a binder
 
@@ -111,37 +94,33 @@ fills-apply = two Ty.Apply (λ index a s t. put-apply (args Kind.Star) index (sh
 pub filled-under : (index : ℕ) (a b : Ty) → tree (put_in Kind.Star (args Kind.Star) (suc index) (rename suc (shift index 0 a)) b) ≡ filled (index + 1) a b
 filled-under index a b = put_in-under Kind.Star index index a b
 
-module _ (binder : Kind → Ty → Ty) (fills : (index : ℕ) (a : Ty) (k : Kind) (b : Ty) → filled index a (binder k b) ≡ binder k (filled (index + 1) a b)) where
-  under : (index next : ℕ) (j k : Kind) (old ts us : List Ty) (full : Ty) (arg b b' n : ℕ) → binder k (at old b) ≡ full → next ≡ index + 1 → j ≡ k
-      → Holds ts b' (filled next (at old arg) (at old b)) → Holds us n (binder j (at ts b')) → Holds us n (filled index (at old arg) full)
-  under index next j k old ts us full arg b b' n is e same h made = record {
+module _ (binder : Ty → Ty) (fills : (index : ℕ) (a b : Ty) → filled index a (binder b) ≡ binder (filled (index + 1) a b)) where
+  under : (index next : ℕ) (old ts us : List Ty) (arg b b' n : ℕ) → next ≡ index + 1
+      → Holds ts b' (filled next (at old arg) (at old b)) → Holds us n (binder (at ts b')) → Holds us n (filled index (at old arg) (binder (at old b)))
+  under index next old ts us arg b b' n e h made = record {
     within = made.within;
-    value =
-        made.value ∙
-        (ap₂ binder same (h.value ∙ ap (λ m. filled m (at old arg) (at old b)) e) ∙
-        (sym (fills index (at old arg) k (at old b)) ∙ ap (filled index (at old arg)) is));
+    value = made.value ∙ (ap binder (h.value ∙ ap (λ m. filled m (at old arg) (at old b)) e) ∙ sym (fills index (at old arg) (at old b)));
   }
 
 -- the universal type over a body that was filled below the binder is the filled universal type
-pub fills-all : (index next : ℕ) (j k : Kind) (old ts us : List Ty) (full : Ty) (arg b b' n : ℕ) → Ty.All k (at old b) ≡ full → next ≡ index + 1 → j ≡ k
-    → Holds ts b' (filled next (at old arg) (at old b)) → Holds us n (Ty.All j (at ts b')) → Holds us n (filled index (at old arg) full)
-fills-all = under Ty.All (λ index a k b. ap (Ty.All k) (filled-under index a b))
+pub fills-all : (index next : ℕ) (k : Kind) (old ts us : List Ty) (arg b b' n : ℕ) → next ≡ index + 1
+    → Holds ts b' (filled next (at old arg) (at old b)) → Holds us n (Ty.All k (at ts b')) → Holds us n (filled index (at old arg) (Ty.All k (at old b)))
+fills-all index next k = under (Ty.All k) (λ index a b. ap (Ty.All k) (filled-under index a b)) index next
 
 -- the existential type over a body that was filled below the binder is the filled existential type
-pub fills-ex : (index next : ℕ) (j k : Kind) (old ts us : List Ty) (full : Ty) (arg b b' n : ℕ) → Ty.Ex k (at old b) ≡ full → next ≡ index + 1 → j ≡ k
-    → Holds ts b' (filled next (at old arg) (at old b)) → Holds us n (Ty.Ex j (at ts b')) → Holds us n (filled index (at old arg) full)
-fills-ex = under Ty.Ex (λ index a k b. ap (Ty.Ex k) (filled-under index a b))
+pub fills-ex : (index next : ℕ) (k : Kind) (old ts us : List Ty) (arg b b' n : ℕ) → next ≡ index + 1
+    → Holds ts b' (filled next (at old arg) (at old b)) → Holds us n (Ty.Ex k (at ts b')) → Holds us n (filled index (at old arg) (Ty.Ex k (at old b)))
+fills-ex index next k = under (Ty.Ex k) (λ index a b. ap (Ty.Ex k) (filled-under index a b)) index next
 
 -- the type operator over a body that was filled below the binder is the filled type operator
-pub fills-lam : (index next : ℕ) (j k : Kind) (old ts us : List Ty) (full : Ty) (arg b b' n : ℕ) → Ty.Lam k (at old b) ≡ full → next ≡ index + 1 → j ≡ k
-    → Holds ts b' (filled next (at old arg) (at old b)) → Holds us n (Ty.Lam j (at ts b')) → Holds us n (filled index (at old arg) full)
-fills-lam = under Ty.Lam (λ index a k b. ap (Ty.Lam k) (filled-under index a b))
+pub fills-lam : (index next : ℕ) (k : Kind) (old ts us : List Ty) (arg b b' n : ℕ) → next ≡ index + 1
+    → Holds ts b' (filled next (at old arg) (at old b)) → Holds us n (Ty.Lam k (at ts b')) → Holds us n (filled index (at old arg) (Ty.Lam k (at old b)))
+fills-lam index next k = under (Ty.Lam k) (λ index a b. ap (Ty.Lam k) (filled-under index a b)) index next
 
 -- the recursive type over a body that was filled below the binder is the filled recursive type
-pub fills-mu : (index next : ℕ) (old ts us : List Ty) (full : Ty) (arg b b' n : ℕ) → Ty.Mu (at old b) ≡ full → next ≡ index + 1
-    → Holds ts b' (filled next (at old arg) (at old b)) → Holds us n (Ty.Mu (at ts b')) → Holds us n (filled index (at old arg) full)
-fills-mu index next old ts us full arg b b' n is e h made =
-    under (λ k t. Ty.Mu t) (λ index a k b. ap Ty.Mu (filled-under index a b)) index next Kind.Star Kind.Star old ts us full arg b b' n is e refl h made
+pub fills-mu : (index next : ℕ) (old ts us : List Ty) (arg b b' n : ℕ) → next ≡ index + 1
+    → Holds ts b' (filled next (at old arg) (at old b)) → Holds us n (Ty.Mu (at ts b')) → Holds us n (filled index (at old arg) (Ty.Mu (at old b)))
+fills-mu index next = under Ty.Mu (λ index a b. ap Ty.Mu (filled-under index a b)) index next
 
 -- ---- the parts of a record or a sum
 

@@ -10,7 +10,7 @@ use Rattle.type_store.specs.declared.hinting.Alike.{Alike}
 use Rattle.type_store.specs.Inner.Places.{HasPart, IsAlike, field_at, fields_of, how_many}
 use Rattle.type_store.specs.Shape.{Parts}
 use Rattle.type_store.specs.Trees.{at, row_at, Begins, Holds}
-use Rattle.type_store.proofs.StoreSteps.{makes-var, makes-int, makes-bool, makes-text, makes-arrow, makes-apply, makes-all, makes-ex, makes-lam, makes-mu}
+use Rattle.type_store.proofs.StoreSteps.{makes-var, makes-int, makes-bool, makes-text, makes-arrow, makes-even, makes-apply, makes-all, makes-ex, makes-lam, makes-mu}
 use Rattle.type_store.proofs.StoreSteps.{makes-fields, makes-sum}
 use Rattle.type_store.proofs.TreeLaws.{begins-itself, begins-then, begins-at, begins-length, holds-more}
 
@@ -116,6 +116,7 @@ pub ruleset hint_steps = (
   makes-bool,
   makes-text,
   makes-arrow,
+  makes-even,
   makes-apply,
   makes-all,
   makes-ex,

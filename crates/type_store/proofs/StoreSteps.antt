@@ -34,6 +34,10 @@ makes-text ts = record { below = tt; value = refl }
 pub makes-arrow : (ts us : List Ty) (a b : ℕ) (s t : Ty) → Begins ts us → Holds ts a s → Holds us b t → Makes us (Shape.Arrow a b) (Ty.Arrow s t)
 makes-arrow ts us a b s t p h k = let m = holds-more ts us a s p h in record { below = (m.within, k.within); value = ap₂ Ty.Arrow m.value k.value }
 
+-- the shape of an arrow from a number to itself makes the arrow from its type to itself
+pub makes-even : (ts : List Ty) (a : ℕ) (t : Ty) → Holds ts a t → Makes ts (Shape.Arrow a a) (Ty.Arrow t t)
+makes-even ts a t h = record { below = (h.within, h.within); value = ap₂ Ty.Arrow h.value h.value }
+
 -- the shape of an application of one number to another makes the application of their types
 pub makes-apply : (ts us : List Ty) (a b : ℕ) (s t : Ty) → Begins ts us → Holds ts a s → Holds us b t → Makes us (Shape.Apply a b) (Ty.Apply s t)
 makes-apply ts us a b s t p h k = let m = holds-more ts us a s p h in record { below = (m.within, k.within); value = ap₂ Ty.Apply m.value k.value }
@@ -68,6 +72,7 @@ pub ruleset store_steps = (
   makes-bool,
   makes-text,
   makes-arrow,
+  makes-even,
   makes-apply,
   makes-all,
   makes-ex,

@@ -32,7 +32,9 @@ impl Types {
             (Form::Int, _) | (Form::Bool, _) | (Form::Text, _) => false,
             (Form::Var(place), form) => self.is_var_filled(*place, index, arg, whole, form),
             (Form::Arrow(a, b), Form::Arrow(c, d)) => {
-                self.is_filled(*a, index, arg, *c) && self.is_filled(*b, index, arg, *d)
+                let is_once = *a == *b && *c == *d;
+                self.is_filled(*a, index, arg, *c)
+                    && (is_once || self.is_filled(*b, index, arg, *d))
             }
             (Form::Apply(a, b), Form::Apply(c, d)) => {
                 self.is_filled(*a, index, arg, *c) && self.is_filled(*b, index, arg, *d)
@@ -134,7 +136,8 @@ impl Types {
         match (self.form(number), self.form(whole)) {
             (Form::Var(i), Form::Var(j)) => is_var_shifted(*i, by, from, *j),
             (Form::Arrow(a, b), Form::Arrow(c, d)) => {
-                self.is_shifted(*a, by, from, *c) && self.is_shifted(*b, by, from, *d)
+                let is_once = *a == *b && *c == *d;
+                self.is_shifted(*a, by, from, *c) && (is_once || self.is_shifted(*b, by, from, *d))
             }
             (Form::Apply(a, b), Form::Apply(c, d)) => {
                 self.is_shifted(*a, by, from, *c) && self.is_shifted(*b, by, from, *d)

@@ -21,7 +21,8 @@ impl Types {
             (Form::Bool, TyNode::Bool) => true,
             (Form::Text, TyNode::Text) => true,
             (Form::Arrow(a, b), TyNode::Arrow(c, d)) => {
-                self.is_tree(*a, c) && self.is_tree(*b, d)
+                let is_once = *a == *b && ty.both_sides().is_some();
+                self.is_tree(*a, c) && (is_once || self.is_tree(*b, d))
             }
             (Form::Fields(a), TyNode::Fields(b)) => self.are_parts(a.as_slice(), b),
             (Form::Sum(a), TyNode::Sum(b)) => self.are_parts(a.as_slice(), b),

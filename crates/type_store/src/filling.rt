@@ -8,7 +8,7 @@ ghost use Rattle.omega_types.specs.Ty.{Ty as TyTree};
 ghost use Rattle.type_store.specs.Inner.Memo.{filled, filled_row};
 ghost use Rattle.type_store.specs.Trees.{ArePartsBelow, Begins, Holds, MakesParts, at, row_at};
 
-use crate::finding::copied;
+use crate::finding::form_copied;
 use crate::node::Form;
 use crate::types::Types;
 use omega_kinds::{Kind, Label, Mem};
@@ -84,6 +84,7 @@ impl Types {
 
     // The same where it is not remembered, and a variable that is changed is free.
     #[cycle(put_in)]
+    #[inline(never)]
     #[tactic(auto, using(crate::proofs::FillSteps::fill_steps))]
     fn put_in_parts(&mut self, body: u64, index: u64, arg: u64) -> Result<u64, Mem>
         requires body { body < length self.old }
@@ -92,63 +93,29 @@ impl Types {
         ensures grows { Begins self.old self.new }
         ensures number { IfOk result (λ n. Holds self.new n (filled index (at self.old arg) (at self.old body))) }
     {
-        match self.form(body) {
-            Form::Var(place) => {
-                let place = *place;
-                self.put_var(place, index, arg)
-            }
+        let form = form_copied(self.alloc(), self.form(body))?;
+        match form {
+            Form::Var(place) => self.put_var(place, index, arg),
             Form::Int | Form::Bool | Form::Text => Ok(body),
             Form::Arrow(a, b) => {
-                let a = *a;
-                let b = *b;
-                let a = self.put_in(a, index, arg)?;
-                let b = self.put_in(b, index, arg)?;
-                self.make(Form::Arrow(a, b))
+                if a == b {
+                    self.put_in_even(a, index, arg, body)
+                } else {
+                    self.put_in_arrow(a, b, index, arg, body)
+                }
             }
-            Form::Apply(a, b) => {
-                let a = *a;
-                let b = *b;
-                let a = self.put_in(a, index, arg)?;
-                let b = self.put_in(b, index, arg)?;
-                self.make(Form::Apply(a, b))
-            }
-            Form::All(k, b) => {
-                let k = k.share()?;
-                let b = *b;
-                let b = self.put_in(b, next_level(index)?, arg)?;
-                self.make(Form::All(k, b))
-            }
-            Form::Ex(k, b) => {
-                let k = k.share()?;
-                let b = *b;
-                let b = self.put_in(b, next_level(index)?, arg)?;
-                self.make(Form::Ex(k, b))
-            }
-            Form::Mu(b) => {
-                let b = *b;
-                let b = self.put_in(b, next_level(index)?, arg)?;
-                self.make(Form::Mu(b))
-            }
-            Form::Lam(k, b) => {
-                let k = k.share()?;
-                let b = *b;
-                let b = self.put_in(b, next_level(index)?, arg)?;
-                self.make(Form::Lam(k, b))
-            }
-            Form::Fields(parts) => {
-                let parts = copied(self.alloc(), parts.as_slice())?;
-                let parts = self.put_in_fields(parts.as_slice(), body, index, arg)?;
-                self.make(Form::Fields(parts))
-            }
-            Form::Sum(parts) => {
-                let parts = copied(self.alloc(), parts.as_slice())?;
-                let parts = self.put_in_fields(parts.as_slice(), body, index, arg)?;
-                self.make(Form::Sum(parts))
-            }
+            Form::Apply(a, b) => self.put_in_apply(a, b, index, arg, body),
+            Form::All(k, b) => self.put_in_all(k, b, index, arg, body),
+            Form::Ex(k, b) => self.put_in_ex(k, b, index, arg, body),
+            Form::Mu(b) => self.put_in_mu(b, index, arg, body),
+            Form::Lam(k, b) => self.put_in_lam(k, b, index, arg, body),
+            Form::Fields(parts) => self.put_in_record(parts, index, arg, body),
+            Form::Sum(parts) => self.put_in_sum(parts, index, arg, body),
         }
     }
 
     // The argument for the variable, and a greater one lowered.
+    #[inline(never)]
     #[tactic(auto, using(crate::proofs::FillSteps::var_steps))]
     fn put_var(&mut self, place: u64, index: u64, arg: u64) -> Result<u64, Mem>
         requires place { index ≤ place }
@@ -161,6 +128,180 @@ impl Types {
         } else {
             self.make(Form::Var(place - 1))
         }
+    }
+
+    // `(-> T T)`, whose number is `whole`, as below.
+    #[cycle(put_in)]
+    #[inline(never)]
+    #[tactic(auto, using(crate::proofs::FillSteps::fill_steps))]
+    fn put_in_arrow(&mut self, a: u64, b: u64, index: u64, arg: u64, whole: u64) -> Result<u64, Mem>
+        requires first { a < whole }
+        requires second { b < whole }
+        requires within { whole < length self.old }
+        requires arg { arg < length self.old }
+        ensures grows { Begins self.old self.new }
+        ensures number { IfOk result (λ n. Holds self.new n (filled index (at self.old arg) (TyTree.Arrow (at self.old a) (at self.old b)))) }
+    {
+        let a = self.put_in(a, index, arg)?;
+        let b = self.put_in(b, index, arg)?;
+        self.make(Form::Arrow(a, b))
+    }
+
+    // `(-> T T)` with one number for both parts: it is filled once.
+    #[cycle(put_in)]
+    #[inline(never)]
+    #[tactic(auto, using(crate::proofs::FillSteps::fill_steps))]
+    fn put_in_even(&mut self, part: u64, index: u64, arg: u64, whole: u64) -> Result<u64, Mem>
+        requires below { part < whole }
+        requires within { whole < length self.old }
+        requires arg { arg < length self.old }
+        ensures grows { Begins self.old self.new }
+        ensures number { IfOk result (λ n. Holds self.new n (filled index (at self.old arg) (TyTree.Arrow (at self.old part) (at self.old part)))) }
+    {
+        let part = self.put_in(part, index, arg)?;
+        self.make(Form::Arrow(part, part))
+    }
+
+    // `(@ T T)`.
+    #[cycle(put_in)]
+    #[inline(never)]
+    #[tactic(auto, using(crate::proofs::FillSteps::fill_steps))]
+    fn put_in_apply(&mut self, a: u64, b: u64, index: u64, arg: u64, whole: u64) -> Result<u64, Mem>
+        requires first { a < whole }
+        requires second { b < whole }
+        requires within { whole < length self.old }
+        requires arg { arg < length self.old }
+        ensures grows { Begins self.old self.new }
+        ensures number { IfOk result (λ n. Holds self.new n (filled index (at self.old arg) (TyTree.Apply (at self.old a) (at self.old b)))) }
+    {
+        let a = self.put_in(a, index, arg)?;
+        let b = self.put_in(b, index, arg)?;
+        self.make(Form::Apply(a, b))
+    }
+
+    // `(all K T)`.
+    #[cycle(put_in)]
+    #[inline(never)]
+    #[tactic(auto, using(crate::proofs::FillSteps::fill_steps))]
+    fn put_in_all(
+        &mut self,
+        kind: Kind,
+        b: u64,
+        index: u64,
+        arg: u64,
+        whole: u64,
+    ) -> Result<u64, Mem>
+        requires below { b < whole }
+        requires within { whole < length self.old }
+        requires arg { arg < length self.old }
+        ensures grows { Begins self.old self.new }
+        ensures number { IfOk result (λ n. Holds self.new n (filled index (at self.old arg) (TyTree.All (kind_tree kind) (at self.old b)))) }
+    {
+        let b = self.put_in(b, next_level(index)?, arg)?;
+        self.make(Form::All(kind, b))
+    }
+
+    // `(some K T)`.
+    #[cycle(put_in)]
+    #[inline(never)]
+    #[tactic(auto, using(crate::proofs::FillSteps::fill_steps))]
+    fn put_in_ex(
+        &mut self,
+        kind: Kind,
+        b: u64,
+        index: u64,
+        arg: u64,
+        whole: u64,
+    ) -> Result<u64, Mem>
+        requires below { b < whole }
+        requires within { whole < length self.old }
+        requires arg { arg < length self.old }
+        ensures grows { Begins self.old self.new }
+        ensures number { IfOk result (λ n. Holds self.new n (filled index (at self.old arg) (TyTree.Ex (kind_tree kind) (at self.old b)))) }
+    {
+        let b = self.put_in(b, next_level(index)?, arg)?;
+        self.make(Form::Ex(kind, b))
+    }
+
+    // `(lam K T)`.
+    #[cycle(put_in)]
+    #[inline(never)]
+    #[tactic(auto, using(crate::proofs::FillSteps::fill_steps))]
+    fn put_in_lam(
+        &mut self,
+        kind: Kind,
+        b: u64,
+        index: u64,
+        arg: u64,
+        whole: u64,
+    ) -> Result<u64, Mem>
+        requires below { b < whole }
+        requires within { whole < length self.old }
+        requires arg { arg < length self.old }
+        ensures grows { Begins self.old self.new }
+        ensures number { IfOk result (λ n. Holds self.new n (filled index (at self.old arg) (TyTree.Lam (kind_tree kind) (at self.old b)))) }
+    {
+        let b = self.put_in(b, next_level(index)?, arg)?;
+        self.make(Form::Lam(kind, b))
+    }
+
+    // `(mu T)`.
+    #[cycle(put_in)]
+    #[inline(never)]
+    #[tactic(auto, using(crate::proofs::FillSteps::fill_steps))]
+    fn put_in_mu(&mut self, b: u64, index: u64, arg: u64, whole: u64) -> Result<u64, Mem>
+        requires below { b < whole }
+        requires within { whole < length self.old }
+        requires arg { arg < length self.old }
+        ensures grows { Begins self.old self.new }
+        ensures number { IfOk result (λ n. Holds self.new n (filled index (at self.old arg) (TyTree.Mu (at self.old b)))) }
+    {
+        let b = self.put_in(b, next_level(index)?, arg)?;
+        self.make(Form::Mu(b))
+    }
+
+    // `(rec (l T) ..)`.
+    #[cycle(put_in)]
+    #[inline(never)]
+    #[tactic(auto, using(crate::proofs::FillSteps::fill_steps))]
+    fn put_in_record(
+        &mut self,
+        parts: Vec<(Label, u64)>,
+        index: u64,
+        arg: u64,
+        whole: u64,
+    ) -> Result<u64, Mem>
+        requires below { ArePartsBelow whole parts.items }
+        requires rising { Rises parts.items }
+        requires within { whole < length self.old }
+        requires arg { arg < length self.old }
+        ensures grows { Begins self.old self.new }
+        ensures number { IfOk result (λ n. Holds self.new n (filled index (at self.old arg) (TyTree.Fields (row_at self.old parts.items)))) }
+    {
+        let parts = self.put_in_fields(parts.as_slice(), whole, index, arg)?;
+        self.make(Form::Fields(parts))
+    }
+
+    // `(sum (l T) ..)`.
+    #[cycle(put_in)]
+    #[inline(never)]
+    #[tactic(auto, using(crate::proofs::FillSteps::fill_steps))]
+    fn put_in_sum(
+        &mut self,
+        parts: Vec<(Label, u64)>,
+        index: u64,
+        arg: u64,
+        whole: u64,
+    ) -> Result<u64, Mem>
+        requires below { ArePartsBelow whole parts.items }
+        requires rising { Rises parts.items }
+        requires within { whole < length self.old }
+        requires arg { arg < length self.old }
+        ensures grows { Begins self.old self.new }
+        ensures number { IfOk result (λ n. Holds self.new n (filled index (at self.old arg) (TyTree.Sum (row_at self.old parts.items)))) }
+    {
+        let parts = self.put_in_fields(parts.as_slice(), whole, index, arg)?;
+        self.make(Form::Sum(parts))
     }
 
     // The parts of a record or a sum whose number is `whole`, each filled.

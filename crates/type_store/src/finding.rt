@@ -1,5 +1,6 @@
-// The parts of numbered records and sums.
+// The parts of numbered records and sums, and copies of forms.
 ghost use Rattle.std.specs.Prelude.{◌≡◌, ◌<◌, IfOk, length};
+ghost use Rattle.type_store.specs.Inner.View.{shape_of};
 ghost use Rattle.type_store.specs.Numbers.{NumberOf, field_type, variant_type};
 ghost use Rattle.type_store.specs.Trees.{at};
 
@@ -43,4 +44,25 @@ pub fn copied(alloc: Global, parts: &[(Label, u64)]) -> Result<Vec<(Label, u64)>
         copied.push((part.0.share()?, part.1))?;
     }
     Ok(copied)
+}
+
+// A copy of a form. `Err` is out of memory.
+#[inline(never)]
+pub(crate) fn form_copied(alloc: Global, form: &Form) -> Result<Form, Mem>
+    ensures { IfOk result (λ f. shape_of f ≡ shape_of form.now) }
+{
+    match form {
+        Form::Var(index) => Ok(Form::Var(*index)),
+        Form::Int => Ok(Form::Int),
+        Form::Bool => Ok(Form::Bool),
+        Form::Text => Ok(Form::Text),
+        Form::Arrow(a, b) => Ok(Form::Arrow(*a, *b)),
+        Form::Fields(parts) => Ok(Form::Fields(copied(alloc, parts.as_slice())?)),
+        Form::Sum(parts) => Ok(Form::Sum(copied(alloc, parts.as_slice())?)),
+        Form::All(k, b) => Ok(Form::All(k.share()?, *b)),
+        Form::Ex(k, b) => Ok(Form::Ex(k.share()?, *b)),
+        Form::Mu(b) => Ok(Form::Mu(*b)),
+        Form::Lam(k, b) => Ok(Form::Lam(k.share()?, *b)),
+        Form::Apply(f, a) => Ok(Form::Apply(*f, *a)),
+    }
 }

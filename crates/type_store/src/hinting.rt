@@ -53,7 +53,10 @@ impl Types {
             (Form::Arrow(a, b), TyNode::Arrow(from, to)) => {
                 let a = *a;
                 let b = *b;
-                self.like_arrow(from, to, a, b, hint)
+                match ty.both_sides() {
+                    Some(part) => self.like_even(part, a, b, hint),
+                    None => self.like_arrow(from, to, a, b, hint),
+                }
             }
             (Form::Fields(_), TyNode::Fields(fields)) => self.like_record(fields, small, hint),
             (Form::Sum(_), TyNode::Sum(fields)) => self.like_sum(fields, small, hint),
@@ -130,6 +133,25 @@ impl Types {
             return Ok(hint);
         }
         self.make(Form::Arrow(from, to))
+    }
+
+    // `(-> T T)`, whose two parts are one tree: it is put once.
+    #[cycle(like)]
+    #[inline(never)]
+    #[tactic(auto, using(crate::proofs::HintSteps::hint_steps))]
+    fn like_even(&mut self, part: &Ty, a: u64, b: u64, hint: u64) -> Result<u64, Mem>
+        requires first { a < length self.old }
+        requires second { b < length self.old }
+        requires hint { hint < length self.old }
+        requires whole { at self.old hint ≡ TyTree.Arrow (at self.old a) (at self.old b) }
+        ensures grows { Begins self.old self.new }
+        ensures number { IfOk result (λ n. Holds self.new n (TyTree.Arrow part.now part.now)) }
+    {
+        let part = self.like(part, a)?;
+        if part == a && part == b {
+            return Ok(hint);
+        }
+        self.make(Form::Arrow(part, part))
     }
 
     // `(@ T T)`.

@@ -1,14 +1,16 @@
 // Shifts of numbered types.
 ghost use Rattle.std.specs.Prelude.{◌≡◌, ◌<◌, ℕ, IfOk, length};
+ghost use Rattle.omega_kinds.specs.View.{kind_tree};
 ghost use Rattle.omega_types.specs.Fields.{Rises};
 ghost use Rattle.omega_types.specs.Index.{bump, shift};
 ghost use Rattle.omega_types.specs.Substitution.{rename_row};
+ghost use Rattle.omega_types.specs.Ty.{Ty as TyTree};
 ghost use Rattle.type_store.specs.Trees.{ArePartsBelow, Begins, Holds, MakesParts, at, row_at};
 
-use crate::finding::copied;
+use crate::finding::form_copied;
 use crate::node::Form;
 use crate::types::Types;
-use omega_kinds::{Label, Mem};
+use omega_kinds::{Kind, Label, Mem};
 use omega_types::next_level;
 
 impl Types {
@@ -49,70 +51,192 @@ impl Types {
 
     // The same where it is not remembered.
     #[cycle(shift)]
+    #[inline(never)]
     #[tactic(auto, using(crate::proofs::ShiftSteps::shift_steps))]
     fn shift_parts(&mut self, number: u64, by: u64, from: u64) -> Result<u64, Mem>
         requires { number < length self.old }
         ensures grows { Begins self.old self.new }
         ensures number { IfOk result (λ n. Holds self.new n (shift by from (at self.old number))) }
     {
-        match self.form(number) {
-            Form::Var(index) => {
-                let index = *index;
-                if index < from {
-                    Ok(number)
-                } else {
-                    self.make(Form::Var(index.checked_add(by).ok_or(Mem)?))
-                }
-            }
+        let form = form_copied(self.alloc(), self.form(number))?;
+        match form {
+            Form::Var(place) => self.shift_var(place, by, from, number),
             Form::Int | Form::Bool | Form::Text => Ok(number),
             Form::Arrow(a, b) => {
-                let a = *a;
-                let b = *b;
-                let a = self.shift(a, by, from)?;
-                let b = self.shift(b, by, from)?;
-                self.make(Form::Arrow(a, b))
+                if a == b {
+                    self.shift_even(a, by, from, number)
+                } else {
+                    self.shift_arrow(a, b, by, from, number)
+                }
             }
-            Form::Apply(a, b) => {
-                let a = *a;
-                let b = *b;
-                let a = self.shift(a, by, from)?;
-                let b = self.shift(b, by, from)?;
-                self.make(Form::Apply(a, b))
-            }
-            Form::All(k, b) => {
-                let k = k.share()?;
-                let b = *b;
-                let b = self.shift(b, by, next_level(from)?)?;
-                self.make(Form::All(k, b))
-            }
-            Form::Ex(k, b) => {
-                let k = k.share()?;
-                let b = *b;
-                let b = self.shift(b, by, next_level(from)?)?;
-                self.make(Form::Ex(k, b))
-            }
-            Form::Mu(b) => {
-                let b = *b;
-                let b = self.shift(b, by, next_level(from)?)?;
-                self.make(Form::Mu(b))
-            }
-            Form::Lam(k, b) => {
-                let k = k.share()?;
-                let b = *b;
-                let b = self.shift(b, by, next_level(from)?)?;
-                self.make(Form::Lam(k, b))
-            }
-            Form::Fields(parts) => {
-                let parts = copied(self.alloc(), parts.as_slice())?;
-                let parts = self.shift_fields(parts.as_slice(), number, by, from)?;
-                self.make(Form::Fields(parts))
-            }
-            Form::Sum(parts) => {
-                let parts = copied(self.alloc(), parts.as_slice())?;
-                let parts = self.shift_fields(parts.as_slice(), number, by, from)?;
-                self.make(Form::Sum(parts))
-            }
+            Form::Apply(a, b) => self.shift_apply(a, b, by, from, number),
+            Form::All(k, b) => self.shift_all(k, b, by, from, number),
+            Form::Ex(k, b) => self.shift_ex(k, b, by, from, number),
+            Form::Mu(b) => self.shift_mu(b, by, from, number),
+            Form::Lam(k, b) => self.shift_lam(k, b, by, from, number),
+            Form::Fields(parts) => self.shift_record(parts, by, from, number),
+            Form::Sum(parts) => self.shift_sum(parts, by, from, number),
         }
+    }
+
+    // A variable, whose number is `whole`.
+    #[inline(never)]
+    #[tactic(auto, using(crate::proofs::ShiftSteps::shift_steps))]
+    fn shift_var(&mut self, index: u64, by: u64, from: u64, whole: u64) -> Result<u64, Mem>
+        requires within { whole < length self.old }
+        requires var { at self.old whole ≡ TyTree.Var index }
+        ensures grows { Begins self.old self.new }
+        ensures number { IfOk result (λ n. Holds self.new n (shift by from (TyTree.Var index))) }
+    {
+        if index < from {
+            Ok(whole)
+        } else {
+            self.make(Form::Var(index.checked_add(by).ok_or(Mem)?))
+        }
+    }
+
+    // `(-> T T)`, whose number is `whole`, as below.
+    #[cycle(shift)]
+    #[inline(never)]
+    #[tactic(auto, using(crate::proofs::ShiftSteps::shift_steps))]
+    fn shift_arrow(&mut self, a: u64, b: u64, by: u64, from: u64, whole: u64) -> Result<u64, Mem>
+        requires first { a < whole }
+        requires second { b < whole }
+        requires within { whole < length self.old }
+        ensures grows { Begins self.old self.new }
+        ensures number { IfOk result (λ n. Holds self.new n (shift by from (TyTree.Arrow (at self.old a) (at self.old b)))) }
+    {
+        let a = self.shift(a, by, from)?;
+        let b = self.shift(b, by, from)?;
+        self.make(Form::Arrow(a, b))
+    }
+
+    // `(-> T T)` with one number for both parts: it is shifted once.
+    #[cycle(shift)]
+    #[inline(never)]
+    #[tactic(auto, using(crate::proofs::ShiftSteps::shift_steps))]
+    fn shift_even(&mut self, part: u64, by: u64, from: u64, whole: u64) -> Result<u64, Mem>
+        requires below { part < whole }
+        requires within { whole < length self.old }
+        ensures grows { Begins self.old self.new }
+        ensures number { IfOk result (λ n. Holds self.new n (shift by from (TyTree.Arrow (at self.old part) (at self.old part)))) }
+    {
+        let part = self.shift(part, by, from)?;
+        self.make(Form::Arrow(part, part))
+    }
+
+    // `(@ T T)`.
+    #[cycle(shift)]
+    #[inline(never)]
+    #[tactic(auto, using(crate::proofs::ShiftSteps::shift_steps))]
+    fn shift_apply(&mut self, a: u64, b: u64, by: u64, from: u64, whole: u64) -> Result<u64, Mem>
+        requires first { a < whole }
+        requires second { b < whole }
+        requires within { whole < length self.old }
+        ensures grows { Begins self.old self.new }
+        ensures number { IfOk result (λ n. Holds self.new n (shift by from (TyTree.Apply (at self.old a) (at self.old b)))) }
+    {
+        let a = self.shift(a, by, from)?;
+        let b = self.shift(b, by, from)?;
+        self.make(Form::Apply(a, b))
+    }
+
+    // `(all K T)`.
+    #[cycle(shift)]
+    #[inline(never)]
+    #[tactic(auto, using(crate::proofs::ShiftSteps::shift_steps))]
+    fn shift_all(&mut self, kind: Kind, b: u64, by: u64, from: u64, whole: u64) -> Result<u64, Mem>
+        requires below { b < whole }
+        requires within { whole < length self.old }
+        ensures grows { Begins self.old self.new }
+        ensures number { IfOk result (λ n. Holds self.new n (shift by from (TyTree.All (kind_tree kind) (at self.old b)))) }
+    {
+        let b = self.shift(b, by, next_level(from)?)?;
+        self.make(Form::All(kind, b))
+    }
+
+    // `(some K T)`.
+    #[cycle(shift)]
+    #[inline(never)]
+    #[tactic(auto, using(crate::proofs::ShiftSteps::shift_steps))]
+    fn shift_ex(&mut self, kind: Kind, b: u64, by: u64, from: u64, whole: u64) -> Result<u64, Mem>
+        requires below { b < whole }
+        requires within { whole < length self.old }
+        ensures grows { Begins self.old self.new }
+        ensures number { IfOk result (λ n. Holds self.new n (shift by from (TyTree.Ex (kind_tree kind) (at self.old b)))) }
+    {
+        let b = self.shift(b, by, next_level(from)?)?;
+        self.make(Form::Ex(kind, b))
+    }
+
+    // `(lam K T)`.
+    #[cycle(shift)]
+    #[inline(never)]
+    #[tactic(auto, using(crate::proofs::ShiftSteps::shift_steps))]
+    fn shift_lam(&mut self, kind: Kind, b: u64, by: u64, from: u64, whole: u64) -> Result<u64, Mem>
+        requires below { b < whole }
+        requires within { whole < length self.old }
+        ensures grows { Begins self.old self.new }
+        ensures number { IfOk result (λ n. Holds self.new n (shift by from (TyTree.Lam (kind_tree kind) (at self.old b)))) }
+    {
+        let b = self.shift(b, by, next_level(from)?)?;
+        self.make(Form::Lam(kind, b))
+    }
+
+    // `(mu T)`.
+    #[cycle(shift)]
+    #[inline(never)]
+    #[tactic(auto, using(crate::proofs::ShiftSteps::shift_steps))]
+    fn shift_mu(&mut self, b: u64, by: u64, from: u64, whole: u64) -> Result<u64, Mem>
+        requires below { b < whole }
+        requires within { whole < length self.old }
+        ensures grows { Begins self.old self.new }
+        ensures number { IfOk result (λ n. Holds self.new n (shift by from (TyTree.Mu (at self.old b)))) }
+    {
+        let b = self.shift(b, by, next_level(from)?)?;
+        self.make(Form::Mu(b))
+    }
+
+    // `(rec (l T) ..)`.
+    #[cycle(shift)]
+    #[inline(never)]
+    #[tactic(auto, using(crate::proofs::ShiftSteps::shift_steps))]
+    fn shift_record(
+        &mut self,
+        parts: Vec<(Label, u64)>,
+        by: u64,
+        from: u64,
+        whole: u64,
+    ) -> Result<u64, Mem>
+        requires below { ArePartsBelow whole parts.items }
+        requires rising { Rises parts.items }
+        requires within { whole < length self.old }
+        ensures grows { Begins self.old self.new }
+        ensures number { IfOk result (λ n. Holds self.new n (shift by from (TyTree.Fields (row_at self.old parts.items)))) }
+    {
+        let parts = self.shift_fields(parts.as_slice(), whole, by, from)?;
+        self.make(Form::Fields(parts))
+    }
+
+    // `(sum (l T) ..)`.
+    #[cycle(shift)]
+    #[inline(never)]
+    #[tactic(auto, using(crate::proofs::ShiftSteps::shift_steps))]
+    fn shift_sum(
+        &mut self,
+        parts: Vec<(Label, u64)>,
+        by: u64,
+        from: u64,
+        whole: u64,
+    ) -> Result<u64, Mem>
+        requires below { ArePartsBelow whole parts.items }
+        requires rising { Rises parts.items }
+        requires within { whole < length self.old }
+        ensures grows { Begins self.old self.new }
+        ensures number { IfOk result (λ n. Holds self.new n (shift by from (TyTree.Sum (row_at self.old parts.items)))) }
+    {
+        let parts = self.shift_fields(parts.as_slice(), whole, by, from)?;
+        self.make(Form::Sum(parts))
     }
 
     // The parts of a record or a sum whose number is `whole`, each shifted.

@@ -161,7 +161,10 @@ impl Store {
             TyNode::Int => Ok(Form::Int),
             TyNode::Bool => Ok(Form::Bool),
             TyNode::Text => Ok(Form::Text),
-            TyNode::Arrow(from, to) => self.put_arrow(from, to),
+            TyNode::Arrow(from, to) => match ty.both_sides() {
+                Some(part) => self.put_even(part),
+                None => self.put_arrow(from, to),
+            },
             TyNode::Fields(fields) => self.put_record(fields),
             TyNode::Sum(fields) => self.put_sum(fields),
             TyNode::All(kind, body) => self.put_all(kind, body),
@@ -183,6 +186,18 @@ impl Store {
         let from = self.put_type(from)?;
         let to = self.put_type(to)?;
         Ok(Form::Arrow(from, to))
+    }
+
+    // `(-> T T)`, whose two parts are one tree: it is put once.
+    #[cycle(put)]
+    #[inline(never)]
+    #[tactic(auto, using(crate::proofs::StoreSteps::store_steps))]
+    fn put_even(&mut self, part: &Ty) -> Result<Form, Mem>
+        ensures grows { Begins self.old self.new }
+        ensures form { IfOk result (λ f. Makes self.new (shape_of f) (TyTree.Arrow part.now part.now)) }
+    {
+        let part = self.put_type(part)?;
+        Ok(Form::Arrow(part, part))
     }
 
     // `(rec (l T) ..)`.

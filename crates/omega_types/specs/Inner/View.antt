@@ -1,4 +1,5 @@
--- What a node of a type is seen as.
+-- What a node of a type is seen as, and what its mark says.
+use Rattle.std.specs.Prelude.{◌≡◌, Bool, IsTrue}
 use Rattle.omega_kinds.specs.View.{kind_tree}
 use Rattle.omega_types.specs.declared.tree.TyNode.{TyNode}
 use Rattle.omega_types.specs.declared.tree.TyNode.TheVariants as node
@@ -19,3 +20,12 @@ ty_of (node.Ex k b) = Ty.Ex (kind_tree k) b
 ty_of (node.Mu b) = Ty.Mu b
 ty_of (node.Lam k b) = Ty.Lam (kind_tree k) b
 ty_of (node.Apply f a) = Ty.Apply f a
+
+-- an arrow whose two parts are one tree
+abbrev pub IsEven : Ty → Type 0
+IsEven (Ty.Arrow a b) = a ≡ b
+IsEven t = ⊥
+
+-- a type that has the mark is such an arrow: so a walk need only look at one of its parts
+abbrev pub KnownEven : Bool → Ty → Type 0
+KnownEven mark t = IsTrue mark → IsEven t

@@ -1,4 +1,4 @@
--- How high a signature is: each of its forms counts three, for the stack that a walk over signatures takes, and each
+-- How high a signature is: each of its forms counts six, for the stack that a walk over signatures takes, and each
 -- form of its types one; kinds are left out.
 use Rattle.std.specs.Prelude.{ℕ, ◌+◌, max}
 use Rattle.omega_types.specs.Height.{height}
@@ -7,14 +7,14 @@ use Rattle.semantic_sigs.specs.Inner.Fields.{SigPairs, sig_row}
 
 abbrev mutual
   pub sig_height : Sig → ℕ
-  sig_height (Sig.Val t) = height t + 3
-  sig_height (Sig.Typ t k) = height t + 3
-  sig_height (Sig.Meta x) = abs_height x + 3
-  sig_height (Sig.Str fs) = sig_row_height fs + 3
-  sig_height (Sig.Fun e ks s x) = max (sig_height s) (abs_height x) + 3
+  sig_height (Sig.Val t) = height t + 6
+  sig_height (Sig.Typ t k) = height t + 6
+  sig_height (Sig.Meta x) = abs_height x + 6
+  sig_height (Sig.Str fs) = sig_row_height fs + 6
+  sig_height (Sig.Fun e ks s x) = max (sig_height s) (abs_height x) + 6
 
   pub abs_height : Abs → ℕ
-  abs_height (Abs.Ex ks s) = sig_height s + 3
+  abs_height (Abs.Ex ks s) = sig_height s + 6
 
   pub sig_row_height : SigRow → ℕ
   sig_row_height SigRow.End = 0

@@ -5,7 +5,7 @@ use Rattle.sig_definitions.specs.Signatures.Sig.{Sig, Abs, SigRow}
 use Rattle.sig_definitions.specs.Explicit.SigPath.{SigPath, Item}
 use Rattle.sig_match_laws.specs.RootSearch.{after, or_else}
 use Rattle.sig_roots.specs.Inner.Rooted.{rooted}
-use Rattle.sig_roots.specs.Inner.Least.{least_sig}
+use Rattle.semantic_sigs.specs.Inner.Least.{least_sig}
 
 -- `own` is the de Bruijn index of the hidden type's variable: that of the last hidden type is 0
 

@@ -1,27 +1,33 @@
--- Types put in for variables in parallel, and the normal form of the result at once: a type that comes in for the head
--- of an application takes the argument by hereditary substitution.
+-- Types put in for variables, and the normal form of the result at once: a type that comes in for the head of an
+-- application takes the argument by hereditary substitution.
 use Rattle.std.specs.Prelude.{ℕ, zero, suc, List, [], ◌∷◌}
 use Rattle.omega_kinds.specs.Kind.{Kind}
 use Rattle.omega_types.specs.Ty.{Ty, Row}
 use Rattle.omega_types.specs.Substitution.{rename}
-use Rattle.omega_types.specs.Normaliser.{beta}
+use Rattle.omega_types.specs.Index.{Slot, taken, kept, slot}
+use Rattle.omega_types.specs.Normaliser.{beta, hsubst}
 
--- what becomes of a part of a type: its own head stands, or a normal type came in for the head
+-- what becomes of a part of a type: its own head stands, or a normal type came in for the head, by itself or at a kind
 pub data Head : Type 0 where
   stands : (t : Ty) → Head
   came : (t : Ty) → Head
+  came_at : (t : Ty) → Kind → Head
 
 abbrev pub tree : Head → Ty
 tree (stands t) = t
 tree (came t) = t
+tree (came_at t k) = t
 
 abbrev pub raised : Head → Head
 raised (stands t) = stands (rename suc t)
 raised (came t) = came (rename suc t)
+raised (came_at t k) = came_at (rename suc t) k
 
 abbrev pub apply_head : Head → Ty → Head
 apply_head (stands f) a = stands (Ty.Apply f a)
 apply_head (came f) a = came (beta f a)
+apply_head (came_at (Ty.Lam j b) (Kind.Arrow k l)) a = came_at (hsubst k zero a b) l
+apply_head (came_at f k) a = stands (Ty.Apply f a)
 
 -- what each index becomes, below one more binder
 abbrev pub under_head : (ℕ → Head) → ℕ → Head
@@ -71,3 +77,11 @@ put_heads (t ∷ ts) h = put_heads ts (front_head t h)
 
 abbrev pub putting : List Ty → ℕ → Head
 putting ts = put_heads ts (λ i. stands (Ty.Var i))
+
+-- one index becomes a type of a kind, and each greater index one less
+abbrev pub slot_head : Kind → Ty → Slot → Head
+slot_head k t taken = came_at t k
+slot_head k t (kept n) = stands (Ty.Var n)
+
+abbrev pub one_head : Kind → (index : ℕ) → Ty → ℕ → Head
+one_head k i t j = slot_head k t (slot i j)

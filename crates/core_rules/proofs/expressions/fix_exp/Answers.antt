@@ -26,4 +26,4 @@ returns-in_err-expect_same-clause-refused c =
 
 pub returns-clause-given : goal.returns-clause-given
 returns-clause-given c =
-    rw (c.in_ok-expect_star.ensures.ok, c.in_ok-expect_star-2.ensures.ok, c.in_ok-expect_same.ensures.ok, c.in_ok-ty.ensures, c.in_ok-term.ensures, c.in_ok-share.ensures, c.in_ok-share-2.ensures, c.in_ok-share-3.ensures, c.in_ok-share-4.ensures, c.plain-from.ensures, c.plain-to.ensures) FixGives.fix
+    rw (c.in_ok-expect_star.ensures.ok, c.in_ok-expect_star-2.ensures.ok, c.in_ok-expect_same.ensures.ok, c.in_ok-ty.ensures, c.in_ok-term.ensures, c.in_ok-share.ensures, c.in_ok-share-2.ensures, c.plain-from.ensures, c.plain-to.ensures) FixGives.fix

@@ -13,4 +13,4 @@ returns-in_err-expect_star-clause-refused c =
 
 pub returns-clause-given : goal.returns-clause-given
 returns-clause-given c =
-    rw (c.in_ok-expect_star.ensures.ok, c.in_ok-ty.ensures, c.in_ok-term.ensures, c.in_ok-share.ensures, c.in_ok-share-2.ensures, c.in_ok-share-3.ensures, c.plain-from.ensures, c.plain.ensures) FunctionGives.function
+    rw (c.in_ok-expect_star.ensures.ok, c.in_ok-ty.ensures, c.in_ok-term.ensures, c.in_ok-share.ensures, c.plain.ensures) FunctionGives.function

@@ -20,4 +20,4 @@ returns-in_err-expect_star-2-clause-refused c =
 
 pub returns-clause-given : goal.returns-clause-given
 returns-clause-given c =
-    rw (c.in_ok-expect_star.ensures.ok, c.in_ok-expect_star-2.ensures.ok, c.in_ok-of_values.ensures.ty, c.in_ok-of_values.ensures.kind, c.in_ok-share.ensures, c.in_ok-share-2.ensures, c.plain.ensures, c.plain-2.ensures) ArrowGives.arrow
+    rw (c.in_ok-expect_star.ensures.ok, c.in_ok-expect_star-2.ensures.ok, c.in_ok-ty.ensures) ArrowGives.arrow

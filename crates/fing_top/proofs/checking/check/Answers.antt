@@ -22,4 +22,4 @@ returns-in-Ok g c =
 pub returns-in-Err : goal.returns-in-Err
 returns-in-Err g c =
     wrote_reply command.Check c.args.bytes.now status.Refused _ _ _ _ c.write_line.result c.status_of-in-Err.result tt
-    (ProgramReplies.refuses (c.in-Err.ensures.refused (c.if-has_line.ensures.sound refl))) refl c.write_line.ensures c.status_of-in-Err.ensures
+    (ProgramReplies.refuses (c.in-Err.ensures.refused (c.if-has_short_line.ensures refl))) refl c.write_line.ensures c.status_of-in-Err.ensures

@@ -14,4 +14,4 @@ pub returns-in-Err : goal.returns-in-Err
 returns-in-Err g c = λ command bytes emission.
     let reply = subst (IsEmission command bytes) c.in-Err.is emission in
     wrote_reply command bytes status.Refused _ _ _ _ c.write_line.result c.status_of-in-Err.result tt
-    (reply (c.if-has_line.ensures.sound refl)) refl c.write_line.ensures c.status_of-in-Err.ensures
+    (reply (c.if-has_short_line.ensures refl)) refl c.write_line.ensures c.status_of-in-Err.ensures

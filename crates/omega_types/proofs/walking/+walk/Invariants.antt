@@ -10,6 +10,9 @@ decreases-walk_type g l = 2 * nodes l.ty.now
 abbrev pub decreases-walk_arrow : goal.decreases-walk_arrow
 decreases-walk_arrow g l = 2 * (nodes l.a.now + nodes l.b.now) + 1
 
+abbrev pub decreases-walk_even : goal.decreases-walk_even
+decreases-walk_even g l = 4 * nodes l.part.now + 1
+
 abbrev pub decreases-walk_record : goal.decreases-walk_record
 decreases-walk_record g l = 2 * nodes_pairs l.fields.now + 1
 

@@ -10,31 +10,73 @@ use Rattle.omega_write.proofs.Loops.{ty_field_text, term_field_text}
 use Rattle.omega_write.proofs.trees.+trees.Given as goal
 
 abbrev pub decreases-write_kind : goal.decreases-write_kind
-decreases-write_kind g l = 6 * kind_size (kind_tree l.kind.now)
+decreases-write_kind g l = 8 * kind_size (kind_tree l.kind.now)
+
+abbrev pub decreases-write_two_kinds : goal.decreases-write_two_kinds
+decreases-write_two_kinds g l = 8 * (kind_size (kind_tree l.from.now) + kind_size (kind_tree l.to.now)) + 7
 
 abbrev pub decreases-write_type : goal.decreases-write_type
-decreases-write_type g l = 6 * ty_size l.ty.now
+decreases-write_type g l = 8 * ty_size l.ty.now
+
+abbrev pub decreases-write_two_types : goal.decreases-write_two_types
+decreases-write_two_types g l = 8 * (ty_size l.first.now + ty_size l.second.now) + 7
+
+abbrev pub decreases-write_row : goal.decreases-write_row
+decreases-write_row g l = 8 * row_size (row l.fields.now) + 7
+
+abbrev pub decreases-write_bound : goal.decreases-write_bound
+decreases-write_bound g l = 8 * (kind_size (kind_tree l.kind.now) + ty_size l.body.now) + 7
+
+abbrev pub decreases-write_recursive : goal.decreases-write_recursive
+decreases-write_recursive g l = 8 * ty_size l.b.now + 7
 
 abbrev pub decreases-write_ty_fields : goal.decreases-write_ty_fields
-decreases-write_ty_fields g l = 6 * row_size (row l.fields.now)
+decreases-write_ty_fields g l = 8 * row_size (row l.fields.now)
 
 abbrev pub decreases-write_expression : goal.decreases-write_expression
-decreases-write_expression g l = 6 * term_size l.term.now
+decreases-write_expression g l = 8 * term_size l.term.now
+
+abbrev pub decreases-write_two_terms : goal.decreases-write_two_terms
+decreases-write_two_terms g l = 8 * (term_size l.first.now + term_size l.second.now) + 7
+
+abbrev pub decreases-write_at_type : goal.decreases-write_at_type
+decreases-write_at_type g l = 8 * (term_size l.e.now + ty_size l.t.now) + 7
+
+abbrev pub decreases-write_function : goal.decreases-write_function
+decreases-write_function g l = 8 * (ty_size l.t.now + term_size l.e.now) + 7
+
+abbrev pub decreases-write_type_function : goal.decreases-write_type_function
+decreases-write_type_function g l = 8 * (kind_size (kind_tree l.k.now) + term_size l.e.now) + 7
+
+abbrev pub decreases-write_record : goal.decreases-write_record
+decreases-write_record g l = 8 * term_row_size (term_row l.fields.now) + 7
+
+abbrev pub decreases-write_get : goal.decreases-write_get
+decreases-write_get g l = 8 * term_size l.e.now + 7
+
+abbrev pub decreases-write_package : goal.decreases-write_package
+decreases-write_package g l = 8 * (ty_size l.t.now + term_size l.e.now + ty_size l.u.now) + 7
+
+abbrev pub decreases-write_opened : goal.decreases-write_opened
+decreases-write_opened g l = 8 * (term_size l.p.now + term_size l.e.now) + 7
+
+abbrev pub decreases-write_choice : goal.decreases-write_choice
+decreases-write_choice g l = 8 * (term_size l.a.now + term_size l.b.now + term_size l.c.now) + 7
+
+abbrev pub decreases-write_fix : goal.decreases-write_fix
+decreases-write_fix g l = 8 * (ty_size l.t.now + ty_size l.u.now + term_size l.e.now) + 7
 
 abbrev pub decreases-write_injected : goal.decreases-write_injected
-decreases-write_injected g l = 6 * (term_size l.e.now + ty_size l.t.now) + 5
+decreases-write_injected g l = 8 * (term_size l.e.now + ty_size l.t.now) + 7
 
 abbrev pub decreases-write_case : goal.decreases-write_case
-decreases-write_case g l = 6 * (term_size l.e.now + ty_size l.t.now + term_row_size (term_row l.branches.now)) + 5
-
-abbrev pub decreases-write_rolled : goal.decreases-write_rolled
-decreases-write_rolled g l = 6 * (term_size l.e.now + ty_size l.t.now) + 5
+decreases-write_case g l = 8 * (term_size l.e.now + ty_size l.t.now + term_row_size (term_row l.branches.now)) + 7
 
 abbrev pub decreases-write_unrolled : goal.decreases-write_unrolled
-decreases-write_unrolled g l = 6 * term_size l.e.now + 5
+decreases-write_unrolled g l = 8 * term_size l.e.now + 7
 
 abbrev pub decreases-write_term_fields : goal.decreases-write_term_fields
-decreases-write_term_fields g l = 6 * term_row_size (term_row l.fields.now)
+decreases-write_term_fields g l = 8 * term_row_size (term_row l.fields.now)
 
 abbrev pub decreases-write_variable : goal.decreases-write_variable
 decreases-write_variable g l = 2

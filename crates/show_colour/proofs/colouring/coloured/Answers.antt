@@ -1,7 +1,6 @@
 use Rattle.std.proofs.Common.{◌≡◌, ℕ, List, [], ◌++◌, length, arith, rules, refl, sym, ap, subst, ◌∙◌}
-use Rattle.std.proofs.lemmas.List.{append_assoc, append-nil}
+use Rattle.std.proofs.lemmas.List.{append_assoc, append-nil, nil_from_length}
 use Rattle.show_colour.specs.Inner.Coloured.{IsColoured}
-use Rattle.show_colour.proofs.Parts.{none}
 use Rattle.show_colour.proofs.colouring.coloured.Goals as goal
 
 pub loop-rest-init : goal.loop-rest-init
@@ -21,5 +20,5 @@ pub returns : goal.returns
 returns c =
     let before = c.loop-rest.invariant in
     let short : length c.loop-rest.rest.now ≡ 0 = search rules in
-    let all = sym (append-nil before.0) ∙ ap (λ (l : List ℕ). before.0 ++ l) (sym (none c.loop-rest.rest.now short)) ∙ before.1 in
+    let all = sym (append-nil before.0) ∙ ap (λ (l : List ℕ). before.0 ++ l) (sym (nil_from_length c.loop-rest.rest.now short)) ∙ before.1 in
     subst (λ l. IsColoured l c.loop-rest.shown.items) all before.2

@@ -19,7 +19,7 @@ use Rattle.sig_match.proofs.PutSteps.{raised-past}
 use Rattle.sig_match.proofs.SubSteps.{clashed, abs-size, labelled-none, meta-form, fields-form, functor-form, label-follows, labelled-next, item-size}
 use Rattle.sig_match.proofs.NextSteps.{rooted}
 use Rattle.sig_match.proofs.MadeSteps.{hold-none, known-is, key-holds}
-use Rattle.sig_match.proofs.CallSteps.{none-below, result-may_pure, result-pure, result-may_impure, result-impure, match-may_put, match-may_sub, match-in, match-in_no, EachFirst, EachRoots, next-may, next-refused, next-first, all-first, none-first, length-more, root-may_look, root-has, root-lacks, part-size, look-end, look-may_part, look-part, look-no_left, look-no_right, look-arg, look-meta, look-may_put, look-may_into, look-into, into-no_left, into-no_right, into-impure, pure-sides, pure-looks, param-may_match, param-may_put, param-size, if-matched, target-made, target-refused, target-none, target-may_look, target-looks, inner-is, inner-at, arg-refused, functor-effects, functor-may_put, functor-may_result, functor-res, functor-ok, may-sub, each-sub, each-plain, each-form, meta-first, meta-second, meta-refused, meta-refused_back, meta-ok, field-left, field-ok, field-no, field-missing, parts-none, item-may_sub, each-parts, parts-refused, parts-same, abs-may, abs-refused, abs-ok}
+use Rattle.sig_match.proofs.CallSteps.{none-below, result-may_pure, result-pure, result-may_impure, result-impure, match-may_put, match-may_sub, match-in, match-in_no, EachFirst, EachRoots, next-may, next-refused, next-first, all-first, none-first, length-more, root-may_look, root-has, root-lacks, part-size, look-end, look-may_part, look-part, look-no_left, look-no_right, look-arg, look-meta, look-may_put, look-may_into, look-into, into-no_left, into-no_right, into-impure, pure-sides, pure-looks, param-may_match, param-may_put, param-size, if-matched, target-made, target-refused, target-none, target-may_look, target-looks, inner-is, inner-at, arg-refused, functor-effects, functor-may_put, functor-may_result, functor-res, functor-ok, may-sub, each-sub, each-plain, each-form, meta-first, meta-second, meta-refused, meta-refused_back, meta-ok, meta-equal, field-left, field-ok, field-no, field-missing, parts-none, item-may_sub, each-parts, parts-refused, parts-same, abs-may, abs-refused, abs-ok}
 use Rattle.sig_match.proofs.matching.+matching.Goals as goal
 
 pub match_in-look_all-requires : goal.match_in-look_all-requires
@@ -201,6 +201,19 @@ sub_sig-returns-in-Some-as_functor t c = each-sub c.args.depth c.args.left.now c
 
 pub sub_sig-returns : goal.sub_sig-returns
 sub_sig-returns t c = each-form c.args.depth c.args.left.now (Sig.Fun c.in-Fun.effect c.in-Fun.kinds c.in-Fun.param c.in-Fun.result) c.args.right.now c.clash-in-None-as_functor.result (sym c.node.ensures ∙ ap sig_of c.in-Fun.is) c.clash-in-None-as_functor.ensures (λ ctx. functor-form ctx c.in-Fun.effect c.in-Fun.kinds c.in-Fun.param c.in-Fun.result c.args.right.now c.in-None-as_functor.ensures)
+
+pub sub_meta-returns-in_err-is_same : goal.sub_meta-returns-in_err-is_same
+sub_meta-returns-in_err-is_same t c = let p = err_from_is_err_and c.from_residual.result c.from_residual.ensures.1 in rw (p.1, p.2) (λ ctx l w v. tt)
+
+pub sub_meta-returns-in_err-encode : goal.sub_meta-returns-in_err-encode
+sub_meta-returns-in_err-encode t c = let p = err_from_is_err_and c.from_residual-in_err-encode.result c.from_residual-in_err-encode.ensures.1 in rw (p.1, p.2) (λ ctx l w v. tt)
+
+pub sub_meta-returns-in_err-meta_part : goal.sub_meta-returns-in_err-meta_part
+sub_meta-returns-in_err-meta_part t c = let p = err_from_is_err_and c.from_residual-in_err-meta_part.result c.from_residual-in_err-meta_part.ensures.1 in rw (p.1, p.2) (λ ctx l w v. tt)
+
+pub sub_meta-returns-then-is_same : goal.sub_meta-returns-then-is_same
+sub_meta-returns-then-is_same t c =
+    meta-equal c.args.depth c.args.left.now c.args.right.now c.in_ok-meta_part.field-0 c.args.from.now c.in_ok-encode.field-0 (c.in_ok-is_same.ensures.0 c.if-is_same.true) c.requires.from c.in_ok-encode.ensures c.in_ok-meta_part.ensures.value
 
 pub sub_meta-sub_abs_in-requires : goal.sub_meta-sub_abs_in-requires
 sub_meta-sub_abs_in-requires t c = (omega (arith, c.decreases), meta-first c.args.depth c.args.left.now c.args.right.now c.requires.sides)

@@ -13,6 +13,9 @@ decreases-put_parts l = 3 * nodes l.ty.now
 abbrev pub decreases-put_arrow : goal.decreases-put_arrow
 decreases-put_arrow l = 3 * (nodes l.from.now + nodes l.to.now) + 2
 
+abbrev pub decreases-put_even : goal.decreases-put_even
+decreases-put_even l = 6 * nodes l.part.now + 2
+
 abbrev pub decreases-put_record : goal.decreases-put_record
 decreases-put_record l = 3 * nodes_pairs l.fields.now + 2
 

@@ -17,6 +17,9 @@ decreases-like_next l = 4 * nodes l.ty.now + 2
 abbrev pub decreases-like_arrow : goal.decreases-like_arrow
 decreases-like_arrow l = 4 * (nodes l.from.now + nodes l.to.now) + 3
 
+abbrev pub decreases-like_even : goal.decreases-like_even
+decreases-like_even l = 8 * nodes l.part.now + 3
+
 abbrev pub decreases-like_apply : goal.decreases-like_apply
 decreases-like_apply l = 4 * (nodes l.operator.now + nodes l.arg.now) + 3
 

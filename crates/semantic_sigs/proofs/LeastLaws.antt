@@ -1,7 +1,8 @@
 -- The least free index at or above a number is found.
--- Main results: open-none, none-open, least-closed_sig.
-use Rattle.std.specs.Prelude.{ℕ, suc, ◌+◌, ◌-◌, ◌<◌, ◌≤◌, ◌≡◌, ◌⊎◌, min, length, List, Option, Some, None, nat_le, true, false, Bool as Truth}
+-- Main results: first-mentioned, least-sig, least-closed_sig.
+use Rattle.std.specs.Prelude.{ℕ, zero, suc, ◌+◌, ◌-◌, ◌<◌, ◌≤◌, ◌≡◌, ◌⊎◌, ◌↔◌, IsTrue, min, length, List, Option, Some, None, nat_le, true, false, Bool as Truth}
 use Rattle.std.proofs.Common.{arith}
+use Rattle.std.proofs.lemmas.Bool.{false≢true}
 use Rattle.std.proofs.lemmas.Bool.Decides.{nat_tests}
 use Rattle.std.proofs.Math.Logic.{inl, inr}
 use Rattle.std.proofs.Math.Path.{refl, sym, subst}
@@ -12,12 +13,11 @@ use Rattle.omega_types.specs.Binders.{past}
 use Rattle.sig_definitions.specs.Signatures.Sig.{Sig, Abs, SigRow}
 use Rattle.sig_definitions.specs.Signatures.SigMentions.{MentionsSig, MentionsAbs, MentionsRow}
 use Rattle.sig_laws.proofs.Algebra.BinderLaws.{past-length}
-use Rattle.sig_laws.specs.Decide.{in_var, in_arrow, in_fields, in_sum, in_all, in_ex, in_mu, in_lam, in_apply, in_row, NoneUpTo}
+use Rattle.sig_laws.specs.Decide.{in_var, in_arrow, in_fields, in_sum, in_all, in_ex, in_mu, in_lam, in_apply, in_row}
 use Rattle.semantic_sigs.specs.Inner.Bound.{bound_sig, bound_abs}
 use Rattle.semantic_sigs.proofs.MentionSteps.{sig_mention-below, abs_mention-below}
-use Rattle.type_normal.specs.Inner.Least.{outside, lesser, least_ty, least_row}
-use Rattle.sig_roots.specs.Inner.Least.{least_sig, least_abs, least_sig_row}
-use Rattle.sig_roots.specs.Inner.Seek.{is_open}
+use Rattle.type_normal.specs.Inner.Least.{outside, lesser, is_first, least_ty, least_row}
+use Rattle.semantic_sigs.specs.Inner.Least.{least_sig, least_abs, least_sig_row}
 
 -- the least number of a property, if there is one
 abbrev pub IsLeast : (ℕ → Type 0) → Option ℕ → Type 0
@@ -134,22 +134,6 @@ mutual
   least-sig_row from SigRow.End = λ x m. m
   least-sig_row from (SigRow.More l s rest) = least-either (λ x. MentionsSig (from + x) s) (λ x. MentionsRow (from + x) rest) (least_sig from s) (least_sig_row from rest) (least-sig from s) (least-sig_row from rest)
 
--- a type is barred exactly where it or a later one has the property
-
--- a variable that is open by the least mention has no mention at or below it
-pub open-none : (P : ℕ → Type 0) (own : ℕ) (bar : Option ℕ) → IsLeast P bar → is_open own bar ≡ true → NoneUpTo own P
-open-none P own None h e = λ x le p. h x p
-open-none P own (Some m) h e = let lt : own < m = grind (arith, nat_tests) in λ x le p. h.1 x (omega (arith, le, lt)) p
-
--- a variable with no mention at or below it is open by the least mention
-pub none-open : (P : ℕ → Type 0) (own : ℕ) (bar : Option ℕ) → IsLeast P bar → NoneUpTo own P → is_open own bar ≡ true
-none-open P own None h n = refl
-none-open P own (Some m) h n = go (is_open own (Some m)) refl
-  where
-    go : (b : Truth) → is_open own (Some m) ≡ b → is_open own (Some m) ≡ true
-    go true e = e
-    go false e = let le : m ≤ own = grind (arith, nat_tests) in absurd (n m le h.0)
-
 -- nothing is mentioned from the bound on
 
 -- a signature mentions nothing at or above its bound
@@ -167,3 +151,18 @@ least-closed_abs x from le = go (least_abs from x) (least-abs from x)
     go : (o : Option ℕ) → IsLeast (λ i. MentionsAbs (from + i) x) o → None ≡ o
     go None h = refl
     go (Some m) h = absurd (let lt = abs_mention-below (from + m) x h.0 in omega (arith, lt, le))
+
+-- the least index from a number on is this number exactly where a signature mentions it
+pub first-mentioned : (b : Truth) (i : ℕ) (s : Sig) → b ≡ is_first (least_sig i s) → (IsTrue b ↔ MentionsSig i s)
+first-mentioned b i s e = subst (λ t. IsTrue t ↔ MentionsSig i s) (sym e) (go (least_sig i s) (least-sig i s))
+  where
+    plus : i + zero ≡ i
+    plus = omega arith
+
+    at : MentionsSig i s → MentionsSig (i + zero) s
+    at m = subst (λ n. MentionsSig n s) (sym plus) m
+
+    go : (o : Option ℕ) → IsLeast (λ x. MentionsSig (i + x) s) o → IsTrue (is_first o) ↔ MentionsSig i s
+    go None h = (λ t. absurd (false≢true t), λ m. absurd (h zero (at m)))
+    go (Some zero) h = (λ t. subst (λ n. MentionsSig n s) plus h.0, λ m. cc)
+    go (Some (suc n)) h = (λ t. absurd (false≢true t), λ m. absurd (h.1 zero (omega arith) (at m)))

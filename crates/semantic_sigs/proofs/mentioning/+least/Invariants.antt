@@ -1,9 +1,9 @@
 use Rattle.std.proofs.Common.{◌≡◌, ◌≤◌, drop}
-use Rattle.semantic_sigs.specs.Inner.Fields.{sig_row}
-use Rattle.semantic_sigs.specs.Inner.Size.{sig_pairs_nodes}
-use Rattle.sig_roots.specs.Inner.Least.{least_sig_row}
 use Rattle.type_normal.specs.Inner.Least.{lesser}
-use Rattle.sig_roots.proofs.least.+least.Given as goal
+use Rattle.semantic_sigs.specs.Inner.Fields.{sig_row}
+use Rattle.semantic_sigs.specs.Inner.Least.{least_sig_row}
+use Rattle.semantic_sigs.specs.Inner.Size.{sig_pairs_nodes}
+use Rattle.semantic_sigs.proofs.mentioning.+least.Given as goal
 
 abbrev pub invariant-least_in_sig_fields-loop-field : goal.invariant-least_in_sig_fields-loop-field
 invariant-least_in_sig_fields-loop-field l =

@@ -3,7 +3,7 @@ use Rattle.omega_types.specs.Index.{shift}
 use Rattle.type_normal.specs.Inner.Placed.{head_of}
 use Rattle.type_normal.specs.Inner.Heads.{Head, came}
 use Rattle.type_normal.proofs.HeadSteps.{put-outside, put-inside}
-use Rattle.type_normal.proofs.putting.put_var.Goals as goal
+use Rattle.type_normal.proofs.placing.place_listed.Goals as goal
 
 pub returns-then-place-count : goal.returns-then-place-count
 returns-then-place-count c =
