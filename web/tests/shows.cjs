@@ -7,8 +7,8 @@ const {treeOf, targetFrom} = require("../page/derivations.js");
 const {fragmentOf, fieldsOf} = require("../page/link.js");
 
 const TESTS = "crates/fing_show/src";
-const TABLES = "tests.rt"; // has the tables of rows, each with its view
-const TABLE = /^    \(View::(\w+(?:\(Form::\w+\))?), &(?:(\w+)::)?([A-Z_]+)\),$/gm;
+const TABLES = "tests.rt"; // has a call for each table of rows, with its view
+const TABLE = /^ {4}(?:refused|accepted)\(\s*&rt,\s*alloc,\s*View::(\w+(?:\(Form::\w+\))?),\s*&(?:(\w+)::)?([A-Z_]+),?\s*\)\?;$/gm;
 const OF_CODE = {
   Source: "page", Paper: "paper", Latex: "paper-latex", Term: "term", TermLatex: "term-latex",
   "Derivation(Form::Text)": "derivation", "Derivation(Form::Html)": "derivation-html",
