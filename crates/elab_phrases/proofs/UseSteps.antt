@@ -11,7 +11,7 @@ use Rattle.sig_definitions.specs.Matching.Subtyping.{Match}
 use Rattle.sig_definitions.specs.QuantifierOrder.{Norm}
 use Rattle.sig_definitions.specs.Signatures.Sig.{Sig, Abs}
 use Rattle.sig_laws.specs.Good.{OkEnv, OkRight, OkAbs, OkSig}
-use Rattle.sig_laws.proofs.Formed.Conditions.{explicit-abs}
+use Rattle.sig_match_laws.proofs.LookUp.Good.{explicit-left}
 use Rattle.sig_premise_laws.proofs.Environments.{find-good}
 use Rattle.semantic_sigs.specs.Inner.View.{kinds_of}
 use Rattle.package_judgments.specs.Package.{PackGives}
@@ -29,9 +29,6 @@ use Rattle.elab_rules.proofs.Ruled.{match-forms}
 pub found-in : {g h : Env} {left s : Sig} {d : Term} (x : Name) → h ≡ g → OkEnv g → find g x ≡ Some (s, d) → left ≡ s → OkSig (kinds h) left
 found-in {g} {left = left} {s = s} {d = d} x q o f e = subst (λ y. OkSig (kinds y) left) (sym q) (subst (OkSig (kinds g)) (sym e) (find-good g x o (s, d) f))
 
-right-abs : {ctx : List Kind} {z : Abs} → OkRight ctx z → OkAbs ctx z
-right-abs h = (explicit-abs h.0, h.1)
-
 -- a package means what its rule gives, of the match of its module with the norm of its signature
 pub pack-means : {g h : Env} {at : Span} {x : SpanName} {a : SigEx} {left s : Sig} {y z : Abs} {d c e : Term} {ts us : List Ty} {t : Ty}
     → OkEnv g → h ≡ g
@@ -48,7 +45,7 @@ pack-means {g} {a = a} {left = left} {y = y} {z = z} {d = d} {c = c} {e = e} {ts
     let w = sig_ok g a y o m in
     let p : Match (kinds g) _ z ts c = subst (λ s. Match (kinds g) s z ts c) l (subst (λ x. Match (kinds x) left z ts c) q match) in
     let n = subst (λ us. NormalForms (kinds g) us (kinds_of z) us) (sym r) (match-forms p) in
-    let v : PackGives (kinds g) d z ts c t e = subst (λ us. PackGives (kinds g) d z us c t e) r (gives (kinds g) (right-abs (good (kinds g) w)) n) in
+    let v : PackGives (kinds g) d z ts c t e = subst (λ us. PackGives (kinds g) d z us c t e) r (gives (kinds g) (explicit-left (good (kinds g) w)) n) in
     ExpMeans.exp_pack f m (norm (kinds g) w) p v
 
 -- a package is refused where its module does not match the norm of its signature

@@ -57,6 +57,13 @@ const TWICE: Rows = Rows {
     last: "val f = fun (x : t# Int) => x val y = 1 end :> sig val y : Int end",
 };
 
+// Signature parts of which the right sides of the match declare the types in another order than the left ones.
+const ORDERS: Rows = Rows {
+    first: "signature A0 = sig type t type u end signature B0 = sig type u type t end",
+    more: "signature A# = sig signature X = A@ end signature B# = sig signature X = B@ end",
+    last: "module F = fun (X : A#) => X :> B#",
+};
+
 fn add_number(alloc: Global, text: &mut String, number: u32) -> Result<(), Fail> {
     text.push_str(&number.to_string(alloc)?)?;
     Ok(())
@@ -129,6 +136,15 @@ fn what_is_lower_is_accepted(rt: HostRuntime) -> Result<(), Fail> {
 fn what_stands_on_both_sides_of_an_arrow_is_met_once(rt: HostRuntime) -> Result<(), Fail> {
     for (rows, lines) in &[(PARTS, 200), (ARROWS, 200), (TWICE, 200)] {
         let found = answer(rt.alloc(), "check", *rows, *lines)?;
+        assert_eq!(rt; found.status, Status::Ok, "at {lines}");
+    }
+    Ok(())
+}
+
+#[test]
+fn what_differs_in_its_order_alone_is_not_compared_both_ways(rt: HostRuntime) -> Result<(), Fail> {
+    for lines in &[2, 200] {
+        let found = answer(rt.alloc(), "check", ORDERS, *lines)?;
         assert_eq!(rt; found.status, Status::Ok, "at {lines}");
     }
     Ok(())

@@ -1,6 +1,6 @@
 -- Separate units that are elaborated apart and linked.
 -- Main results: is_linked, kinded_link, typed_link, no_foreign.
-use Rattle.std.proofs.Common.{◌≡◌, ◌∙◌, ℕ, suc, ◌+◌, ◌<◌, ◌≤◌, ◌^◌, false, Option, Some, None, List, [], ◌∷◌, ◌++◌, length, take, drop, get_or, map, arith, refl, sym, ap, subst, add-one, drop-cons}
+use Rattle.std.proofs.Common.{◌≡◌, ◌∙◌, ℕ, suc, ◌+◌, ◌<◌, ◌≤◌, ◌^◌, false, Option, Some, None, List, [], ◌∷◌, ◌++◌, length, take, drop, get_or, map, arith, refl, sym, ap, subst, add-one}
 use Rattle.std.specs.Prelude.{MatchOption}
 use Rattle.std.proofs.Math.Seq.{take-suc}
 use Rattle.std.proofs.lemmas.List.{length-map, map-append, take-append-drop, take_all}
@@ -34,6 +34,7 @@ use Rattle.fing_refusals.specs.Inner.Plain.{Says, plain_refusal, want_of_memory}
 use Rattle.fing_refusals.specs.declared.refusal.Refusal.{Refusal}
 use Rattle.fing_elab.specs.Inner.Units.{MeansUnit, UnitIsRefused}
 use Rattle.fing_units.specs.Inner.Units.{unit_of, units_of}
+use Rattle.fing_units.proofs.Entering.{first-of}
 use Rattle.fing_units.specs.declared.unit_module.UnitModule.{UnitModule as CodeUnit}
 use Rattle.fing_top.specs.Inner.Compiled.{IsConfirmed}
 use Rattle.fing_top.specs.Inner.Linked.{IsNext}
@@ -65,10 +66,6 @@ is_next g under own name u m same stands named h = record {
   name = named;
   means = subst (λ (k : Env). UnitMeans k u (module_of m)) same h.derived;
 }
-
--- the item at an index, before the items after it
-first_of : {A : Type 0} (n : ℕ) (items : List A) (item : A) → n < length items → item ≡ get_or items n item → drop n items ≡ item ∷ drop (n + 1) items
-first_of n items item h is = rw (add-one, drop-cons items n item h) (ap (λ x. x ∷ drop (suc n) items) (sym is))
 
 taken_next : {A : Type 0} (n : ℕ) (items : List A) (item : A) → n < length items → item ≡ get_or items n item → take (n + 1) items ≡ take n items ++ item ∷ []
 taken_next n items item h is = rw add-one (take-suc items n item h ∙ ap (λ x. take n items ++ x ∷ []) (sym is))
@@ -114,7 +111,7 @@ all_units units n ms h m = subst (λ (us : List UnitTree). UnitsMean [] us ms) (
 pub stops : (units : List UnitTree) (n : ℕ) (u : UnitTree) (ms : List UnitModule) (under : List Interface) (e : Refusal) → n < length units → u ≡ get_or units n u
     → UnitsMean [] (take n units) ms → under ≡ map interface_of ms → Says e (UnitRefused (env_of under) u) → Says e (FirstRefused [] units)
 stops units n u ms under e h is before same s =
-    let split : take n units ++ u ∷ drop (n + 1) units ≡ units = ap (λ (rest : List UnitTree). take n units ++ rest) (sym (first_of n units u h is)) ∙ take-append-drop n units in
+    let split : take n units ++ u ∷ drop (n + 1) units ≡ units = ap (λ (rest : List UnitTree). take n units ++ rest) (sym (first-of n units u h is)) ∙ take-append-drop n units in
     says (e ≡ want_of_memory) (UnitRefused (env_of under) u) (FirstRefused [] units) (plain_refusal e)
     (λ r q. subst (λ (us : List UnitTree). FirstRefused [] us r) split (first-stop u (drop (n + 1) units) before (subst (λ (k : List Interface). UnitRefused (env_of k) u r) same q))) s
 

@@ -1,8 +1,8 @@
 // A look-up along a path needs only what the path meets. Specifications and their laws only.
 // Stands on sig_match_laws.
 // Proved (`along`): where all fields beside the path are left out of both sides, the same types are found; what is left is
-// as good as the whole, no larger, and the same whether types are put in before or after. No crate uses it yet: it lets a
-// look-up through a functor's result put types into one field.
+// as good as the whole, no larger, and the same whether types are put in before or after. It lets a
+// look-up through the result of a functor put types into one field.
 #![tactic(auto)]
 
 ghost use Rattle.sig_cut_laws.specs.Along.{CutBefore, CutLeft, CutRight, FoundInCut, NoLarger};

@@ -2,6 +2,7 @@
 -- Main results: match-in, look-into, target-looks, functor-ok, parts-same, abs-ok.
 use Rattle.std.proofs.Common.{◌≡◌, ℕ, suc, ◌+◌, ◌<◌, ◌≤◌, List, [], ◌∷◌, ◌++◌, length, get_or, take, drop, slice_get, Option, Some, None, Result, Ok, Err, refl, sym, ap, ap₂, ◌∙◌, subst, arith}
 use Rattle.std.proofs.lemmas.Option.{slice_get-get_or}
+use mathlib.Core.Logic.{inl, inr}
 use Rattle.omega_kinds.specs.Kind.{Kind}
 use Rattle.omega_kinds.specs.Name.{Name}
 use Rattle.omega_kinds.specs.declared.label.Label.{Label}
@@ -26,14 +27,18 @@ use Rattle.sig_definitions.specs.Signatures.SigSubst.{raise_abs, abs_at_under}
 use Rattle.sig_laws.proofs.Algebra.SizeLaws.{size_abs-rename, field-size}
 use Rattle.sig_laws.proofs.Formed.Conditions.{explicit-abs}
 use Rattle.sig_match_laws.specs.MatchClaims.{IsRightSig}
-use Rattle.sig_match_laws.proofs.LookUp.Good.{good-left_field}
+use Rattle.sig_match_laws.proofs.LookUp.Good.{good-left_field, good-meta}
 use Rattle.sig_match_laws.proofs.OneMatch.Views.{match-view}
 use Rattle.sig_reflexive_laws.proofs.Encodings.{part_gives}
+use Rattle.sig_transitive_laws.proofs.Claims.{part_of_one_norm}
+use Rattle.sig_cut_laws.specs.Cut.{CutTo}
+use Rattle.sig_cut_laws.proofs.Cuts.{cut_before, cut_left, cut_right, found_in_cut}
 use Rattle.sig_laws.proofs.Formed.WellFormedLaws.{explicit-body}
 use Rattle.semantic_sigs.specs.Inner.Fields.{SigPairs, sig_row}
 use Rattle.semantic_sigs.specs.Inner.View.{kinds_of, body_of}
 use Rattle.sig_match.specs.declared.refusal.Matched.{Matched}
 use Rattle.sig_match.specs.declared.refusal.MatchRefusal.{MatchRefusal as CodeRefusal}
+use Rattle.sig_match.specs.Inner.Alike.{AreAlike}
 use Rattle.sig_match.specs.Inner.Coerced.{IsAbsCoercion}
 use Rattle.sig_match.specs.Inner.Put.{AreNormal, filled, MayPut, EachPut, MayPutUnder, EachPutUnder}
 use Rattle.sig_match.specs.Inner.Refusals.{Gives, Holds, inside, plain_refusal}
@@ -204,6 +209,20 @@ pub look-into : (depth : ℕ) (s r n : Sig) (p : SigPath) (ks : List Kind) (ts :
 look-into depth s r n p ks ts o g k = λ ctx c w m a.
     let b = g ctx w.1.1 w.2 in
     res-looks ctx s r n m (Item.Res ∷ p) (filled ks ts) o b a (k ctx c w.0 (put-right w.1 w.2 b))
+
+-- looking up may go on with what the path meets of both sides
+pub cut-may_look : (depth : ℕ) (s r c d : Sig) (p : SigPath) (ks : List Kind) (ts : List Ty) → CutTo p s c → CutTo p r d → MayLook depth s ks r ts → MayLook depth c ks d ts
+cut-may_look depth s r c d p ks ts k g m = (m.0, m.1, (cut_left m.0 p s c k m.2.0, cut_right (extend m.0 ks) p r d g m.2.1, m.2.2))
+
+cut-looks : (ctx : List Kind) (s r c d : Sig) (p : SigPath) (o : Option Ty) → OkSig ctx s → CutTo p s c → CutTo p r d → Looks ctx c p d o → Looks ctx s p r o
+cut-looks ctx s r c d p None w k g f = λ t h. f t ((found_in_cut ctx p s c r d t w k g).0 h)
+cut-looks ctx s r c d p (Some t) w k g f = (found_in_cut ctx p s c r d t w k g).1 f
+
+-- what is found there is what is found along the path in both sides
+pub cut-each_look : (depth : ℕ) (s r c d : Sig) (p : SigPath) (ks : List Kind) (ts : List Ty) (o : Option Ty) → CutTo p s c → CutTo p r d → EachLook depth c p ks d ts o → EachLook depth s p ks r ts o
+cut-each_look depth s r c d p ks ts o k g f = λ ctx l w n a.
+    let q = cut_before ctx p r d n (filled ks ts) g a in
+    cut-looks ctx s n c q.0 p o w.0 k q.1 (f ctx l (cut_left ctx p s c k w.0, cut_right (extend ctx ks) p r d g w.1, w.2) q.0 q.2)
 
 -- through a functor
 
@@ -468,10 +487,19 @@ meta-ok depth x y f g e from to ef et h k ee = λ ctx c w v.
     meta-same ctx x y f g e from to ef et (h ctx c s.0 s.1) (k ctx c b.0 b.1) ee
 
 -- and signature parts of one encoding need no comparison
-pub meta-equal : (depth : ℕ) (x y : Abs) (e : Term) (from to : Ty) → enc_abs x ≡ enc_abs y → from ≡ enc (Sig.Meta x) → to ≡ enc_abs y → e ≡ meta_part from to →
+meta-equal : (depth : ℕ) (x y : Abs) (e : Term) (from to : Ty) → enc_abs x ≡ enc_abs y → from ≡ enc (Sig.Meta x) → to ≡ enc_abs y → e ≡ meta_part from to →
     EachSub depth (Sig.Meta x) (Sig.Meta y) (Ok e)
 meta-equal depth x y e from to s ef et ee = λ ctx c w v.
     subst (Sub ctx (Sig.Meta x) (Sig.Meta y)) (sym (ee ∙ ap₂ meta_part ef et)) (part_gives ctx x y w s)
+
+-- signature parts that have one encoding, or one norm, are below each other by the coercion that the encodings give
+pub meta-alike : (depth : ℕ) (x y : Abs) (e : Term) (from to : Ty) → AreAlike x y → from ≡ enc (Sig.Meta x) → to ≡ enc_abs y → e ≡ meta_part from to →
+    EachSub depth (Sig.Meta x) (Sig.Meta y) (Ok e)
+meta-alike depth x y e from to (inl s) ef et ee = meta-equal depth x y e from to s ef et ee
+meta-alike depth x y e from to (inr o) ef et ee = λ ctx c w v.
+    let q = meta-there w v in
+    let p = good-meta w in
+    subst (Sub ctx (Sig.Meta x) (Sig.Meta y)) (sym (ee ∙ ap₂ meta_part ef et)) (part_of_one_norm ctx x y o.0 p q.1 (o.1 ctx p) (o.2 ctx q.1))
 
 -- fields
 

@@ -6,4 +6,6 @@ pub mod SubSteps
 pub mod Exact
 pub mod PutSteps
 pub mod CallSteps
+pub mod CutSteps
 pub mod MadeSteps
+pub mod AlikeSteps

@@ -1,6 +1,6 @@
 -- Hidden variables looked up one after the other.
 -- Main results: next-some, next-none, first-more, first-all.
-use Rattle.std.proofs.Common.{◌≡◌, ℕ, ◌<◌, List, [], ◌∷◌, ◌++◌, length, Option, Some, None, refl, sym, ap, subst}
+use Rattle.std.proofs.Common.{◌≡◌, ◌<◌, List, [], ◌∷◌, ◌++◌, length, Option, Some, None, refl, sym, ap, subst}
 use Rattle.omega_kinds.specs.Kind.{Kind}
 use Rattle.omega_types.specs.Ty.{Ty}
 use Rattle.omega_types.specs.Binders.{OfKinds}
@@ -9,7 +9,7 @@ use Rattle.sig_definitions.specs.Signatures.Sig.{Sig, Abs}
 use Rattle.sig_definitions.specs.Signatures.SigSubst.{sig_at}
 use Rattle.sig_definitions.specs.Signatures.Alike.{IsSigAt}
 use Rattle.sig_definitions.specs.Explicit.SigPath.{SigPath}
-use Rattle.sig_definitions.specs.Explicit.RootPath.{RootPath, LeastRoot, least}
+use Rattle.sig_definitions.specs.Explicit.RootPath.{LeastRoot}
 use Rattle.sig_definitions.specs.Matching.LookUp.{Found, PutFirst, FoundAt, found_at, FoundAfter, Looked}
 use Rattle.sig_definitions.specs.Matching.MatchRefusal.{NoRoot, RefusesMatch}
 use Rattle.sig_laws.specs.NormalSig.{normal_sig}
@@ -23,10 +23,8 @@ use Rattle.sig_match.specs.Inner.Put.{AreNormal, filled}
 use Rattle.sig_match.specs.Inner.Looking.{Looks, LookSides, FirstFound, NextSides}
 use Rattle.sig_match.proofs.Fill.{any-normal, after, filled-after, filled-all, split, filled-more}
 use Rattle.sig_laws.proofs.Algebra.Paths.{one_least}
+use Rattle.sig_laws.proofs.Formed.RootNumbers.{root-of}
 use Rattle.sig_laws.specs.Good.{OkSig, OkRight}
-
-root-of : {ctx ks : List Kind} {r : Sig} {n : ℕ} {p : SigPath} → LeastRoot ctx ks r n p → RootPath ctx ks r n p
-root-of (least x y) = x
 
 -- the next hidden type may be looked up in the two sides
 pub next-sides : {ctx : List Kind} {s : Sig} (x : Abs) {ts : List Ty} (root : Option SigPath) → NextSides ctx s x ts root → LookSides ctx s (kinds_of x) (body_of x) ts

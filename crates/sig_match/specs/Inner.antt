@@ -5,3 +5,4 @@ pub mod Looking
 pub mod Outcomes
 pub mod Exact
 pub mod Made
+pub mod Alike

@@ -4,8 +4,10 @@
 // and each refusal exactly where it is the one that the definitions give.
 #![tactic(auto)]
 
+mod alike;
 mod calls;
 mod coercing;
+mod cutting;
 mod effects;
 mod made;
 mod matching;

@@ -5,7 +5,7 @@ ghost use Rattle.omega_kinds.specs.View.{kind_tree};
 ghost use Rattle.omega_kinds.specs.declared.effect.Effect.TheVariants.{Pure, Impure};
 ghost use Rattle.omega_terms.specs.Term.{Term as TermTree};
 ghost use Rattle.sig_definitions.specs.Explicit.SigPath.{Part};
-ghost use Rattle.sig_definitions.specs.Signatures.Encoding.{enc, enc_abs};
+ghost use Rattle.sig_definitions.specs.Signatures.Encoding.{enc};
 ghost use Rattle.sig_definitions.specs.Signatures.Sig.{Ex, Fun, Meta, Str, Typ, Val};
 ghost use Rattle.sig_definitions.specs.Signatures.SigSubst.{raise_abs as raise_abs_of};
 ghost use Rattle.semantic_sigs.specs.Inner.Fields.{sig_row};
@@ -14,7 +14,9 @@ ghost use Rattle.sig_match.specs.Inner.Looking.{EachLook, EachLookAll, EachLookI
 ghost use Rattle.sig_match.specs.Inner.Made.{AllHold};
 ghost use Rattle.sig_match.specs.Inner.Outcomes.{EachField, EachMatch, EachResult, EachSub, EachSubAbs, MayMatch, MayResult, MaySub, MaySubAbs, SubGives};
 
+use crate::alike::are_alike;
 use crate::coercing::{abs_coercion, functor_coercion};
+use crate::cutting::cut_result;
 use crate::effects::{both_pure, impure_for_pure};
 use crate::made::{Made, keep, key_of, known};
 use crate::putting::{at_found, at_types, count, lam_found, raised_param, result_at, sum};
@@ -30,7 +32,7 @@ use semantic_sigs::{
 };
 use sig_roots::roots;
 use std::alloc::Global;
-use type_normal::{NormalTy, as_normal, same};
+use type_normal::{NormalTy, same};
 
 // A right side under its hidden types, into which the types that are found are put.
 #[derive(Clone, Copy)]
@@ -157,8 +159,10 @@ fn look_step(
     match first {
         Item::Part(name) => look_part(alloc, depth, left, name, rest, right, made),
         Item::Res => {
-            let right = at_found(alloc, right.kinds, right.body, right.found)?;
-            look_result(alloc, depth, left, rest, &right, made)
+            let left = cut_result(alloc, left, rest)?;
+            let body = cut_result(alloc, right.body, rest)?;
+            let right = at_found(alloc, right.kinds, &body, right.found)?;
+            look_result(alloc, depth, &left, rest, &right, made)
         }
         Item::Arg => Ok(None),
         Item::Meta => Ok(None),
@@ -406,7 +410,7 @@ fn alike(left: &NormalTy, left_kind: &Kind, right: &NormalTy, right_kind: &Kind)
     same(left, right) && same_kind(left_kind, right_kind)
 }
 
-// Signature parts are compared both ways, but for those that are one signature.
+// Signature parts are compared both ways, but for those that are below each other by a law.
 #[cycle(matching)]
 fn sub_meta(
     alloc: Global,
@@ -419,24 +423,14 @@ fn sub_meta(
     requires sides { MaySub depth (Meta left.now) (Meta right.now) }
     ensures { EachSub depth (Meta left.now) (Meta right.now) result }
 {
-    let is_same = same_encoding(alloc, left, right)?;
-    if is_same {
+    let is_alike = are_alike(alloc, left, right)?;
+    if is_alike {
         return Ok(meta_part(alloc, from, &encode(alloc, right)?)?);
     }
     match sub_abs_in(alloc, depth, left, right) {
         Ok(_there) => sub_back(alloc, depth, from, left, right),
         Err(refusal) => Err(within(alloc, Item::Meta, refusal)),
     }
-}
-
-// Whether two signatures have one encoding: then they are one signature. An encoding takes one step for each part, since
-// that of a signature part is one tree on both sides of an arrow, and is gone through once.
-fn same_encoding(alloc: Global, left: &Abs, right: &Abs) -> Result<bool, Mem>
-    ensures { IfOk result (λ b. IsTrue b ↔ enc_abs left.now ≡ enc_abs right.now) }
-{
-    let left = as_normal(encode(alloc, left)?);
-    let right = as_normal(encode(alloc, right)?);
-    Ok(same(&left, &right))
 }
 
 // Signature parts of which the left one is below the right one.

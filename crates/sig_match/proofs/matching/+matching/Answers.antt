@@ -9,6 +9,7 @@ use Rattle.sig_definitions.specs.Explicit.SigPath.{Item}
 use Rattle.sig_definitions.specs.Signatures.Sig.{Sig}
 use Rattle.sig_definitions.specs.Signatures.SigSize.{size, size_abs, size_row}
 use Rattle.sig_laws.proofs.Algebra.SizeLaws.{field-size, size_abs-rename}
+use Rattle.sig_cut_laws.proofs.Cuts.{no_larger}
 use Rattle.sig_match.specs.Inner.Looking.{EachLook, EachLookInto, NextSides}
 use Rattle.sig_match.specs.Inner.Outcomes.{EachSub, MaySub}
 use Rattle.sig_match.specs.Inner.Refusals.{plain_refusal}
@@ -19,7 +20,7 @@ use Rattle.sig_match.proofs.PutSteps.{raised-past}
 use Rattle.sig_match.proofs.SubSteps.{clashed, abs-size, labelled-none, meta-form, fields-form, functor-form, label-follows, labelled-next, item-size}
 use Rattle.sig_match.proofs.NextSteps.{rooted}
 use Rattle.sig_match.proofs.MadeSteps.{hold-none, known-is, key-holds}
-use Rattle.sig_match.proofs.CallSteps.{none-below, result-may_pure, result-pure, result-may_impure, result-impure, match-may_put, match-may_sub, match-in, match-in_no, EachFirst, EachRoots, next-may, next-refused, next-first, all-first, none-first, length-more, root-may_look, root-has, root-lacks, part-size, look-end, look-may_part, look-part, look-no_left, look-no_right, look-arg, look-meta, look-may_put, look-may_into, look-into, into-no_left, into-no_right, into-impure, pure-sides, pure-looks, param-may_match, param-may_put, param-size, if-matched, target-made, target-refused, target-none, target-may_look, target-looks, inner-is, inner-at, arg-refused, functor-effects, functor-may_put, functor-may_result, functor-res, functor-ok, may-sub, each-sub, each-plain, each-form, meta-first, meta-second, meta-refused, meta-refused_back, meta-ok, meta-equal, field-left, field-ok, field-no, field-missing, parts-none, item-may_sub, each-parts, parts-refused, parts-same, abs-may, abs-refused, abs-ok}
+use Rattle.sig_match.proofs.CallSteps.{none-below, result-may_pure, result-pure, result-may_impure, result-impure, match-may_put, match-may_sub, match-in, match-in_no, EachFirst, EachRoots, next-may, next-refused, next-first, all-first, none-first, length-more, root-may_look, root-has, root-lacks, part-size, look-end, look-may_part, look-part, look-no_left, look-no_right, look-arg, look-meta, look-may_put, cut-may_look, cut-each_look, look-may_into, look-into, into-no_left, into-no_right, into-impure, pure-sides, pure-looks, param-may_match, param-may_put, param-size, if-matched, target-made, target-refused, target-none, target-may_look, target-looks, inner-is, inner-at, arg-refused, functor-effects, functor-may_put, functor-may_result, functor-res, functor-ok, may-sub, each-sub, each-plain, each-form, meta-first, meta-second, meta-refused, meta-refused_back, meta-ok, meta-alike, field-left, field-ok, field-no, field-missing, parts-none, item-may_sub, each-parts, parts-refused, parts-same, abs-may, abs-refused, abs-ok}
 use Rattle.sig_match.proofs.matching.+matching.Goals as goal
 
 pub match_in-look_all-requires : goal.match_in-look_all-requires
@@ -83,16 +84,16 @@ pub look-returns-in-empty-clause-found : goal.look-returns-in-empty-clause-found
 look-returns-in-empty-clause-found t c = IfOk-weaker c.look_end.result _ (λ o. EachLook c.args.depth c.args.left.now (map item_of c.args.path.now) c.args.right.now.kinds.now c.args.right.now.body.now c.args.right.now.found.now o) (λ o h. subst (λ q. EachLook c.args.depth c.args.left.now q c.args.right.now.kinds.now c.args.right.now.body.now c.args.right.now.found.now o) (sym (ap (map item_of) (none-below c.args.path.now c.in-empty.len_below))) (look-end c.args.depth c.args.left.now c.args.right.now.body.now c.args.right.now.kinds.now c.args.right.now.found.now o h)) c.look_end.ensures
 
 pub look_step-at_found-requires : goal.look_step-at_found-requires
-look_step-at_found-requires t c = look-may_put c.args.depth c.args.left.now c.args.right.now.body.now c.args.right.now.kinds.now c.args.right.now.found.now c.requires.sides
+look_step-at_found-requires t c = look-may_put c.args.depth c.in_ok-left-in-Res.left c.in_ok-body-in-Res.body c.args.right.now.kinds.now c.args.right.now.found.now (cut-may_look c.args.depth c.args.left.now c.args.right.now.body.now c.in_ok-left-in-Res.left c.in_ok-body-in-Res.body (Item.Res ∷ map item_of c.args.rest.now) c.args.right.now.kinds.now c.args.right.now.found.now c.in_ok-left-in-Res.ensures c.in_ok-body-in-Res.ensures c.requires.sides)
 
 pub look_step-look_result-requires : goal.look_step-look_result-requires
-look_step-look_result-requires t c = (omega (arith, c.in_ok-right-in-Res.ensures.size, c.decreases), (look-may_into c.args.depth c.args.left.now c.args.right.now.body.now c.in_ok-right-in-Res.right c.args.right.now.kinds.now c.args.right.now.found.now c.requires.sides c.in_ok-right-in-Res.ensures.at, c.requires.made))
+look_step-look_result-requires t c = (omega (arith, c.in_ok-right-in-Res.ensures.size, no_larger (Item.Res ∷ map item_of c.args.rest.now) c.args.left.now c.in_ok-left-in-Res.left c.in_ok-left-in-Res.ensures, no_larger (Item.Res ∷ map item_of c.args.rest.now) c.args.right.now.body.now c.in_ok-body-in-Res.body c.in_ok-body-in-Res.ensures, c.decreases), (look-may_into c.args.depth c.in_ok-left-in-Res.left c.in_ok-body-in-Res.body c.in_ok-right-in-Res.right c.args.right.now.kinds.now c.args.right.now.found.now (cut-may_look c.args.depth c.args.left.now c.args.right.now.body.now c.in_ok-left-in-Res.left c.in_ok-body-in-Res.body (Item.Res ∷ map item_of c.args.rest.now) c.args.right.now.kinds.now c.args.right.now.found.now c.in_ok-left-in-Res.ensures c.in_ok-body-in-Res.ensures c.requires.sides) c.in_ok-right-in-Res.ensures.at, c.requires.made))
 
 pub look_step-returns-in-Part-clause-found : goal.look_step-returns-in-Part-clause-found
 look_step-returns-in-Part-clause-found t c = subst (λ a. IfOk c.look_part.result (λ o. EachLook c.args.depth c.args.left.now (a ∷ map item_of c.args.rest.now) c.args.right.now.kinds.now c.args.right.now.body.now c.args.right.now.found.now o)) (sym (ap item_of c.in-Part.is)) c.look_part.ensures.found
 
 pub look_step-returns-in_ok-right-in-Res-clause-found : goal.look_step-returns-in_ok-right-in-Res-clause-found
-look_step-returns-in_ok-right-in-Res-clause-found t c = subst (λ a. IfOk c.look_result.result (λ o. EachLook c.args.depth c.args.left.now (a ∷ map item_of c.args.rest.now) c.args.right.now.kinds.now c.args.right.now.body.now c.args.right.now.found.now o)) (sym (ap item_of c.in-Res.is)) (IfOk-weaker c.look_result.result (λ o. EachLookInto c.args.depth c.args.left.now (map item_of c.args.rest.now) c.in_ok-right-in-Res.right o) (λ o. EachLook c.args.depth c.args.left.now (Item.Res ∷ map item_of c.args.rest.now) c.args.right.now.kinds.now c.args.right.now.body.now c.args.right.now.found.now o) (λ o h. look-into c.args.depth c.args.left.now c.args.right.now.body.now c.in_ok-right-in-Res.right (map item_of c.args.rest.now) c.args.right.now.kinds.now c.args.right.now.found.now o c.in_ok-right-in-Res.ensures.at h) c.look_result.ensures.found)
+look_step-returns-in_ok-right-in-Res-clause-found t c = subst (λ a. IfOk c.look_result.result (λ o. EachLook c.args.depth c.args.left.now (a ∷ map item_of c.args.rest.now) c.args.right.now.kinds.now c.args.right.now.body.now c.args.right.now.found.now o)) (sym (ap item_of c.in-Res.is)) (IfOk-weaker c.look_result.result (λ o. EachLookInto c.args.depth c.in_ok-left-in-Res.left (map item_of c.args.rest.now) c.in_ok-right-in-Res.right o) (λ o. EachLook c.args.depth c.args.left.now (Item.Res ∷ map item_of c.args.rest.now) c.args.right.now.kinds.now c.args.right.now.body.now c.args.right.now.found.now o) (λ o h. cut-each_look c.args.depth c.args.left.now c.args.right.now.body.now c.in_ok-left-in-Res.left c.in_ok-body-in-Res.body (Item.Res ∷ map item_of c.args.rest.now) c.args.right.now.kinds.now c.args.right.now.found.now o c.in_ok-left-in-Res.ensures c.in_ok-body-in-Res.ensures (look-into c.args.depth c.in_ok-left-in-Res.left c.in_ok-body-in-Res.body c.in_ok-right-in-Res.right (map item_of c.args.rest.now) c.args.right.now.kinds.now c.args.right.now.found.now o c.in_ok-right-in-Res.ensures.at h)) c.look_result.ensures.found)
 
 pub look_step-returns-in-Arg-clause-found : goal.look_step-returns-in-Arg-clause-found
 look_step-returns-in-Arg-clause-found t c = subst (λ a. EachLook c.args.depth c.args.left.now (a ∷ map item_of c.args.rest.now) c.args.right.now.kinds.now c.args.right.now.body.now c.args.right.now.found.now None) (sym (ap item_of c.in-Arg.is)) (look-arg c.args.depth c.args.left.now c.args.right.now.body.now (map item_of c.args.rest.now) c.args.right.now.kinds.now c.args.right.now.found.now)
@@ -202,8 +203,8 @@ sub_sig-returns-in-Some-as_functor t c = each-sub c.args.depth c.args.left.now c
 pub sub_sig-returns : goal.sub_sig-returns
 sub_sig-returns t c = each-form c.args.depth c.args.left.now (Sig.Fun c.in-Fun.effect c.in-Fun.kinds c.in-Fun.param c.in-Fun.result) c.args.right.now c.clash-in-None-as_functor.result (sym c.node.ensures ∙ ap sig_of c.in-Fun.is) c.clash-in-None-as_functor.ensures (λ ctx. functor-form ctx c.in-Fun.effect c.in-Fun.kinds c.in-Fun.param c.in-Fun.result c.args.right.now c.in-None-as_functor.ensures)
 
-pub sub_meta-returns-in_err-is_same : goal.sub_meta-returns-in_err-is_same
-sub_meta-returns-in_err-is_same t c = let p = err_from_is_err_and c.from_residual.result c.from_residual.ensures.1 in rw (p.1, p.2) (λ ctx l w v. tt)
+pub sub_meta-returns-in_err-is_alike : goal.sub_meta-returns-in_err-is_alike
+sub_meta-returns-in_err-is_alike t c = let p = err_from_is_err_and c.from_residual.result c.from_residual.ensures.1 in rw (p.1, p.2) (λ ctx l w v. tt)
 
 pub sub_meta-returns-in_err-encode : goal.sub_meta-returns-in_err-encode
 sub_meta-returns-in_err-encode t c = let p = err_from_is_err_and c.from_residual-in_err-encode.result c.from_residual-in_err-encode.ensures.1 in rw (p.1, p.2) (λ ctx l w v. tt)
@@ -211,9 +212,9 @@ sub_meta-returns-in_err-encode t c = let p = err_from_is_err_and c.from_residual
 pub sub_meta-returns-in_err-meta_part : goal.sub_meta-returns-in_err-meta_part
 sub_meta-returns-in_err-meta_part t c = let p = err_from_is_err_and c.from_residual-in_err-meta_part.result c.from_residual-in_err-meta_part.ensures.1 in rw (p.1, p.2) (λ ctx l w v. tt)
 
-pub sub_meta-returns-then-is_same : goal.sub_meta-returns-then-is_same
-sub_meta-returns-then-is_same t c =
-    meta-equal c.args.depth c.args.left.now c.args.right.now c.in_ok-meta_part.field-0 c.args.from.now c.in_ok-encode.field-0 (c.in_ok-is_same.ensures.0 c.if-is_same.true) c.requires.from c.in_ok-encode.ensures c.in_ok-meta_part.ensures.value
+pub sub_meta-returns-then-is_alike : goal.sub_meta-returns-then-is_alike
+sub_meta-returns-then-is_alike t c =
+    meta-alike c.args.depth c.args.left.now c.args.right.now c.in_ok-meta_part.field-0 c.args.from.now c.in_ok-encode.field-0 (c.in_ok-is_alike.ensures c.if-is_alike.true) c.requires.from c.in_ok-encode.ensures c.in_ok-meta_part.ensures.value
 
 pub sub_meta-sub_abs_in-requires : goal.sub_meta-sub_abs_in-requires
 sub_meta-sub_abs_in-requires t c = (omega (arith, c.decreases), meta-first c.args.depth c.args.left.now c.args.right.now c.requires.sides)

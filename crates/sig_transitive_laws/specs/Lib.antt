@@ -1,0 +1,2 @@
+pub mod Transitive
+pub mod OneNorm
